@@ -1,0 +1,5 @@
+pub mod Parts
+pub mod Tests
+pub mod DivisionLaws
+pub mod RangeLaws
+pub mod IndexLaws

@@ -1,0 +1,4 @@
+pub mod Order
+pub mod Division
+pub mod Range
+pub mod Index

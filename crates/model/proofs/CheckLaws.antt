@@ -1,0 +1,200 @@
+-- Laws of the checks: what each test says, which check fails first, and what a model that passes them all is.
+use Prim.Native.Nat.{_*_, _/_, _<_, _≤_, ℕ}
+use lib.Dec.{T, eqb, eqb→eq, leb, ltb, ltb→lt}
+use lib.IntN.{pos, ℤ}
+use lib.ListN.{getD, length}
+use lib.Signed.{_≤ℤ_, leZ}
+use mathlib.Core.Bool.{Bool, _&&_, _||_, cond, false, true}
+use mathlib.Core.List.{List, [], _++_, _∷_}
+use mathlib.Core.Logic.{_↔_, _⊎_, inl, inr, ⊎-elim}
+use mathlib.Core.Path.{_∙_, _≡_, refl, sym}
+use native.Mathlib.Decide.{ℕ-discrete}
+use native.Mathlib.Omega.{arith}
+use Rattle.integer.proofs.IndexLaws.{all-test, getD-all}
+use Rattle.integer.proofs.Parts.{zarith}
+use Rattle.integer.proofs.Tests.{all-three, and-l, and-r, both, cond-ind, eqb-test, le-test, leb-test, ltb-test, neqb→ne, or-cases, or-inl, or-inr, true→T}
+use Rattle.model.specs.Box.{NonEmpty, at, emptyBox, isEmpty, lower, upper}
+use Rattle.model.specs.Checks.{Check, bits, first, inRange, modelChecks, modelFault, must, none, numberChecks, lengthChecks, ordered, sizeChecks, table, tableByteChecks, tableLengthChecks}
+use Rattle.model.specs.Limits.{maxBound, maxCoef, maxRhs, maxRows, maxVariables, minBound, minCoef, minRhs}
+use Rattle.model.specs.Valid.{Between, ValidModel, ValidTable}
+use Rattle.model.proofs.BoxLaws.{empty-is, isEmpty→eq}
+
+-- ---- the first check that fails
+
+-- an answer that is found check by check
+pub fails : (ok : Bool) (number : ℕ) (checks : List Check) → ok ≡ false → number ≡ first (must ok number ∷ checks)
+unfolding first
+fails ok number checks e = rw e
+
+pub past : {r : ℕ} (ok : Bool) (number : ℕ) (checks : List Check) → ok ≡ true → r ≡ first checks → r ≡ first (must ok number ∷ checks)
+unfolding first
+past ok number checks e h = rw e h
+
+pub ends : 0 ≡ first []
+unfolding first
+ends = refl
+
+-- every check has a number above 0, so that 0 says that none fails
+abbrev pub numbered : List Check → Bool
+numbered [] = true
+numbered (must ok number ∷ checks) = ltb 0 number && numbered checks
+
+-- every test holds
+abbrev pub Hold : List Check → Type 0
+Hold [] = Unit
+Hold (must ok number ∷ checks) = T ok × Hold checks
+
+-- 0 is the answer exactly if every test holds
+pub first-none : (checks : List Check) → T (numbered checks) → (first checks ≡ 0) ↔ Hold checks
+unfolding first
+first-none [] t = ((λ e. tt), (λ h. refl))
+first-none (must true number ∷ checks) t =
+    let r = first-none checks (and-r (ltb 0 number) (numbered checks) t) in
+    ((λ e. (tt, r .0 e)), (λ h. r .1 (h .1)))
+first-none (must false number ∷ checks) t =
+    let p = ltb→lt 0 number (and-l (ltb 0 number) (numbered checks) t) in
+    ((λ e. absurd (let z : ⊥ = omega arith in z)), (λ h. absurd (h .0)))
+
+-- of two lists in turn: the first one's number where it has one, else the second's
+pub first-go : (xs ys : List Check) → T (numbered xs) → first xs ≡ 0 → first (xs ++ ys) ≡ first ys
+unfolding first
+first-go [] ys t e = refl
+first-go (must true number ∷ xs) ys t e = first-go xs ys (and-r (ltb 0 number) (numbered xs) t) e
+first-go (must false number ∷ xs) ys t e =
+    let p = ltb→lt 0 number (and-l (ltb 0 number) (numbered xs) t) in
+    absurd (let z : ⊥ = omega arith in z)
+
+pub first-stop : (xs ys : List Check) → (first xs ≡ 0 → ⊥) → first (xs ++ ys) ≡ first xs
+unfolding first
+first-stop [] ys n = absurd (n refl)
+first-stop (must true number ∷ xs) ys n = first-stop xs ys n
+first-stop (must false number ∷ xs) ys n = refl
+
+-- an answer that is found list by list
+pub stops : {r : ℕ} (xs ys : List Check) → r ≡ first xs → (r ≡ 0 → ⊥) → r ≡ first (xs ++ ys)
+stops xs ys e n = e ∙ sym (first-stop xs ys (λ z. n (e ∙ z)))
+
+pub goes : {r s : ℕ} (xs ys : List Check) → T (numbered xs) → r ≡ first xs → r ≡ 0 → s ≡ first ys → s ≡ first (xs ++ ys)
+goes xs ys t e z h = h ∙ sym (first-go xs ys t (sym e ∙ z))
+
+pub first-append : (xs ys : List Check) → T (numbered xs) → first (xs ++ ys) ≡ cond (eqb (first xs) 0) (first ys) (first xs)
+first-append xs ys t =
+    cond-ind (eqb (first xs) 0) (first ys) (first xs) (λ (r : ℕ). first (xs ++ ys) ≡ r)
+    (λ e. first-go xs ys t (eqb→eq (first xs) 0 e)) (λ n. first-stop xs ys (neqb→ne (first xs) 0 n))
+
+pub first-zero-append : (xs ys : List Check) → T (numbered xs) → (first (xs ++ ys) ≡ 0) ↔ ((first xs ≡ 0) × (first ys ≡ 0))
+first-zero-append xs ys t = (there (ℕ-discrete (first xs) 0), (λ h. first-go xs ys t (h .0) ∙ h .1))
+  where
+    there : Dec (first xs ≡ 0) → first (xs ++ ys) ≡ 0 → (first xs ≡ 0) × (first ys ≡ 0)
+    there (yes e) h = (e, sym (first-go xs ys t e) ∙ h)
+    there (no n) h = absurd (n (sym (first-stop xs ys n) ∙ h))
+
+-- ---- what each test says
+
+pub size-test : (n m : ℕ) → T (leb 1 n && leb n maxVariables && leb m maxRows) ↔ ((0 < n) × (n ≤ maxVariables) × (m ≤ maxRows))
+size-test n m = all-three (leb 1 n) (leb n maxVariables) (leb m maxRows) (leb-test 1 n) (leb-test n maxVariables) (leb-test m maxRows)
+
+pub length-test : (n m : ℕ) (B C R : List ℤ)
+    → T (eqb (length B) (2 * n) && eqb (length C) (m * n) && eqb (length R) m) ↔ ((length B ≡ 2 * n) × (length C ≡ m * n) × (length R ≡ m))
+length-test n m B C R =
+    all-three (eqb (length B) (2 * n)) (eqb (length C) (m * n)) (eqb (length R) m)
+    (eqb-test (length B) (2 * n)) (eqb-test (length C) (m * n)) (eqb-test (length R) m)
+
+pub between-test : (low high z : ℤ) → T (leZ low z && leZ z high) ↔ Between low high z
+between-test low high z =
+    let d = both (leZ low z) (leZ z high) (le-test low z) (le-test z high) in
+    ((λ t. let h = d .0 t in record { above = h .0; below = h .1 }), (λ h. d .1 (h .above, h .below)))
+
+pub inRange-test : (low high : ℤ) (xs : List ℤ) → T (inRange low high xs) ↔ ((i : ℕ) → i < length xs → Between low high (at xs i))
+unfolding inRange
+inRange-test low high xs = all-test (length xs) (λ i. leZ low (at xs i) && leZ (at xs i) high) (λ i. between-test low high (at xs i))
+
+-- past the end of xs stands 0, which lies in every range here
+pub inRange-all : (low high : ℤ) (xs : List ℤ) → low ≤ℤ pos 0 → pos 0 ≤ℤ high → T (inRange low high xs) ↔ ((i : ℕ) → Between low high (at xs i))
+inRange-all low high xs l h =
+    let d = inRange-test low high xs in
+    ((λ t. getD-all xs (pos 0) (Between low high) (record { above = l; below = h }) (d .0 t)), (λ b. d .1 (λ i _. b i)))
+
+pub ordered-test : (n : ℕ) (B : List ℤ) → length B ≡ 2 * n → T (ordered B) ↔ NonEmpty n B
+unfolding ordered
+ordered-test n B l =
+    let d = all-test (length B / 2) (λ j. leZ (lower B j) (upper B j)) (λ j. le-test (lower B j) (upper B j)) in
+    ((λ t. record { len = l; order = λ j h. d .0 t j (omega arith) }), (λ p. d .1 (λ j h. p .order j (omega arith))))
+
+pub shape-test : (n : ℕ) (B : List ℤ) → length B ≡ 2 * n → T (isEmpty n B || ordered B) ↔ ((B ≡ emptyBox n) ⊎ NonEmpty n B)
+shape-test n B l = (
+  (λ t. ⊎-elim (λ e. inl (isEmpty→eq n B e)) (λ o. inr (ordered-test n B l .0 o)) (or-cases (isEmpty n B) (ordered B) t)),
+  ⊎-elim (λ e. or-inl (isEmpty n B) (ordered B) (true→T (isEmpty n B) (empty-is n B e))) (λ p. or-inr (isEmpty n B) (ordered B) (ordered-test n B l .1 p)),
+)
+
+pub bits-test : (t : List ℕ) → T (bits t) ↔ ((i : ℕ) → i < length t → getD t i 0 < 2)
+unfolding bits
+bits-test t = all-test (length t) (λ i. ltb (getD t i 0) 2) (λ i. ltb-test (getD t i 0) 2)
+
+pub bits-all : (t : List ℕ) → T (bits t) ↔ ((i : ℕ) → getD t i 0 < 2)
+bits-all t = let d = bits-test t in ((λ b. getD-all t 0 (λ x. x < 2) (omega arith) (d .0 b)), (λ b. d .1 (λ i _. b i)))
+
+-- ---- acceptance
+
+-- the tests that every model takes
+abbrev Tests : ℕ → ℕ → List ℤ → List ℤ → List ℤ → Type 0
+Tests n m B C R =
+    T (leb 1 n && leb n maxVariables && leb m maxRows)
+    × T (eqb (length B) (2 * n) && eqb (length C) (m * n) && eqb (length R) m)
+    × T (inRange minBound maxBound B)
+    × T (isEmpty n B || ordered B)
+    × T (inRange minCoef maxCoef C)
+    × T (inRange minRhs maxRhs R)
+
+model-test : (n m : ℕ) (B C R : List ℤ) → Tests n m B C R ↔ ValidModel n m B C R
+model-test n m B C R = (there, back)
+  where
+    there : Tests n m B C R → ValidModel n m B C R
+    there t =
+        let s = size-test n m .0 (t .0) in
+        let l = length-test n m B C R .0 (t .1) in
+        record {
+          some = s .0;
+          few = s .1;
+          fewRows = s .2;
+          box = record { len = l .0; range = inRange-all minBound maxBound B (omega zarith) (omega zarith) .0 (t .2); shape = shape-test n B (l .0) .0 (t .3) };
+          coefsLen = l .1;
+          coefs = inRange-all minCoef maxCoef C (omega zarith) (omega zarith) .0 (t .4);
+          rhsLen = l .2;
+          rhs = inRange-all minRhs maxRhs R (omega zarith) (omega zarith) .0 (t .5);
+        }
+
+    back : ValidModel n m B C R → Tests n m B C R
+    back v = (
+      size-test n m .1 (v .some, v .few, v .fewRows),
+      length-test n m B C R .1 (v .box .len, v .coefsLen, v .rhsLen),
+      inRange-all minBound maxBound B (omega zarith) (omega zarith) .1 (v .box .range),
+      shape-test n B (v .box .len) .1 (v .box .shape),
+      inRange-all minCoef maxCoef C (omega zarith) (omega zarith) .1 (v .coefs),
+      inRange-all minRhs maxRhs R (omega zarith) (omega zarith) .1 (v .rhs),
+    )
+
+-- a model is accepted exactly if it is valid
+pub fault-none : (n m : ℕ) (B C R : List ℤ) → (modelFault n m B C R none ≡ 0) ↔ ValidModel n m B C R
+unfolding modelFault modelChecks sizeChecks lengthChecks tableLengthChecks numberChecks tableByteChecks
+fault-none n m B C R =
+    let d = first-none (modelChecks n m B C R none) tt in
+    let v = model-test n m B C R in (
+      (λ e. let h = d .0 e in v .0 (h .0, h .1 .0, h .1 .1 .0, h .1 .1 .1 .0, h .1 .1 .1 .1 .0, h .1 .1 .1 .1 .1 .0)),
+      (λ w. let t = v .1 w in d .1 (t .0, (t .1, (t .2, (t .3, (t .4, (t .5, tt))))))),
+    )
+
+-- the same with a table
+pub table-fault-none : (n m : ℕ) (B C R : List ℤ) (t : List ℕ) → (modelFault n m B C R (table t) ≡ 0) ↔ (ValidModel n m B C R × ValidTable n t)
+unfolding modelFault modelChecks sizeChecks lengthChecks tableLengthChecks numberChecks tableByteChecks
+table-fault-none n m B C R t =
+    let d = first-none (modelChecks n m B C R (table t)) tt in
+    let v = model-test n m B C R in
+    let l = eqb-test (length t) (4 * (n * n)) in
+    let b = bits-all t in (
+      (λ e. let h = d .0 e in
+          let k = h .1 .1 .1 in
+          (v .0 (h .0, h .1 .0, k .0, k .1 .0, k .1 .1 .0, k .1 .1 .1 .0), record { len = l .0 (h .1 .1 .0); bits = b .0 (k .1 .1 .1 .1 .0) })),
+      (λ w. let s = v .1 (w .0) in
+          d .1 (s .0, (s .1, (l .1 (w .1 .len), (s .2, (s .3, (s .4, (s .5, (b .1 (w .1 .bits), tt))))))))),
+    )

@@ -1,0 +1,4 @@
+pub mod BoxLaws
+pub mod BoxLoops
+pub mod CheckLaws
+pub mod PointLaws

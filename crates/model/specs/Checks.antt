@@ -1,0 +1,75 @@
+-- The checks of a model in memory and of a table, by 01's numbers and in 01's order. Each looks at everything that the call is
+-- lent before the next one does.
+use Prim.Native.Nat.{_*_, _/_, ℕ}
+use lib.Dec.{eqb, leb, ltb}
+use lib.IntN.{ℤ}
+use lib.ListN.{getD, length}
+use lib.Signed.{leZ}
+use mathlib.Core.Bool.{Bool, _&&_, _||_, cond}
+use mathlib.Core.List.{List, [], _++_, _∷_}
+use Rattle.integer.specs.Index.{all}
+use Rattle.model.specs.Box.{at, isEmpty, lower, upper}
+use Rattle.model.specs.Limits.{maxBound, maxCoef, maxRhs, maxRows, maxVariables, minBound, minCoef, minRhs}
+
+-- a check: what must be so, and the number by which the call is refused where it is not
+pub data Check : Type 0 where
+  must : Bool → ℕ → Check
+
+-- the number of the first check that fails, 0 where there is none (01: "The first that applies to the call is the answer")
+unfoldable pub first : List Check → ℕ
+first [] = 0
+first (must ok number ∷ checks) = cond ok (first checks) number
+
+-- every number of xs lies between low and high
+unfoldable pub inRange : ℤ → ℤ → List ℤ → Bool
+inRange low high xs = all (length xs) (λ i. leZ low (at xs i) && leZ (at xs i) high)
+
+-- no lower bound is above its upper
+unfoldable pub ordered : List ℤ → Bool
+ordered B = all (length B / 2) (λ j. leZ (lower B j) (upper B j))
+
+-- every byte is 0 or 1
+unfoldable pub bits : List ℕ → Bool
+bits t = all (length t) (λ i. ltb (getD t i 0) 2)
+
+-- the table, where the call is lent one: a probe, a call list, the rounds
+pub data LentTable : Type 0 where
+  none : LentTable
+  table : List ℕ → LentTable
+
+-- 3. n is not 1 to 128, or m is over 120.
+unfoldable pub sizeChecks : ℕ → ℕ → List Check
+sizeChecks n m = must (leb 1 n && leb n maxVariables && leb m maxRows) 3 ∷ []
+
+-- 5. A lent buffer has not exactly the length needed: 2n bounds, m × n coefficients, m right sides.
+unfoldable pub lengthChecks : ℕ → ℕ → List ℤ → List ℤ → List ℤ → List Check
+lengthChecks n m B C R = must (eqb (length B) (2 * n) && eqb (length C) (m * n) && eqb (length R) m) 5 ∷ []
+
+-- 5, of the table: "The implication table has 4n² bytes".
+unfoldable pub tableLengthChecks : ℕ → LentTable → List Check
+tableLengthChecks n none = []
+tableLengthChecks n (table t) = must (eqb (length t) (4 * (n * n))) 5 ∷ []
+
+-- 6. A bound is outside its range. 7. A lower bound is above its upper in a box that is not void.
+-- 8. A coefficient is outside its range. 9. A right side is outside its range.
+unfoldable pub numberChecks : ℕ → List ℤ → List ℤ → List ℤ → List Check
+numberChecks n B C R =
+    must (inRange minBound maxBound B) 6
+    ∷ must (isEmpty n B || ordered B) 7
+    ∷ must (inRange minCoef maxCoef C) 8
+    ∷ must (inRange minRhs maxRhs R) 9
+    ∷ []
+
+-- 10. A table byte is neither 0 nor 1.
+unfoldable pub tableByteChecks : LentTable → List Check
+tableByteChecks none = []
+tableByteChecks (table t) = must (bits t) 10 ∷ []
+
+-- all of them
+unfoldable pub modelChecks : ℕ → ℕ → List ℤ → List ℤ → List ℤ → LentTable → List Check
+modelChecks n m B C R t =
+    sizeChecks n m ++ (lengthChecks n m B C R ++ (tableLengthChecks n t ++ (numberChecks n B C R ++ tableByteChecks t)))
+
+-- the number that a model in memory is refused by, 0 where it is accepted
+unfoldable pub modelFault : ℕ → ℕ → List ℤ → List ℤ → List ℤ → LentTable → ℕ
+modelFault n m B C R t = first (modelChecks n m B C R t)

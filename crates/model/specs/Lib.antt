@@ -1,0 +1,5 @@
+pub mod Limits
+pub mod Box
+pub mod Point
+pub mod Checks
+pub mod Valid

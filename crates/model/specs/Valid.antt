@@ -1,0 +1,35 @@
+-- What the checks come to, index by index: a model that passes 3 and 5 to 9, and a table that passes 5 and 10
+-- (`fault-none`, `table-fault-none`).
+use Prim.Native.Nat.{_*_, _<_, _≤_, ℕ}
+use lib.IntN.{ℤ}
+use lib.ListN.{getD, length}
+use lib.Signed.{_≤ℤ_}
+use mathlib.Core.List.{List}
+use mathlib.Core.Logic.{_⊎_}
+use mathlib.Core.Path.{_≡_}
+use Rattle.model.specs.Box.{NonEmpty, at, emptyBox}
+use Rattle.model.specs.Limits.{maxBound, maxCoef, maxRhs, maxRows, maxVariables, minBound, minCoef, minRhs}
+
+pub record Between (low high z : ℤ) : Type 0 where
+  pub above : low ≤ℤ z
+  pub below : z ≤ℤ high
+
+-- a box of n variables, empty or not, with every bound in its range
+pub record ValidBox (n : ℕ) (B : List ℤ) : Type 0 where
+  pub len : length B ≡ 2 * n
+  pub range : (i : ℕ) → Between minBound maxBound (at B i)
+  pub shape : (B ≡ emptyBox n) ⊎ NonEmpty n B
+
+pub record ValidModel (n m : ℕ) (B C R : List ℤ) : Type 0 where
+  pub some : 0 < n
+  pub few : n ≤ maxVariables
+  pub fewRows : m ≤ maxRows
+  pub box : ValidBox n B
+  pub coefsLen : length C ≡ m * n
+  pub coefs : (i : ℕ) → Between minCoef maxCoef (at C i)
+  pub rhsLen : length R ≡ m
+  pub rhs : (i : ℕ) → Between minRhs maxRhs (at R i)
+
+pub record ValidTable (n : ℕ) (t : List ℕ) : Type 0 where
+  pub len : length t ≡ 4 * (n * n)
+  pub bits : (i : ℕ) → getD t i 0 < 2

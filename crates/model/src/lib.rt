@@ -1,0 +1,238 @@
+// A model in memory: n variables and m rows over flat lent buffers, and the checks that it passes before anything reads it.
+// bounds: l and u of each variable in turn, 2n; coefs: row after row, m · n; rhs: m; table: 4n² bytes.
+// The checks write nothing and require nothing: each answers for every n, m and buffer length.
+ghost use mathlib.Core.Path.{_≡_};
+ghost use Prim.Native.Nat.{ℕ, _*_, _<_, _≤_};
+ghost use lib.Dec.{eqb};
+ghost use lib.ListN.{length};
+ghost use Rattle.model.specs.Box.{emptyBox, isEmpty};
+ghost use Rattle.model.specs.Checks.{first, inRange, ordered, bits, none, table as lent, sizeChecks, lengthChecks, tableLengthChecks, numberChecks, tableByteChecks, modelFault};
+ghost use Rattle.model.specs.Valid.{ValidBox};
+
+pub const MAX_VARIABLES: usize = 128;
+
+pub const MAX_ROWS: usize = 120;
+
+pub const MIN_BOUND: i32 = -32_768;
+
+pub const MAX_BOUND: i32 = 32_767;
+
+pub const MAX_COEF: i32 = 1_000_000;
+
+pub const MAX_RHS: i32 = 1_000_000_000;
+
+// Whether len is a · b. By division: no product is made that could overflow.
+pub fn is_product(len: usize, a: usize, b: usize) -> bool
+    ensures { λ r. ⌜ r ≡ eqb len (a * b) ⌝ }
+{
+    if b == 0 {
+        return len == 0;
+    }
+    if len % b != 0 {
+        return false;
+    }
+    len / b == a
+}
+
+// Check 3: 3 where n or m is beyond its limit, else 0.
+pub fn size_fault(n: usize, m: usize) -> u32
+    ensures { λ r. ⌜ r ≡ first (sizeChecks n m) ⌝ }
+{
+    if n < 1 {
+        return 3;
+    }
+    if MAX_VARIABLES < n {
+        return 3;
+    }
+    if MAX_ROWS < m {
+        return 3;
+    }
+    0
+}
+
+// Check 5 for the model's buffers: 5 where one has not the length that n and m give, else 0.
+pub fn length_fault(n: usize, m: usize, bounds: &[i32], coefs: &[i32], rhs: &[i32]) -> u32
+    ensures { λ r. ⌜ r ≡ first (lengthChecks n m (now (bounds .entry)) (now (coefs .entry)) (now (rhs .entry))) ⌝ }
+{
+    if !is_product(bounds.len(), 2, n) {
+        return 5;
+    }
+    if !is_product(coefs.len(), m, n) {
+        return 5;
+    }
+    if rhs.len() != m {
+        return 5;
+    }
+    0
+}
+
+// Check 5 for a table of 4n² bytes.
+pub fn table_length_fault(n: usize, table: &[u8]) -> u32
+    ensures { λ r. ⌜ r ≡ first (tableLengthChecks n (lent (now (table .entry)))) ⌝ }
+{
+    let len = table.len();
+    if len % 4 != 0 {
+        return 5;
+    }
+    if !is_product(len / 4, n, n) {
+        return 5;
+    }
+    0
+}
+
+// Whether every number of xs lies between low and high (checks 6, 8 and 9).
+pub fn in_range(xs: &[i32], low: i32, high: i32) -> bool
+    ensures { λ r. ⌜ r ≡ inRange low high (now (xs .entry)) ⌝ }
+{
+    let mut i = 0;
+    while i < xs.len() {
+        let x = xs[i];
+        if x < low {
+            return false;
+        }
+        if high < x {
+            return false;
+        }
+        i += 1;
+    }
+    true
+}
+
+// Whether no lower bound is above its upper.
+pub fn is_ordered(bounds: &[i32]) -> bool
+    ensures { λ r. ⌜ r ≡ ordered (now (bounds .entry)) ⌝ }
+{
+    let half = bounds.len() / 2;
+    let mut j = 0;
+    while j < half {
+        if bounds[2 * j + 1] < bounds[2 * j] {
+            return false;
+        }
+        j += 1;
+    }
+    true
+}
+
+// Whether the box is the empty one: every l = 1 and every u = 0.
+pub fn is_empty_box(n: usize, bounds: &[i32]) -> bool
+    ensures { λ r. ⌜ r ≡ isEmpty n (now (bounds .entry)) ⌝ }
+{
+    if !is_product(bounds.len(), 2, n) {
+        return false;
+    }
+    let mut j = 0;
+    while j < n {
+        if bounds[2 * j] != 1 {
+            return false;
+        }
+        if bounds[2 * j + 1] != 0 {
+            return false;
+        }
+        j += 1;
+    }
+    true
+}
+
+// Whether a box that passed the checks is empty. Its first variable tells: only the empty box has a lower bound above its upper.
+pub fn is_empty(bounds: &[i32]) -> bool
+    requires { ⌜ 2 ≤ length (now bounds) ⌝ }
+    ensures { λ r. ⌜ ((n : ℕ) → 0 < n → ValidBox n (now (bounds .entry)) → r ≡ isEmpty n (now (bounds .entry))) ⌝ }
+{
+    bounds[1] < bounds[0]
+}
+
+// Makes the box empty.
+pub fn make_empty(bounds: &mut [i32])
+    ensures { λ r. ⌜ ((n : ℕ) → length (now (bounds .entry)) ≡ 2 * n → now (bounds .exit) ≡ emptyBox n) ⌝ }
+{
+    let half = bounds.len() / 2;
+    let mut j = 0;
+    while j < half {
+        bounds[2 * j] = 1;
+        bounds[2 * j + 1] = 0;
+        j += 1;
+    }
+}
+
+// Whether every byte is 0 or 1 (check 10).
+pub fn is_bits(table: &[u8]) -> bool
+    ensures { λ r. ⌜ r ≡ bits (now (table .entry)) ⌝ }
+{
+    let mut i = 0;
+    while i < table.len() {
+        if 1 < table[i] {
+            return false;
+        }
+        i += 1;
+    }
+    true
+}
+
+// Checks 6 to 9, each over all its numbers before the next: the number of the first that fails, else 0.
+pub fn number_fault(n: usize, bounds: &[i32], coefs: &[i32], rhs: &[i32]) -> u32
+    ensures { λ r. ⌜ r ≡ first (numberChecks n (now (bounds .entry)) (now (coefs .entry)) (now (rhs .entry))) ⌝ }
+{
+    if !in_range(bounds, MIN_BOUND, MAX_BOUND) {
+        return 6;
+    }
+    if !is_ordered(bounds) {
+        if !is_empty_box(n, bounds) {
+            return 7;
+        }
+    }
+    if !in_range(coefs, -MAX_COEF, MAX_COEF) {
+        return 8;
+    }
+    if !in_range(rhs, -MAX_RHS, MAX_RHS) {
+        return 9;
+    }
+    0
+}
+
+// The number by which a model in memory is refused, 0 where it is accepted: checks 3 and 5 to 9.
+pub fn model_fault(n: usize, m: usize, bounds: &[i32], coefs: &[i32], rhs: &[i32]) -> u32
+    ensures { λ r. ⌜ r ≡ modelFault n m (now (bounds .entry)) (now (coefs .entry)) (now (rhs .entry)) none ⌝ }
+{
+    let size = size_fault(n, m);
+    if size != 0 {
+        return size;
+    }
+    let length = length_fault(n, m, bounds, coefs, rhs);
+    if length != 0 {
+        return length;
+    }
+    number_fault(n, bounds, coefs, rhs)
+}
+
+// The same with a table: checks 3 and 5 to 10.
+pub fn model_table_fault(
+    n: usize,
+    m: usize,
+    bounds: &[i32],
+    coefs: &[i32],
+    rhs: &[i32],
+    table: &[u8],
+) -> u32
+    ensures { λ r. ⌜ r ≡ modelFault n m (now (bounds .entry)) (now (coefs .entry)) (now (rhs .entry)) (lent (now (table .entry))) ⌝ }
+{
+    let size = size_fault(n, m);
+    if size != 0 {
+        return size;
+    }
+    let length = length_fault(n, m, bounds, coefs, rhs);
+    if length != 0 {
+        return length;
+    }
+    let table_length = table_length_fault(n, table);
+    if table_length != 0 {
+        return table_length;
+    }
+    let number = number_fault(n, bounds, coefs, rhs);
+    if number != 0 {
+        return number;
+    }
+    if !is_bits(table) {
+        return 10;
+    }
+    0
+}

@@ -1,0 +1,100 @@
+-- Laws of the box that a row implies: it lies inside the old one, has the same minimum activity and keeps within the limits.
+use Prim.Native.Nat.{_*_, _<_, ℕ}
+use lib.Dec.{T, T-not}
+use lib.IntN.{ℤ}
+use lib.ListN.{length}
+use lib.Signed.{_≤ℤ_}
+use mathlib.Core.Bool.{not}
+use mathlib.Core.List.{List}
+use mathlib.Core.Logic.{_⊎_, inl, inr}
+use mathlib.Core.Path.{_∙_, _≡_, ap, refl, sym}
+use Rattle.integer.specs.Index.{all}
+use Rattle.integer.proofs.IndexLaws.{all-at, all-i, sum-cong}
+use Rattle.integer.proofs.Parts.{zarith}
+use Rattle.model.specs.Box.{Inside, NonEmpty, at, boxOf, emptyBox, isEmpty, lower, upper}
+use Rattle.model.specs.Limits.{maxBound, minBound}
+use Rattle.model.specs.Valid.{Between, ValidBox}
+use Rattle.model.proofs.BoxLaws.{at-boxOf, box-ext, isEmpty-empty, length-boxOf, lower-boxOf, upper-boxOf, ≤ℤ-trans}
+use Rattle.row.specs.Activity.{minActivity}
+use Rattle.row.specs.Propagation.{impliedBox, newLower, newUpper, staysAt}
+use Rattle.row.proofs.BoundLaws.{eq→stays, stays→eq, lower-le-newLower, minTerm-new, newLower-le-newUpper, newUpper-le-upper}
+
+module _ (n : ℕ) (A : List ℤ) (b L : ℤ) (B : List ℤ) where
+  pub lower-implied : (j : ℕ) → j < n → lower (impliedBox n A b L B) j ≡ newLower (at A j) b L (lower B j) (upper B j)
+  unfolding impliedBox
+  lower-implied j k = lower-boxOf n _ _ j k
+
+  pub upper-implied : (j : ℕ) → j < n → upper (impliedBox n A b L B) j ≡ newUpper (at A j) b L (lower B j) (upper B j)
+  unfolding impliedBox
+  upper-implied j k = upper-boxOf n _ _ j k
+
+  pub length-implied : length (impliedBox n A b L B) ≡ 2 * n
+  unfolding impliedBox
+  length-implied = length-boxOf n _ _
+
+  pub implied-inside : Inside n (impliedBox n A b L B) B
+  implied-inside = record {
+    low = λ j k. rw (lower-implied j k) (lower-le-newLower _ _ _ _ _);
+    high = λ j k. rw (upper-implied j k) (newUpper-le-upper _ _ _ _ _);
+  }
+
+  -- it leaves the minimum activity as it is
+  pub minActivity-implied : minActivity n A (impliedBox n A b L B) ≡ minActivity n A B
+  unfolding minActivity
+  minActivity-implied = sum-cong n _ _ (λ j k. rw (lower-implied j k, upper-implied j k) (minTerm-new (at A j) b L (lower B j) (upper B j)))
+
+  pub implied-nonEmpty : L ≤ℤ b → NonEmpty n B → NonEmpty n (impliedBox n A b L B)
+  implied-nonEmpty f p = record {
+    len = length-implied;
+    order = λ j k. rw (lower-implied j k, upper-implied j k) (newLower-le-newUpper (at A j) b L (lower B j) (upper B j) f (p .order j k));
+  }
+
+  -- whether a bound moved
+  pub stays-box : length B ≡ 2 * n → T (all n (staysAt A b L B)) → impliedBox n A b L B ≡ B
+  stays-box l t = box-ext n _ B length-implied l
+      (λ j k. lower-implied j k ∙ stays→eq (at A j) b L (lower B j) (upper B j) (all-at n (staysAt A b L B) t j k) .0)
+      (λ j k. upper-implied j k ∙ stays→eq (at A j) b L (lower B j) (upper B j) (all-at n (staysAt A b L B) t j k) .1)
+
+  pub box-stays : impliedBox n A b L B ≡ B → T (all n (staysAt A b L B))
+  box-stays e = all-i n (staysAt A b L B) (λ j k. eq→stays (at A j) b L (lower B j) (upper B j)
+      (sym (lower-implied j k) ∙ ap (λ (c : List ℤ). lower c j) e) (sym (upper-implied j k) ∙ ap (λ (c : List ℤ). upper c j) e))
+
+-- ---- the limits
+
+between : {z : ℤ} → minBound ≤ℤ z → z ≤ℤ maxBound → Between minBound maxBound z
+between l h = record { above = l; below = h }
+
+valid-boxOf : (n : ℕ) (f g : ℕ → ℤ) → ((j : ℕ) → j < n → Between minBound maxBound (f j)) → ((j : ℕ) → j < n → Between minBound maxBound (g j))
+    → (boxOf n f g ≡ emptyBox n) ⊎ NonEmpty n (boxOf n f g) → ValidBox n (boxOf n f g)
+valid-boxOf n f g l h s = record {
+  len = length-boxOf n f g;
+  range = at-boxOf (Between minBound maxBound) n f g (between (omega zarith) (omega zarith)) l h;
+  shape = s;
+}
+
+pub valid-empty : (n : ℕ) → ValidBox n (emptyBox n)
+unfolding emptyBox
+valid-empty n = valid-boxOf n _ _ (λ j k. between (omega zarith) (omega zarith)) (λ j k. between (omega zarith) (omega zarith)) (inl refl)
+
+pub valid-implied : (n : ℕ) (A : List ℤ) (b L : ℤ) (B : List ℤ) → L ≤ℤ b → ValidBox n B → NonEmpty n B → ValidBox n (impliedBox n A b L B)
+unfolding impliedBox
+valid-implied n A b L B f v p = valid-boxOf n _ _
+    (λ j k. between (≤ℤ-trans (v .range _ .above) (low j)) (≤ℤ-trans (order j k) (≤ℤ-trans (high j) (v .range _ .below))))
+    (λ j k. between (≤ℤ-trans (v .range _ .above) (≤ℤ-trans (low j) (order j k))) (≤ℤ-trans (high j) (v .range _ .below)))
+    (inr (implied-nonEmpty n A b L B f p))
+  where
+    low : (j : ℕ) → lower B j ≤ℤ newLower (at A j) b L (lower B j) (upper B j)
+    low j = lower-le-newLower _ _ _ _ _
+
+    high : (j : ℕ) → newUpper (at A j) b L (lower B j) (upper B j) ≤ℤ upper B j
+    high j = newUpper-le-upper _ _ _ _ _
+
+    order : (j : ℕ) → j < n → newLower (at A j) b L (lower B j) (upper B j) ≤ℤ newUpper (at A j) b L (lower B j) (upper B j)
+    order j k = newLower-le-newUpper (at A j) b L (lower B j) (upper B j) f (p .order j k)
+
+pub valid-nonEmpty : {n : ℕ} {B : List ℤ} → ValidBox n B → T (not (isEmpty n B)) → NonEmpty n B
+valid-nonEmpty {n} {B} v t = cases (v .shape)
+  where
+    cases : (B ≡ emptyBox n) ⊎ NonEmpty n B → NonEmpty n B
+    cases (inl e) = absurd (T-not (isEmpty n B) t (rw e (isEmpty-empty n)))
+    cases (inr p) = p

@@ -1,0 +1,12 @@
+pub mod PointBox
+pub mod Width
+pub mod ActivityLaws
+pub mod BoundLaws
+pub mod ImpliedBoxLaws
+pub mod PropagationLaws
+pub mod Replacement
+pub mod TighteningLaws
+pub mod RedundancyLaws
+pub mod AnswerLaws
+pub mod WorkedBooks
+pub mod RowLoops

@@ -1,0 +1,441 @@
+-- What the functions of this crate need of the definitions: ranges of numbers, the cases of a new bound, and the loops.
+use Prim.Native.Nat.{_*_, _+_, _<_, _≤_, suc, zero, ℕ}
+use lib.Dec.{not-T}
+use lib.IntN.{_*ℤ_, _+ℤ_, _-ℤ_, natAbs, negsuc, negℤ, pos, *ℤ-comm, +ℤ-idl, ℤ}
+use lib.ListN.{drop, length, replicate, set}
+use lib.Seq.{getD-set-other, set-getD}
+use lib.Signed.{_<ℤ_, _≤ℤ_, leZ, leZ-yes, ltZ}
+use mathlib.Core.Bool.{Bool, _&&_, false, not, true}
+use mathlib.Core.List.{List, [], _++_, _∷_}
+use mathlib.Core.Logic.{_⊎_, inl, inr}
+use mathlib.Core.Path.{_∙_, _≡_, ap, ap₂, refl, subst⁻¹, sym}
+use mir.Facts.{sfits-widen, toZ-ofZ}
+use mir.Syntax.{Width, w32, w64}
+use mir.Val.{SFits, ofZ, toZ}
+use native.Mathlib.Nat.{le-of-suc-le-suc, not-suc-le-zero}
+use native.Mathlib.Numerals.{add-one}
+use native.Mathlib.Omega.{arith}
+use Rattle.integer.specs.Division.{ceilDiv, floorDiv}
+use Rattle.integer.specs.Index.{all, sum}
+use Rattle.integer.specs.Order.{eqZ, maxZ, minZ}
+use Rattle.integer.specs.Range.{Within}
+use Rattle.integer.proofs.DivisionLaws.{ceil-le, floor-le}
+use Rattle.integer.proofs.IndexLaws.{all-more, sum-more, sum-within}
+use Rattle.integer.proofs.Parts.{le-false, le-is, le-isn't, le-true, leZ-no, lt-false, lt-is, lt-isn't, lt-true, zarith, zify}
+use Rattle.integer.proofs.RangeLaws.{within!, within-fits, within-in, within-le, within-lit, within-mul}
+use Rattle.integer.proofs.Tests.{T→false, T→true, cond-ind, eqZ→eq, eq→eqZ}
+use Rattle.model.specs.Box.{at, lower, sameList, upper, withBounds}
+use Rattle.model.specs.Limits.{maxBound, maxCoef, maxRhs, maxVariables, minBound, minCoef, minRhs}
+use Rattle.model.specs.Valid.{Between}
+use Rattle.model.proofs.BoxLaws.{sameList-refl}
+use Rattle.model.proofs.BoxLoops.{writeTo, writeTo-all, writeTo-late, writeTo-more}
+use Rattle.row.specs.Activity.{maxActivity, maxTerm, minActivity, minTerm}
+use Rattle.row.specs.Outcome.{changed, unchanged}
+use Rattle.row.specs.Propagation.{impliedBox, newLower, newUpper, stays, staysAt}
+use Rattle.row.specs.Redundancy.{zeroRow}
+use Rattle.row.specs.Tightening.{NewRow, tightenAt}
+use Rattle.row.specs.ValidRow.{ImpliesBounds, ValidCoefs}
+
+-- ---- a number as the machine has it, and a test of two such numbers
+
+-- the number that a need asks to fit
+abbrev pub asked : {w : Width} {z : ℤ} → SFits w z → ℤ
+asked {w} {z} f = z
+
+pub read : (w : Width) {raw z : ℤ} → SFits w raw → raw ≡ z → toZ w (ofZ w raw) ≡ z
+read w f e = toZ-ofZ {w = w} f ∙ e
+
+-- an i32 as an i64
+pub wide-fits : {z : ℤ} → SFits w32 z → SFits w64 (toZ w32 (ofZ w32 z))
+wide-fits f = subst⁻¹ (SFits w64) (toZ-ofZ {w = w32} f) (sfits-widen tt f)
+
+pub read-wide : {z : ℤ} → SFits w32 z → toZ w64 (ofZ w64 (toZ w32 (ofZ w32 z))) ≡ z
+read-wide f = read w64 (wide-fits f) (toZ-ofZ {w = w32} f)
+
+pub fits-read : {w : Width} {x z : ℤ} → x ≡ z → SFits w z → SFits w x
+fits-read {w} e f = subst⁻¹ (SFits w) e f
+
+pub le-read : {x y a b : ℤ} → x ≡ a → y ≡ b → leZ x y ≡ true → a ≤ℤ b
+le-read {x} {y} {a} {b} e f t = le-true a b (sym (ap₂ leZ e f) ∙ t)
+
+pub gt-read : {x y a b : ℤ} → x ≡ a → y ≡ b → leZ x y ≡ false → b <ℤ a
+gt-read {x} {y} {a} {b} e f t = le-false a b (sym (ap₂ leZ e f) ∙ t)
+
+pub lt-read : {x y a b : ℤ} → x ≡ a → y ≡ b → ltZ x y ≡ true → a <ℤ b
+lt-read {x} {y} {a} {b} e f t = lt-true a b (sym (ap₂ ltZ e f) ∙ t)
+
+pub ge-read : {x y a b : ℤ} → x ≡ a → y ≡ b → ltZ x y ≡ false → b ≤ℤ a
+ge-read {x} {y} {a} {b} e f t = lt-false a b (sym (ap₂ ltZ e f) ∙ t)
+
+pub eq-read : (w : Width) {x y : ℤ} → SFits w x → SFits w y → ofZ w x ≡ ofZ w y → x ≡ y
+eq-read w f g e = sym (toZ-ofZ {w = w} f) ∙ ap (toZ w) e ∙ toZ-ofZ {w = w} g
+
+not-le : {x y : ℤ} → (x ≤ℤ y → ⊥) → y <ℤ x
+not-le {x} {y} h = leZ-no (not-T (leZ x y) (λ t. h (leZ-yes t)))
+
+-- ---- ranges
+
+pub within-between : {m : ℕ} {l u z : ℤ} → Within m l → Within m u → l ≤ℤ z → z ≤ℤ u → Within m z
+within-between {m} {l} {u} {z} h k p q = within! m z (omega (zarith, within-in h, within-in k))
+
+pub bound-within : {z : ℤ} → Between minBound maxBound z → Within 32_768 z
+bound-within h = within-between {l = minBound} {u = maxBound} (within-lit tt) (within-lit tt) (h .above) (h .below)
+
+pub coef-within : {z : ℤ} → Between minCoef maxCoef z → Within 1_000_000 z
+coef-within h = within-between {l = minCoef} {u = maxCoef} (within-lit tt) (within-lit tt) (h .above) (h .below)
+
+pub rhs-within : {z : ℤ} → Between minRhs maxRhs z → Within 1_000_000_000 z
+rhs-within h = within-between {l = minRhs} {u = maxRhs} (within-lit tt) (within-lit tt) (h .above) (h .below)
+
+-- ---- activities
+
+pub term-within : {a l u : ℤ} → Within 1_000_000 a → Within 32_768 l → Within 32_768 u → Within 32_768_000_000 (minTerm a l u)
+unfolding minTerm
+term-within {a} {l} {u} h k j =
+    cond-ind (ltZ (pos 0) a) (a *ℤ l) (a *ℤ u) (Within 32_768_000_000) (λ _. within-mul h k) (λ _. within-mul h j)
+
+-- the greatest of a × x is the least with the bounds exchanged
+pub maxTerm-is : (a l u : ℤ) → maxTerm a l u ≡ minTerm a u l
+unfolding maxTerm minTerm
+maxTerm-is a l u = refl
+
+pub sum-small : (f : ℕ → ℤ) → ((j : ℕ) → Within 32_768_000_000 (f j)) → (i : ℕ) → i ≤ maxVariables → Within 5_000_000_000_000 (sum i f)
+sum-small f h i k = within-le (omega arith) (sum-within 32_768_000_000 f h i)
+
+-- what a row's loop adds up: each term is small, so is each sum of them
+pub record Terms (n : ℕ) (f : ℕ → ℤ) : Type 0 where
+  pub few : n ≤ maxVariables
+  pub small : (j : ℕ) → Within 32_768_000_000 (f j)
+
+-- one turn: the sum so far and the next term
+module _ {n : ℕ} {f : ℕ → ℤ} (g : Terms n f) (i : ℕ) {s t : ℤ} (so-far : s ≡ sum i f) (next : t ≡ f i) where
+  pub turn : s +ℤ t ≡ sum (i + 1) f
+  turn = ap₂ _+ℤ_ so-far next ∙ sym (sum-more f i)
+
+  pub turn-fits : i < n → SFits w64 (s +ℤ t)
+  turn-fits h = rw turn (within-fits w64 tt (sum-small f (g .small) (i + 1) (omega (arith, g .few))))
+
+module _ {n : ℕ} {A B : List ℤ} (v : ValidCoefs n A B) where
+  pub coefs-small : (j : ℕ) → Within 1_000_000 (at A j)
+  coefs-small j = coef-within (v .range j)
+
+  pub bounds-small : (i : ℕ) → Within 32_768 (at B i)
+  bounds-small i = bound-within (v .box .range i)
+
+  pub min-terms : Terms n (λ j. minTerm (at A j) (lower B j) (upper B j))
+  min-terms = record { few = v .few; small = λ j. term-within (coefs-small j) (bounds-small (2 * j)) (bounds-small (2 * j + 1)) }
+
+  pub max-terms : Terms n (λ j. maxTerm (at A j) (lower B j) (upper B j))
+  max-terms = record { few = v .few; small = λ j. rw maxTerm-is (term-within (coefs-small j) (bounds-small (2 * j + 1)) (bounds-small (2 * j))) }
+
+  pub min-activity-small : Within 5_000_000_000_000 (minActivity n A B)
+  unfolding minActivity
+  min-activity-small = sum-small _ (min-terms .small) n (v .few)
+
+  pub max-activity-small : Within 5_000_000_000_000 (maxActivity n A B)
+  unfolding maxActivity
+  max-activity-small = sum-small _ (max-terms .small) n (v .few)
+
+-- ---- new bounds
+
+-- of a coefficient a above 0: u stays exactly if a × u is at most the room that the row leaves
+module _ (a b L l u : ℤ) (p : pos 0 <ℤ a) where
+  abbrev pub room : ℤ
+  room = b -ℤ L +ℤ a *ℤ l
+
+  upper-is : newUpper a b L l u ≡ minZ u (floorDiv room a)
+  unfolding newUpper
+  upper-is = rw (lt-is p)
+
+  pub upper-stays : (a *ℤ u) ≤ℤ room → newUpper a b L l u ≡ u
+  upper-stays h =
+      let k : u ≤ℤ floorDiv room a = floor-le room u p .1 (rw (*ℤ-comm u a) h) in
+      upper-is ∙ simp zify (omega zarith)
+
+  upper-below : room <ℤ (a *ℤ u) → floorDiv room a <ℤ u
+  upper-below h = not-le (λ t. let k = floor-le room u p .0 t in let z : ⊥ = omega (zarith, *ℤ-comm u a) in z)
+
+  pub upper-moves : room <ℤ (a *ℤ u) → newUpper a b L l u ≡ floorDiv room a
+  upper-moves h = let k = upper-below h in upper-is ∙ simp zify (omega zarith)
+
+  pub upper-small : ImpliesBounds a b L l u → room <ℤ (a *ℤ u) → Within 32_768 (floorDiv room a)
+  upper-small i h =
+      let m = i .met in
+      let k : l ≤ℤ floorDiv room a = floor-le room l p .1 (simp zify (omega zarith)) in
+      within-between (i .low) (i .high) k (omega (zarith, upper-below h))
+
+-- −a in code
+pub zero-minus : (a : ℤ) → pos 0 -ℤ a ≡ negℤ a
+zero-minus a = +ℤ-idl (negℤ a)
+
+pub g-pos : {a : ℤ} → a <ℤ pos 0 → pos 0 <ℤ negℤ a
+g-pos {a} p = simp zify (omega zarith)
+
+-- of a = −g below 0: l stays exactly if g × l is at least what the row needs
+module _ (a b L l u : ℤ) (p : a <ℤ pos 0) where
+  abbrev pub need : ℤ
+  need = L +ℤ negℤ a *ℤ u -ℤ b
+
+  lower-is : newLower a b L l u ≡ maxZ l (ceilDiv need (negℤ a))
+  unfolding newLower
+  lower-is = rw (lt-is p)
+
+  pub lower-stays : need ≤ℤ (negℤ a *ℤ l) → newLower a b L l u ≡ l
+  lower-stays h =
+      let k : ceilDiv need (negℤ a) ≤ℤ l = ceil-le need l (g-pos p) .1 (rw (*ℤ-comm l (negℤ a)) h) in
+      lower-is ∙ simp zify (omega zarith)
+
+  lower-above : (negℤ a *ℤ l) <ℤ need → l <ℤ ceilDiv need (negℤ a)
+  lower-above h = not-le (λ t. let k = ceil-le need l (g-pos p) .0 t in let z : ⊥ = omega (zarith, *ℤ-comm l (negℤ a)) in z)
+
+  pub lower-moves : (negℤ a *ℤ l) <ℤ need → newLower a b L l u ≡ ceilDiv need (negℤ a)
+  lower-moves h = let k = lower-above h in lower-is ∙ simp zify (omega zarith)
+
+  pub lower-small : ImpliesBounds a b L l u → (negℤ a *ℤ l) <ℤ need → Within 32_768 (ceilDiv need (negℤ a))
+  lower-small i h =
+      let m = i .met in
+      let k : ceilDiv need (negℤ a) ≤ℤ u = ceil-le need u (g-pos p) .1 (simp zify (omega zarith)) in
+      within-between (i .low) (i .high) (omega (zarith, lower-above h)) k
+
+-- ---- the bounds of one variable
+
+pub upper-kept : {a : ℤ} (b L l u : ℤ) → a ≤ℤ pos 0 → newUpper a b L l u ≡ u
+unfolding newUpper
+upper-kept b L l u h = rw (lt-isn't h)
+
+pub lower-kept : {a : ℤ} (b L l u : ℤ) → pos 0 ≤ℤ a → newLower a b L l u ≡ l
+unfolding newLower
+lower-kept b L l u h = rw (lt-isn't h)
+
+pub eqZ-no : (x y : ℤ) → (x ≡ y → ⊥) → eqZ x y ≡ false
+eqZ-no x y h = T→false (eqZ x y) (not-T (eqZ x y) (λ t. h (eqZ→eq x y t)))
+
+pub eqZ-yes : (x y : ℤ) → x ≡ y → eqZ x y ≡ true
+eqZ-yes x y e = T→true (eqZ x y) (eq→eqZ x y e)
+
+pub and-false : (p : Bool) → (p && false) ≡ false
+and-false true = refl
+and-false false = refl
+
+-- the box with the implied bounds of variable j, and whether one moves
+abbrev pub tightenedAt : ℤ → ℤ → ℤ → List ℤ → ℕ → List ℤ
+tightenedAt a b L B j = withBounds B j (newLower a b L (lower B j) (upper B j)) (newUpper a b L (lower B j) (upper B j))
+
+abbrev pub movesAt : ℤ → ℤ → ℤ → List ℤ → ℕ → Bool
+movesAt a b L B j = not (stays a b L (lower B j) (upper B j))
+
+-- what writing the bounds of variable j comes to, and the answer, by which of them differ from the old ones
+module _ (a b L : ℤ) (B : List ℤ) (j : ℕ) where
+  abbrev low : ℤ
+  low = newLower a b L (lower B j) (upper B j)
+
+  abbrev high : ℤ
+  high = newUpper a b L (lower B j) (upper B j)
+
+  abbrev Left : List ℤ → Bool → Type 0
+  Left B′ moved = (B′ ≡ tightenedAt a b L B j) × (moved ≡ movesAt a b L B j)
+
+  pub none-moved : low ≡ lower B j → high ≡ upper B j → Left B false
+  unfolding withBounds stays
+  none-moved e f = (
+    sym (rw (e, f) (ap (λ (P : List ℤ). set P (2 * j + 1) (upper B j)) (set-getD B (2 * j) (pos 0)) ∙ set-getD B (2 * j + 1) (pos 0))),
+    rw (eqZ-yes low (lower B j) e, eqZ-yes high (upper B j) f),
+  )
+
+  pub upper-moved : low ≡ lower B j → (high ≡ upper B j → ⊥) → Left (set B (2 * j + 1) high) true
+  unfolding withBounds stays
+  upper-moved e f = (
+    sym (rw e (ap (λ (P : List ℤ). set P (2 * j + 1) high) (set-getD B (2 * j) (pos 0)))),
+    rw (eqZ-no high (upper B j) f, and-false (eqZ low (lower B j))),
+  )
+
+  pub lower-moved : (low ≡ lower B j → ⊥) → high ≡ upper B j → Left (set B (2 * j) low) true
+  unfolding withBounds stays
+  lower-moved e f =
+      let same : upper B j ≡ upper (set B (2 * j) low) j = sym (getD-set-other B (2 * j) (2 * j + 1) low (pos 0) (omega arith)) in (
+        sym (ap (set (set B (2 * j) low) (2 * j + 1)) (f ∙ same) ∙ set-getD (set B (2 * j) low) (2 * j + 1) (pos 0)),
+        rw (eqZ-no low (lower B j) e),
+      )
+
+-- a flag that a turn sets where its test fails
+join : (p q : Bool) {before now t : Bool} → before ≡ not p → t ≡ not q → ((t ≡ true) × (now ≡ true)) ⊎ ((t ≡ false) × (now ≡ before)) → now ≡ not (p && q)
+join true q e f (inl w) = w .1 ∙ sym (w .0) ∙ f
+join true q e f (inr w) = w .1 ∙ e ∙ sym (w .0) ∙ f
+join false q e f (inl w) = w .1
+join false q e f (inr w) = w .1 ∙ e
+
+-- what such a flag says
+pub flag-set : (p : Bool) {flag : Bool} → flag ≡ not p → flag ≡ true → p ≡ false
+flag-set true e t = sym t ∙ e
+flag-set false e t = refl
+
+pub flag-clear : (p : Bool) {flag : Bool} → flag ≡ not p → flag ≡ false → p ≡ true
+flag-clear true e t = refl
+flag-clear false e t = sym t ∙ e
+
+-- ---- the bounds of all variables, one after the other
+
+module _ (A : List ℤ) (b L : ℤ) (B : List ℤ) where
+  abbrev lows : ℕ → ℤ
+  lows j = newLower (at A j) b L (lower B j) (upper B j)
+
+  abbrev highs : ℕ → ℤ
+  highs j = newUpper (at A j) b L (lower B j) (upper B j)
+
+  -- the box where the loop comes to variable i
+  abbrev pub tightenTo : ℕ → List ℤ
+  tightenTo i = writeTo i lows highs B
+
+  -- variable i has its old bounds there
+  pub lower-there : (i : ℕ) → lower (tightenTo i) i ≡ lower B i
+  lower-there i = writeTo-late lows highs B i (2 * i) (omega arith)
+
+  pub upper-there : (i : ℕ) → upper (tightenTo i) i ≡ upper B i
+  upper-there i = writeTo-late lows highs B i (2 * i + 1) (omega arith)
+
+  -- a turn: from the box P that it finds, with the coefficient a, it leaves Q
+  pub tighten-more : (i : ℕ) {a : ℤ} {P Q : List ℤ} → a ≡ at A i → P ≡ tightenTo i → Q ≡ tightenedAt a b L P i → Q ≡ tightenTo (i + 1)
+  tighten-more i e f g =
+      g ∙ ap₂ (λ (x : ℤ) (R : List ℤ). tightenedAt x b L R i) e f
+      ∙ ap₂ (λ (l u : ℤ). withBounds (tightenTo i) i (newLower (at A i) b L l u) (newUpper (at A i) b L l u)) (lower-there i) (upper-there i)
+      ∙ sym (writeTo-more lows highs B i)
+
+  pub tighten-all : (n : ℕ) → length B ≡ 2 * n → tightenTo n ≡ impliedBox n A b L B
+  unfolding impliedBox
+  tighten-all n l = writeTo-all lows highs B n l
+
+  -- whether a bound moved so far
+  abbrev pub movedTo : ℕ → Bool
+  movedTo i = not (all i (staysAt A b L B))
+
+  pub moved-more : (i : ℕ) {a : ℤ} {P : List ℤ} {before now t : Bool} → a ≡ at A i → P ≡ tightenTo i → before ≡ movedTo i → t ≡ movesAt a b L P i
+      → ((t ≡ true) × (now ≡ true)) ⊎ ((t ≡ false) × (now ≡ before)) → now ≡ movedTo (i + 1)
+  moved-more i e f m g w =
+      let q = g ∙ ap₂ (λ (x : ℤ) (R : List ℤ). movesAt x b L R i) e f in
+      join (all i (staysAt A b L B)) (staysAt A b L B i) m
+      (q ∙ ap₂ (λ (l u : ℤ). not (stays (at A i) b L l u)) (lower-there i) (upper-there i)) w
+      ∙ ap not (sym (all-more (staysAt A b L B) i))
+
+-- ---- a row set to 0, one coefficient after the other
+
+abbrev pub clearTo : ℕ → List ℤ → List ℤ
+clearTo i xs = replicate i (pos 0) ++ drop i xs
+
+clear-suc : (i : ℕ) (xs : List ℤ) → i < length xs → set (clearTo i xs) i (pos 0) ≡ clearTo (suc i) xs
+clear-suc i [] h = absurd (not-suc-le-zero h)
+clear-suc zero (x ∷ xs) h = refl
+clear-suc (suc i) (x ∷ xs) h = ap (λ (t : List ℤ). pos 0 ∷ t) (clear-suc i xs (le-of-suc-le-suc h))
+
+pub clear-more : (i : ℕ) (xs : List ℤ) → i < length xs → set (clearTo i xs) i (pos 0) ≡ clearTo (i + 1) xs
+clear-more i xs h = clear-suc i xs h ∙ ap (λ (k : ℕ). clearTo k xs) (sym (add-one i))
+
+pub length-clear : (i : ℕ) (xs : List ℤ) → i ≤ length xs → length (clearTo i xs) ≡ length xs
+length-clear zero xs h = refl
+length-clear (suc i) [] h = absurd (not-suc-le-zero h)
+length-clear (suc i) (x ∷ xs) h = ap suc (length-clear i xs (le-of-suc-le-suc h))
+
+-- the coefficient that the loop comes to is the old one
+pub clear-there : (i : ℕ) (xs : List ℤ) → i < length xs → at (clearTo i xs) i ≡ at xs i
+clear-there i [] h = absurd (not-suc-le-zero h)
+clear-there zero (x ∷ xs) h = refl
+clear-there (suc i) (x ∷ xs) h = clear-there i xs (le-of-suc-le-suc h)
+
+pub clear-all : (xs : List ℤ) → clearTo (length xs) xs ≡ zeroRow (length xs)
+unfolding zeroRow
+clear-all [] = refl
+clear-all (x ∷ xs) = ap (λ (t : List ℤ). pos 0 ∷ t) (clear-all xs)
+
+and-true : (p : Bool) → (p && true) ≡ p
+and-true true = refl
+and-true false = refl
+
+and-swap : (p q r : Bool) → (p && (q && r)) ≡ ((p && q) && r)
+and-swap true q r = refl
+and-swap false q r = refl
+
+-- whether it differs so far
+same-suc : (i : ℕ) (xs : List ℤ) → i < length xs → sameList xs (clearTo (suc i) xs) ≡ (sameList xs (clearTo i xs) && eqZ (at xs i) (pos 0))
+unfolding sameList
+same-suc i [] h = absurd (not-suc-le-zero h)
+same-suc zero (x ∷ xs) h = rw (eqZ-yes x x refl, T→true (sameList xs xs) (sameList-refl xs)) (and-true (eqZ x (pos 0)))
+same-suc (suc i) (x ∷ xs) h = ap (λ (t : Bool). eqZ x (pos 0) && t) (same-suc i xs (le-of-suc-le-suc h)) ∙ and-swap (eqZ x (pos 0)) _ _
+
+same-more : (i : ℕ) (xs : List ℤ) → i < length xs → sameList xs (clearTo (i + 1) xs) ≡ (sameList xs (clearTo i xs) && eqZ (at xs i) (pos 0))
+same-more i xs h = ap (λ (k : ℕ). sameList xs (clearTo k xs)) (add-one i) ∙ same-suc i xs h
+
+pub same-none : (xs : List ℤ) → false ≡ not (sameList xs (clearTo 0 xs))
+same-none xs = ap not (sym (T→true (sameList xs xs) (sameList-refl xs)))
+
+-- one turn: it writes 0 and sets the flag where the number is not 0
+pub clear-turn : (i : ℕ) (xs : List ℤ) {P Q : List ℤ} {before now : Bool} → i < length xs → P ≡ clearTo i xs → before ≡ not (sameList xs (clearTo i xs))
+    → ((at P i ≡ pos 0 → ⊥) × (Q ≡ set P i (pos 0)) × (now ≡ true)) ⊎ ((at P i ≡ pos 0) × (Q ≡ P) × (now ≡ before))
+    → (Q ≡ clearTo (i + 1) xs) × (now ≡ not (sameList xs (clearTo (i + 1) xs)))
+clear-turn i xs {P} h e f (inl w) =
+    let there : at P i ≡ at xs i = ap (λ (R : List ℤ). at R i) e ∙ clear-there i xs h in
+    let differs : not (eqZ (at xs i) (pos 0)) ≡ true = ap not (eqZ-no (at xs i) (pos 0) (λ g. w .0 (there ∙ g))) in (
+      w .1 ∙ ap (λ (R : List ℤ). set R i (pos 0)) e ∙ clear-more i xs h,
+      join (sameList xs (clearTo i xs)) (eqZ (at xs i) (pos 0)) f refl (inl (differs, w .2)) ∙ ap not (sym (same-more i xs h)),
+    )
+clear-turn i xs {P} h e f (inr w) =
+    let there : at P i ≡ at xs i = ap (λ (R : List ℤ). at R i) e ∙ clear-there i xs h in
+    let same : not (eqZ (at xs i) (pos 0)) ≡ false = ap not (eqZ-yes (at xs i) (pos 0) (sym there ∙ w .0)) in (
+      w .1 ∙ sym (set-getD P i (pos 0)) ∙ ap₂ (λ (R : List ℤ) (z : ℤ). set R i z) e (w .0) ∙ clear-more i xs h,
+      join (sameList xs (clearTo i xs)) (eqZ (at xs i) (pos 0)) f refl (inr (same, w .2)) ∙ ap not (sym (same-more i xs h)),
+    )
+
+-- ---- the cases of one coefficient
+
+less-abs-pos : {a : ℤ} (L : ℤ) → pos 0 <ℤ a → L -ℤ pos (natAbs a) ≡ L -ℤ a
+less-abs-pos {a = pos n} L h = refl
+less-abs-pos {a = negsuc n} L h = absurd (h .lt)
+
+less-abs-neg : {a : ℤ} (L : ℤ) → a ≤ℤ pos 0 → L -ℤ pos (natAbs a) ≡ L +ℤ a
+less-abs-neg {a = pos n} L h = simp zify (omega zarith)
+less-abs-neg {a = negsuc n} L h = refl
+
+module _ (A : List ℤ) (k : ℕ) (a L b : ℤ) where
+  abbrev same : NewRow
+  same = record { outcome = unchanged; coefs = A; rhs = b }
+
+  -- the row cannot be broken
+  pub stays-redundant : L ≤ℤ b → tightenAt a L A b k ≡ same
+  unfolding tightenAt
+  stays-redundant h = rw (lt-isn't h)
+
+  -- it can be broken without x_k and with it
+  stays-loose : b ≤ℤ (L -ℤ pos (natAbs a)) → tightenAt a L A b k ≡ same
+  unfolding tightenAt
+  stays-loose h = rw (lt-isn't h, and-false (ltZ b L))
+
+  pub stays-loose-pos : pos 0 <ℤ a → b ≤ℤ (L -ℤ a) → tightenAt a L A b k ≡ same
+  stays-loose-pos p h = stays-loose (rw (less-abs-pos L p) h)
+
+  pub stays-loose-neg : a ≤ℤ pos 0 → b ≤ℤ (L +ℤ a) → tightenAt a L A b k ≡ same
+  stays-loose-neg p h = stays-loose (rw (less-abs-neg L p) h)
+
+  -- the new right side is out of range, or not
+  pub stays-limit : pos 0 <ℤ a → b <ℤ L → (L -ℤ a) <ℤ b → (L -ℤ a) <ℤ minRhs → tightenAt a L A b k ≡ same
+  unfolding tightenAt
+  stays-limit p h g l = rw (less-abs-pos L p, lt-is h, lt-is g, lt-is p, le-isn't l)
+
+  pub tightens-pos : pos 0 <ℤ a → b <ℤ L → (L -ℤ a) <ℤ b → minRhs ≤ℤ (L -ℤ a)
+      → tightenAt a L A b k ≡ record { outcome = changed; coefs = set A k (L -ℤ b); rhs = L -ℤ a }
+  unfolding tightenAt
+  tightens-pos p h g l = rw (less-abs-pos L p, lt-is h, lt-is g, lt-is p, le-is l)
+
+  pub tightens-neg : a ≤ℤ pos 0 → b <ℤ L → (L +ℤ a) <ℤ b
+      → tightenAt a L A b k ≡ record { outcome = changed; coefs = set A k (b -ℤ L); rhs = b }
+  unfolding tightenAt
+  tightens-neg p h g = rw (less-abs-neg L p, lt-is h, lt-is g, lt-isn't p)
+
+-- the numbers that it writes are in range
+pub new-coef-pos : (a L b : ℤ) → Within 1_000_000 a → b <ℤ L → (L -ℤ a) <ℤ b → Within 1_000_000 (L -ℤ b)
+new-coef-pos a L b w h g =
+    within-between {l = pos 0} {u = a} (within-lit tt) w (simp zify (omega zarith)) (simp zify (omega (zarith, simp zify at g)))
+
+pub new-coef-neg : (a L b : ℤ) → Within 1_000_000 a → b <ℤ L → (L +ℤ a) <ℤ b → Within 1_000_000 (b -ℤ L)
+new-coef-neg a L b w h g =
+    within-between {l = a} {u = pos 0} w (within-lit tt) (simp zify (omega (zarith, simp zify at g))) (simp zify (omega zarith))
+
+pub new-rhs : {z b : ℤ} → Within 1_000_000_000 b → minRhs ≤ℤ z → z <ℤ b → Within 1_000_000_000 z
+new-rhs {z} {b} w h g = within-between {l = minRhs} {u = b} (within-lit tt) w h (omega zarith)

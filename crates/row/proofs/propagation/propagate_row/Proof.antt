@@ -1,0 +1,139 @@
+-- `row::propagation::propagate_row` is propagateRow: its tests are the definition's, in the same order, and the callees do the rest.
+-- Assumes nothing.
+use Prim.Native.Nat.{ℕ}
+use borrow.Author.Needs.{needs}
+use lib.IntN.{ℤ}
+use lib.ListN.{length}
+use lib.Signed.{_≤ℤ_}
+use mathlib.Core.Bool.{Bool, false, not}
+use mathlib.Core.List.{List}
+use mathlib.Core.Path.{_∙_, _≡_, refl, sym}
+use mir.Facts.{toZ-ofZ}
+use mir.Syntax.{w32, w64}
+use mir.Val.{ofZ, toZ}
+use Rattle.integer.specs.Index.{all}
+use Rattle.integer.proofs.Parts.{lt-is, lt-isn't}
+use Rattle.model.specs.Box.{isEmpty}
+use Rattle.row.specs.Activity.{minActivity}
+use Rattle.row.specs.Answers.{propagationOutcome}
+use Rattle.row.specs.Propagation.{impliedBox, propagateRow, staysAt}
+use Rattle.row.proofs.RowLoops.{bounds-small, coefs-small, flag-clear, flag-set, ge-read, lt-read, min-activity-small, read-wide, rhs-within, wide-fits}
+use Rattle.row.proofs.propagation.propagate_row.Statement.{statement}
+use Rattle.row.proofs.propagation.propagate_row.Tie as tie
+
+is-empty-requires : tie.Need-is-empty-requires
+is-empty-requires c κs = search needs
+
+same-length : tie.Need-same-length
+same-length c = search needs
+
+returns : tie.Need-returns
+unfolding propagateRow propagationOutcome
+returns c =
+    let s = c .before .before .before in
+    let e = sym (c .before .is-empty .ensures _ (s .pre .coefs .some) (s .pre .coefs .box)) ∙ c .if1 .taken in
+    rw e (refl, refl)
+
+cast-rhs : tie.Need-cast-rhs
+cast-rhs c = wide-fits (c .before .before .before .fits .b)
+
+minimum-activity-requires : tie.Need-minimum-activity-requires
+minimum-activity-requires c κs = search needs
+
+-- the row in a box that is not empty, with its least activity
+module _ (c : tie.After-minimum-activity) where
+  abbrev s : tie.Start
+  s = c .before .before .before .before .before
+
+  abbrev A : List ℤ
+  A = s .args .coefs .now
+
+  abbrev B : List ℤ
+  B = s .args .bounds .now
+
+  abbrev n : ℕ
+  n = length A
+
+  some : isEmpty n B ≡ false
+  some = sym (c .before .before .before .is-empty .ensures _ (s .pre .coefs .some) (s .pre .coefs .box)) ∙ c .before .before .if1 .left
+
+  rhs-is : toZ w64 (ofZ w64 (toZ w32 (ofZ w32 (s .args .b)))) ≡ s .args .b
+  rhs-is = read-wide (s .fits .b)
+
+  least-is : toZ w64 (ofZ w64 (c .minimum-activity .result)) ≡ minActivity n A B
+  least-is = toZ-ofZ {w = w64} (record { sfits = c .minimum-activity .ok }) ∙ c .minimum-activity .ensures
+
+make-empty-requires : tie.Need-make-empty-requires
+make-empty-requires c κs = search needs
+
+same-length-2 : tie.Need-same-length-2
+same-length-2 c = search needs
+
+returns-2 : tie.Need-returns-2
+unfolding propagateRow propagationOutcome
+returns-2 c =
+    let m = c .before .before .before .before in
+    let h = lt-read (rhs-is m) (least-is m) (c .before .before .before .if2 .taken) in
+    rw (some m, lt-is h) (refl, c .before .make-empty .ensures _ (s m .pre .coefs .box .len))
+
+met : (c : tie.Else2) → minActivity (n (c .before)) (A (c .before)) (B (c .before)) ≤ℤ s (c .before) .args .b
+met c = ge-read (rhs-is (c .before)) (least-is (c .before)) (c .if2 .left)
+
+tighten-bounds-requires : tie.Need-tighten-bounds-requires
+tighten-bounds-requires c κs = rw (rhs-is (c .before .before), least-is (c .before .before)) (record {
+  len = refl;
+  boxLen = s (c .before .before) .pre .coefs .box .len;
+  few = s (c .before .before) .pre .coefs .few;
+  coefs = coefs-small (s (c .before .before) .pre .coefs);
+  rhs = rhs-within (s (c .before .before) .pre .rhs);
+  activity = min-activity-small (s (c .before .before) .pre .coefs);
+  met = met (c .before);
+  bounds = bounds-small (s (c .before .before) .pre .coefs);
+})
+
+same-length-3 : tie.Need-same-length-3
+same-length-3 c = search needs
+
+module _ (c : tie.After-tighten-bounds) where
+  abbrev mm : tie.After-minimum-activity
+  mm = c .before .before .before
+
+  abbrev stayed : Bool
+  stayed = all (n mm) (staysAt (A mm) (s mm .args .b) (minActivity (n mm) (A mm) (B mm)) (B mm))
+
+  tightened : (c .tighten-bounds .last .1 .1 .1 .0 ≡ impliedBox (n mm) (A mm) (s mm .args .b) (minActivity (n mm) (A mm) (B mm)) (B mm))
+      × (c .tighten-bounds .result ≡ not stayed)
+  tightened = rw (rhs-is mm, least-is mm) at (c .tighten-bounds .ensures)
+
+returns-3 : tie.Need-returns-3
+unfolding propagateRow propagationOutcome
+returns-3 c =
+    let m = mm (c .before .before) in
+    rw (some m, lt-isn't (met (c .before .before .before .before)), flag-set (stayed (c .before .before)) (tightened (c .before .before) .1) (c .if3 .taken)) (refl, tightened (c .before .before) .0)
+
+same-length-4 : tie.Need-same-length-4
+same-length-4 c = search needs
+
+returns-4 : tie.Need-returns-4
+unfolding propagateRow propagationOutcome
+returns-4 c =
+    let m = mm (c .before .before) in
+    rw (some m, lt-isn't (met (c .before .before .before .before)), flag-clear (stayed (c .before .before)) (tightened (c .before .before) .1) (c .if3 .left)) (refl, tightened (c .before .before) .0)
+
+pub propagate-row-spec : {M : Type 1} → statement M
+propagate-row-spec =
+    tie.close
+    (tie.spec
+    is-empty-requires
+    same-length
+    returns
+    cast-rhs
+    minimum-activity-requires
+    make-empty-requires
+    same-length-2
+    returns-2
+    tighten-bounds-requires
+    same-length-3
+    returns-3
+    same-length-4
+    returns-4)

@@ -1,0 +1,44 @@
+-- One row of a valid model, with the box: what the functions of this crate ask for.
+use Prim.Native.Nat.{_*_, _<_, _≤_, ℕ}
+use lib.IntN.{ℤ}
+use lib.ListN.{length}
+use lib.Signed.{_≤ℤ_}
+use mathlib.Core.List.{List}
+use mathlib.Core.Path.{_≡_}
+use Rattle.integer.specs.Range.{Within}
+use Rattle.model.specs.Box.{at}
+use Rattle.model.specs.Limits.{maxCoef, maxRhs, maxVariables, minCoef, minRhs}
+use Rattle.model.specs.Valid.{Between, ValidBox}
+
+-- a row of n coefficients over a box of n variables
+pub record ValidCoefs (n : ℕ) (A B : List ℤ) : Type 0 where
+  pub some : 0 < n
+  pub few : n ≤ maxVariables
+  pub len : length A ≡ n
+  pub range : (j : ℕ) → Between minCoef maxCoef (at A j)
+  pub box : ValidBox n B
+
+-- with its right side
+pub record ValidRow (n : ℕ) (A : List ℤ) (b : ℤ) (B : List ℤ) : Type 0 where
+  pub coefs : ValidCoefs n A B
+  pub rhs : Between minRhs maxRhs b
+
+-- the numbers from which the bounds of one variable follow: least, at most b, is the row's minimum activity
+pub record ImpliesBounds (a b least l u : ℤ) : Type 0 where
+  pub coef : Within 1_000_000 a
+  pub rhs : Within 1_000_000_000 b
+  pub activity : Within 5_000_000_000_000 least
+  pub met : least ≤ℤ b
+  pub low : Within 32_768 l
+  pub high : Within 32_768 u
+
+-- the same of all variables of a row
+pub record Propagates (n : ℕ) (A : List ℤ) (b least : ℤ) (B : List ℤ) : Type 0 where
+  pub len : length A ≡ n
+  pub boxLen : length B ≡ 2 * n
+  pub few : n ≤ maxVariables
+  pub coefs : (j : ℕ) → Within 1_000_000 (at A j)
+  pub rhs : Within 1_000_000_000 b
+  pub activity : Within 5_000_000_000_000 least
+  pub met : least ≤ℤ b
+  pub bounds : (i : ℕ) → Within 32_768 (at B i)

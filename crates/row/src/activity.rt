@@ -1,0 +1,49 @@
+// Row sums: the least and the greatest value of a row's left side over the box. At most 128 terms of 10^6 · 32,768 each, so
+// the sums stay far within an i64.
+ghost use mathlib.Core.Path.{_≡_};
+ghost use lib.ListN.{length};
+ghost use Rattle.integer.specs.Range.{Within};
+ghost use Rattle.row.specs.Activity.{minTerm, minActivity, maxActivity};
+ghost use Rattle.row.specs.ValidRow.{ValidCoefs};
+
+// a · low for a above 0, else a · high.
+fn term(a: i32, low: i32, high: i32) -> i64
+    requires { ⌜ Within 1000000 a ⌝ }
+    requires { ⌜ Within 32768 low ⌝ }
+    requires { ⌜ Within 32768 high ⌝ }
+    ensures { λ r. ⌜ r ≡ minTerm a low high ⌝ }
+{
+    if a > 0 {
+        (a as i64) * (low as i64)
+    } else {
+        (a as i64) * (high as i64)
+    }
+}
+
+// Lmin.
+pub fn minimum_activity(coefs: &[i32], bounds: &[i32]) -> i64
+    requires { ⌜ ValidCoefs (length (now coefs)) (now coefs) (now bounds) ⌝ }
+    ensures { λ r. ⌜ r ≡ minActivity (length (now (coefs .entry))) (now (coefs .entry)) (now (bounds .entry)) ⌝ }
+{
+    let mut sum: i64 = 0;
+    let mut j: usize = 0;
+    while j < coefs.len() {
+        sum += term(coefs[j], bounds[2 * j], bounds[2 * j + 1]);
+        j += 1;
+    }
+    sum
+}
+
+// Lmax: each term with its bounds exchanged.
+pub fn maximum_activity(coefs: &[i32], bounds: &[i32]) -> i64
+    requires { ⌜ ValidCoefs (length (now coefs)) (now coefs) (now bounds) ⌝ }
+    ensures { λ r. ⌜ r ≡ maxActivity (length (now (coefs .entry))) (now (coefs .entry)) (now (bounds .entry)) ⌝ }
+{
+    let mut sum: i64 = 0;
+    let mut j: usize = 0;
+    while j < coefs.len() {
+        sum += term(coefs[j], bounds[2 * j + 1], bounds[2 * j]);
+        j += 1;
+    }
+    sum
+}

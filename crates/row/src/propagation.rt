@@ -1,0 +1,119 @@
+// Propagate a row (01's visit): one sweep for the minimum activity, one for the bounds.
+use crate::activity::minimum_activity;
+use integer::ceil_div;
+use integer::floor_div;
+ghost use mathlib.Core.Bool.{not};
+ghost use mathlib.Core.Path.{_≡_};
+ghost use Prim.Native.Nat.{_<_, _≤_, _+_, _*_};
+ghost use lib.IntN.{pos};
+ghost use lib.Signed.{_<ℤ_};
+ghost use lib.ListN.{length};
+ghost use Rattle.integer.specs.Index.{all};
+ghost use Rattle.model.specs.Box.{lower, upper, withBounds};
+ghost use Rattle.row.specs.Answers.{propagationOutcome};
+ghost use Rattle.row.specs.Propagation.{newLower, newUpper, impliedBox, stays, staysAt, propagateRow};
+ghost use Rattle.row.specs.ValidRow.{ValidRow, ImpliesBounds, Propagates};
+
+// 01's None, Narrowed, Same.
+pub enum RowPropagation {
+    Infeasible,
+    Tightened,
+    Unchanged,
+}
+
+// The upper bound that a row with a coefficient a above 0 leaves: floor((b − least + a·l) / a) where that is below u.
+// It is so exactly if a·u is above b − least + a·l, and only then is anything divided.
+fn new_upper(a: i32, b: i64, least: i64, l: i32, u: i32) -> i32
+    requires { ⌜ ImpliesBounds a b least l u ⌝ }
+    requires { ⌜ pos 0 <ℤ a ⌝ }
+    ensures { λ r. ⌜ r ≡ newUpper a b least l u ⌝ }
+{
+    let g = a as i64;
+    let room = b - least + g * (l as i64);
+    if g * (u as i64) <= room {
+        return u;
+    }
+    floor_div(room, g) as i32
+}
+
+// The lower bound that a row with a coefficient −g below 0 leaves: ceiling((least + g·u − b) / g) where that is above l.
+fn new_lower(a: i32, b: i64, least: i64, l: i32, u: i32) -> i32
+    requires { ⌜ ImpliesBounds a b least l u ⌝ }
+    requires { ⌜ a <ℤ pos 0 ⌝ }
+    ensures { λ r. ⌜ r ≡ newLower a b least l u ⌝ }
+{
+    let g = -(a as i64);
+    let need = least + g * (u as i64) - b;
+    if need <= g * (l as i64) {
+        return l;
+    }
+    ceil_div(need, g) as i32
+}
+
+// Gives variable j the bounds that its coefficient a implies, and says whether one moved.
+fn tighten_bounds_at(a: i32, b: i64, least: i64, bounds: &mut [i32], j: usize) -> bool
+    requires { ⌜ ImpliesBounds a b least (lower (now bounds) j) (upper (now bounds) j) ⌝ }
+    requires { ⌜ 2 * j + 1 < length (now bounds) ⌝ }
+    ensures left { λ r. ⌜ now (bounds .exit) ≡ withBounds (now (bounds .entry)) j (newLower a b least (lower (now (bounds .entry)) j) (upper (now (bounds .entry)) j)) (newUpper a b least (lower (now (bounds .entry)) j) (upper (now (bounds .entry)) j)) ⌝ }
+    ensures moved { λ r. ⌜ r ≡ not (stays a b least (lower (now (bounds .entry)) j) (upper (now (bounds .entry)) j)) ⌝ }
+{
+    if a > 0 {
+        let l = bounds[2 * j];
+        let u = bounds[2 * j + 1];
+        let v = new_upper(a, b, least, l, u);
+        if v == u {
+            return false;
+        }
+        bounds[2 * j + 1] = v;
+        return true;
+    }
+    if a < 0 {
+        let l = bounds[2 * j];
+        let u = bounds[2 * j + 1];
+        let v = new_lower(a, b, least, l, u);
+        if v == l {
+            return false;
+        }
+        bounds[2 * j] = v;
+        return true;
+    }
+    false
+}
+
+// Gives each variable the bounds that the row implies, and says whether one moved.
+fn tighten_bounds(coefs: &[i32], b: i64, least: i64, bounds: &mut [i32]) -> bool
+    requires { ⌜ Propagates (length (now coefs)) (now coefs) b least (now bounds) ⌝ }
+    ensures left { λ r. ⌜ now (bounds .exit) ≡ impliedBox (length (now (coefs .entry))) (now (coefs .entry)) b least (now (bounds .entry)) ⌝ }
+    ensures moved { λ r. ⌜ r ≡ not (all (length (now (coefs .entry))) (staysAt (now (coefs .entry)) b least (now (bounds .entry)))) ⌝ }
+{
+    let mut moved = false;
+    let mut j: usize = 0;
+    while j < coefs.len() {
+        if tighten_bounds_at(coefs[j], b, least, bounds, j) {
+            moved = true;
+        }
+        j += 1;
+    }
+    moved
+}
+
+// Propagates the row. Infeasible leaves the empty box in whole: the bounds are only touched once the row is known to be met.
+pub fn propagate_row(coefs: &[i32], b: i32, bounds: &mut [i32]) -> RowPropagation
+    requires { ⌜ ValidRow (length (now coefs)) (now coefs) b (now bounds) ⌝ }
+    ensures answer { λ r. ⌜ propagationOutcome r ≡ propagateRow (length (now (coefs .entry))) (now (coefs .entry)) b (now (bounds .entry)) .outcome ⌝ }
+    ensures left { λ r. ⌜ now (bounds .exit) ≡ propagateRow (length (now (coefs .entry))) (now (coefs .entry)) b (now (bounds .entry)) .box ⌝ }
+{
+    if model::is_empty(bounds) {
+        return RowPropagation::Infeasible;
+    }
+    let rhs = b as i64;
+    let least = minimum_activity(coefs, bounds);
+    if rhs < least {
+        model::make_empty(bounds);
+        return RowPropagation::Infeasible;
+    }
+    if tighten_bounds(coefs, rhs, least, bounds) {
+        return RowPropagation::Tightened;
+    }
+    RowPropagation::Unchanged
+}

@@ -1,0 +1,57 @@
+// Tighten a coefficient (01's sharpen).
+use crate::activity::maximum_activity;
+ghost use mathlib.Core.Path.{_≡_};
+ghost use Prim.Native.Nat.{_<_};
+ghost use lib.ListN.{length};
+ghost use Rattle.row.specs.Answers.{tighteningOutcome};
+ghost use Rattle.row.specs.Tightening.{tightenCoefficient};
+ghost use Rattle.row.specs.ValidRow.{ValidRow};
+
+// 01's None, Sharpened, Same.
+pub enum CoefficientTightening {
+    Infeasible,
+    Tightened,
+    Unchanged,
+}
+
+// Tightens the coefficient of the free binary variable k. Where the row can be broken (most > b) but not without x_k, or not
+// with it (most − |a| < b), the coefficient shrinks to what is needed to keep the same integer points: for a > 0 the right side
+// falls by as much as the coefficient, for a < 0 it stays.
+pub fn tighten_coefficient(
+    coefs: &mut [i32],
+    b: &mut i32,
+    bounds: &[i32],
+    k: usize,
+) -> CoefficientTightening
+    requires { ⌜ ValidRow (length (now coefs)) (now coefs) (now b) (now bounds) ⌝ }
+    requires { ⌜ k < length (now coefs) ⌝ }
+    ensures answer { λ r. ⌜ tighteningOutcome r ≡ tightenCoefficient (length (now (coefs .entry))) (now (coefs .entry)) (now (b .entry)) (now (bounds .entry)) k .outcome ⌝ }
+    ensures row { λ r. ⌜ now (coefs .exit) ≡ tightenCoefficient (length (now (coefs .entry))) (now (coefs .entry)) (now (b .entry)) (now (bounds .entry)) k .coefs ⌝ }
+    ensures side { λ r. ⌜ now (b .exit) ≡ tightenCoefficient (length (now (coefs .entry))) (now (coefs .entry)) (now (b .entry)) (now (bounds .entry)) k .rhs ⌝ }
+{
+    if model::is_empty(bounds) {
+        return CoefficientTightening::Infeasible;
+    }
+    let most = maximum_activity(coefs, bounds);
+    let rhs = *b as i64;
+    if most <= rhs {
+        return CoefficientTightening::Unchanged;
+    }
+    let a = coefs[k] as i64;
+    if a > 0 {
+        if rhs <= most - a {
+            return CoefficientTightening::Unchanged;
+        }
+        if most - a < -1_000_000_000 {
+            return CoefficientTightening::Unchanged;
+        }
+        coefs[k] = (most - rhs) as i32;
+        *b = (most - a) as i32;
+        return CoefficientTightening::Tightened;
+    }
+    if rhs <= most + a {
+        return CoefficientTightening::Unchanged;
+    }
+    coefs[k] = (rhs - most) as i32;
+    CoefficientTightening::Tightened
+}
