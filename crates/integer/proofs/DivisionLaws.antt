@@ -1,15 +1,15 @@
 -- Division of an integer by a positive one, rounded down and rounded up.
-use mathlib.Core.Path.{_≡_, refl, sym, _∙_, ap, subst}
+use mathlib.Core.Path.{_≡_, refl, _∙_, ap}
 use mathlib.Core.Logic.{_↔_}
-use Prim.Native.Nat.{ℕ, zero, suc, _+_, _*_, _-_, _/_, _≤_, _<_}
+use Prim.Native.Nat.{ℕ, zero, suc, _+_, _*_, _/_, _≤_, _<_}
 use native.Mathlib.Nat.{div-add-mod', mod-lt, div-le-self}
 use native.Mathlib.Omega.{arith}
-use lib.IntN.{ℤ, pos, negsuc, negℤ, natAbs, _+ℤ_, _-ℤ_, _*ℤ_}
+use lib.IntN.{ℤ, pos, negsuc, negℤ, _+ℤ_, _-ℤ_, _*ℤ_}
 use lib.Signed.{_≤ℤ_, _<ℤ_, quotZ}
 use mir.Syntax.{Width}
 use mir.Val.{SFits, ofZ}
 use Rattle.integer.specs.Division.{ceilDiv, floorDiv}
-use Rattle.integer.proofs.Parts.{pp, np, fits, fit-in, eq-out, zarith, zify, add-parts, sub-parts, neg-parts, le-in, lt-in, le-out, lt-out, mul-mono, mul-cancel-le, mul-cancel-lt}
+use Rattle.integer.proofs.Parts.{pp, np, fits, fit-in, zarith, zify, add-parts, sub-parts, neg-parts, mul-mono, mul-cancel-lt}
 
 div-law : (p n : ℕ) → 0 < n → (p / n * n ≤ p) × (p < p / n * n + n)
 div-law p n h = omega (arith, div-add-mod' p n, mod-lt p h)

@@ -2,11 +2,11 @@
 use Prim.Native.Nat.{_*_, _+_, _<_, _≤_, suc, zero, ℕ}
 use lib.Dec.{T, not-T}
 use lib.IntN.{_*ℤ_, _+ℤ_, pos, zero-*ℤ, ℤ}
-use lib.ListN.{List·getD-eq-default, getD, length}
+use lib.ListN.{List·getD-eq-default, getD, length, set}
 use lib.Signed.{_≤ℤ_, ≤ℤ-refl}
-use mathlib.Core.Bool.{Bool, _&&_, false, true}
-use mathlib.Core.List.{List}
-use mathlib.Core.Logic.{_↔_, _≢_}
+use mathlib.Core.Bool.{Bool, _&&_, false, not, true}
+use mathlib.Core.List.{List, [], _∷_}
+use mathlib.Core.Logic.{_↔_, _≢_, ⊎-elim}
 use mathlib.Core.Path.{_∙_, _≡_, refl, subst}
 use native.Mathlib.Decide.{decLt, ℕ-discrete}
 use native.Mathlib.Numerals.{add-one}
@@ -15,7 +15,7 @@ use Rattle.integer.specs.Index.{all, sum}
 use Rattle.integer.specs.Range.{Within}
 use Rattle.integer.proofs.Parts.{zarith, zify}
 use Rattle.integer.proofs.RangeLaws.{within-add, within-le}
-use Rattle.integer.proofs.Tests.{T→false, and-i, and-l, and-r}
+use Rattle.integer.proofs.Tests.{T→false, and-i, and-l, and-r, not-and}
 
 -- ---- sums
 
@@ -127,3 +127,19 @@ pub sum-mul : (n : ℕ) (f : ℕ → ℤ) (c : ℤ) → sum n f *ℤ c ≡ sum n
 unfolding sum
 sum-mul zero f c = zero-*ℤ c
 sum-mul (suc n) f c = rw (← sum-mul n f c) (simp zify (omega zarith))
+
+-- ---- one element changed
+
+-- what holds of a and at every index holds at every index once a is put in
+pub getD-set-all {ℓ} : {A : Type ℓ} (xs : List A) (k : ℕ) (a d : A) (P : A → Type 0) → P a → ((i : ℕ) → P (getD xs i d)) → (i : ℕ) → P (getD (set xs k a) i d)
+getD-set-all [] k a d P p h i = h i
+getD-set-all (x ∷ xs) zero a d P p h zero = p
+getD-set-all (x ∷ xs) zero a d P p h (suc i) = h (suc i)
+getD-set-all (x ∷ xs) (suc k) a d P p h zero = h 0
+getD-set-all (x ∷ xs) (suc k) a d P p h (suc i) = getD-set-all xs k a d P p (λ j. h (suc j)) i
+
+-- where not every test below n is passed, there is one that fails
+pub not-all : (n : ℕ) (f : ℕ → Bool) → T (not (all n f)) → (j : ℕ) × (j < n) × T (not (f j))
+unfolding all
+not-all zero f t = absurd t
+not-all (suc n) f t = ⊎-elim (λ u. let r = not-all n f u in (r .0, omega arith, r .2)) (λ u. (n, omega arith, u)) (not-and (all n f) (f n) t)

@@ -3,3 +3,4 @@ pub mod Tests
 pub mod DivisionLaws
 pub mod RangeLaws
 pub mod IndexLaws
+pub mod Reading

@@ -5,10 +5,10 @@ use Prim.Native.Nat.{_<_, _≤_, ℕ}
 use lib.IntN.{ℤ}
 use lib.Signed.{_<ℤ_, _≤ℤ_, leZ, leZ-yes, ltZ, ltZ-no, ltZ-yes}
 use mathlib.Core.Bool.{Bool, _&&_, _||_, cond, false, not, true}
-use mathlib.Core.Logic.{_↔_, _⊎_, inl, inr}
+use mathlib.Core.Logic.{_↔_, _⊎_, inl, inr, ⊎-elim}
 use mathlib.Core.Path.{_∙_, _≡_, refl, subst, sym}
 use Rattle.integer.specs.Order.{eqZ}
-use Rattle.integer.proofs.Parts.{leZ-no, zarith}
+use Rattle.integer.proofs.Parts.{zarith}
 
 -- what holds of both branches, each under its test, holds of the choice
 pub cond-ind {ℓ ℓ′} : {A : Type ℓ} (c : Bool) (x y : A) (P : A → Type ℓ′) → (T c → P x) → (T (not c) → P y) → P (cond c x y)
@@ -127,3 +127,29 @@ lt-or-ge a b = cases (decide (ltZ a b))
     cases : T (ltZ a b) ⊎ T (not (ltZ a b)) → (a <ℤ b) ⊎ (b ≤ℤ a)
     cases (inl t) = inl (ltZ-yes t)
     cases (inr t) = inr (ltZ-no t)
+
+-- a test that is made only where a holds
+pub when-test : (a b : Bool) {P : Type 0} → (T b ↔ P) → T (not a || b) ↔ (T a → P)
+when-test true b d = ((λ t _. d .0 t), (λ f. d .1 (f tt)))
+when-test false b d = ((λ _ z. absurd z), (λ _. tt))
+
+pub or-test : (a b : Bool) {P Q : Type 0} → (T a ↔ P) → (T b ↔ Q) → T (a || b) ↔ (P ⊎ Q)
+or-test a b d e =
+    ((λ t. ⊎-elim (λ x. inl (d .0 x)) (λ y. inr (e .0 y)) (or-cases a b t)), ⊎-elim (λ p. or-inl a b (d .1 p)) (λ q. or-inr a b (e .1 q)))
+
+-- ---- a disjunction or a conjunction that fails
+pub not-or-l : (a b : Bool) → T (not (a || b)) → T (not a)
+not-or-l true b t = t
+not-or-l false b t = tt
+
+pub not-or-r : (a b : Bool) → T (not (a || b)) → T (not b)
+not-or-r true b t = absurd t
+not-or-r false b t = t
+
+pub not-and : (a b : Bool) → T (not (a && b)) → T (not a) ⊎ T (not b)
+not-and true b t = inr t
+not-and false b t = inl tt
+
+pub not-not : (a : Bool) → T (not (not a)) → T a
+not-not true t = tt
+not-not false t = t

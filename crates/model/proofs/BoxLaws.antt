@@ -193,3 +193,8 @@ at-boxOf P (suc n) f g z l h zero = l 0 (omega arith)
 at-boxOf P (suc n) f g z l h (suc zero) = h 0 (omega arith)
 at-boxOf P (suc n) f g z l h (suc (suc i)) =
     at-boxOf P n (λ j. f (suc j)) (λ j. g (suc j)) z (λ j k. l (suc j) (omega arith)) (λ j k. h (suc j) (omega arith)) i
+
+-- ---- the test of the empty box
+
+pub isEmpty-test : (n : ℕ) (B : List ℤ) → T (isEmpty n B) ↔ (B ≡ emptyBox n)
+isEmpty-test n B = (isEmpty→eq n B, (λ e. true→T (isEmpty n B) (empty-is n B e)))

@@ -7,14 +7,14 @@ use lib.Signed.{_≤ℤ_}
 use mathlib.Core.Bool.{not}
 use mathlib.Core.List.{List}
 use mathlib.Core.Logic.{_⊎_, inl, inr}
-use mathlib.Core.Path.{_∙_, _≡_, ap, refl, sym}
+use mathlib.Core.Path.{_∙_, _≡_, ap, refl, subst, sym}
 use Rattle.integer.specs.Index.{all}
 use Rattle.integer.proofs.IndexLaws.{all-at, all-i, sum-cong}
 use Rattle.integer.proofs.Parts.{zarith}
 use Rattle.model.specs.Box.{Inside, NonEmpty, at, boxOf, emptyBox, isEmpty, lower, upper}
 use Rattle.model.specs.Limits.{maxBound, minBound}
 use Rattle.model.specs.Valid.{Between, ValidBox}
-use Rattle.model.proofs.BoxLaws.{at-boxOf, box-ext, isEmpty-empty, length-boxOf, lower-boxOf, upper-boxOf, ≤ℤ-trans}
+use Rattle.model.proofs.BoxLaws.{at-boxOf, box-ext, isEmpty-empty, length-boxOf, lower-boxOf, nonEmpty-boxOf, upper-boxOf, ≤ℤ-trans}
 use Rattle.row.specs.Activity.{minActivity}
 use Rattle.row.specs.Propagation.{impliedBox, newLower, newUpper, staysAt}
 use Rattle.row.proofs.BoundLaws.{eq→stays, stays→eq, lower-le-newLower, minTerm-new, newLower-le-newUpper, newUpper-le-upper}
@@ -98,3 +98,13 @@ valid-nonEmpty {n} {B} v t = cases (v .shape)
     cases : (B ≡ emptyBox n) ⊎ NonEmpty n B → NonEmpty n B
     cases (inl e) = absurd (T-not (isEmpty n B) t (rw e (isEmpty-empty n)))
     cases (inr p) = p
+
+-- a box that is not empty and lies inside a valid one is valid
+pub valid-inside : {n : ℕ} {P B : List ℤ} → ValidBox n B → NonEmpty n P → Inside n P B → ValidBox n P
+valid-inside {n} {P} {B} v p i = subst (ValidBox n) eta (valid-boxOf n (λ j. lower P j) (λ j. upper P j)
+    (λ j k. between (≤ℤ-trans (v .range _ .above) (i .low j k)) (≤ℤ-trans (p .order j k) (≤ℤ-trans (i .high j k) (v .range _ .below))))
+    (λ j k. between (≤ℤ-trans (v .range _ .above) (≤ℤ-trans (i .low j k) (p .order j k))) (≤ℤ-trans (i .high j k) (v .range _ .below)))
+    (inr (nonEmpty-boxOf n _ _ (p .order))))
+  where
+    eta : boxOf n (λ j. lower P j) (λ j. upper P j) ≡ P
+    eta = box-ext n _ P (length-boxOf n _ _) (p .len) (λ j k. lower-boxOf n _ _ j k) (λ j k. upper-boxOf n _ _ j k)

@@ -1,7 +1,7 @@
 -- Laws of removing a redundant row: the zero row takes its place over the box, within the limits.
 use Prim.Native.Nat.{suc, zero, ℕ}
 use lib.Dec.{T, T-not}
-use lib.IntN.{_*ℤ_, pos, zero-*ℤ, ℤ}
+use lib.IntN.{pos, zero-*ℤ, ℤ}
 use lib.ListN.{length, length-replicate}
 use lib.Signed.{_<ℤ_, _≤ℤ_, leZ, leZ-yes, ≤ℤ-refl}
 use mathlib.Core.Bool.{_&&_, cond, not}

@@ -8,10 +8,9 @@ use lib.Signed.{_<ℤ_, _≤ℤ_, leZ, leZ-yes, ltZ}
 use mathlib.Core.Bool.{Bool, _&&_, false, not, true}
 use mathlib.Core.List.{List, [], _++_, _∷_}
 use mathlib.Core.Logic.{_⊎_, inl, inr}
-use mathlib.Core.Path.{_∙_, _≡_, ap, ap₂, refl, subst⁻¹, sym}
-use mir.Facts.{sfits-widen, toZ-ofZ}
-use mir.Syntax.{Width, w32, w64}
-use mir.Val.{SFits, ofZ, toZ}
+use mathlib.Core.Path.{_∙_, _≡_, ap, ap₂, refl, sym}
+use mir.Syntax.{w64}
+use mir.Val.{SFits}
 use native.Mathlib.Nat.{le-of-suc-le-suc, not-suc-le-zero}
 use native.Mathlib.Numerals.{add-one}
 use native.Mathlib.Omega.{arith}
@@ -21,7 +20,7 @@ use Rattle.integer.specs.Order.{eqZ, maxZ, minZ}
 use Rattle.integer.specs.Range.{Within}
 use Rattle.integer.proofs.DivisionLaws.{ceil-le, floor-le}
 use Rattle.integer.proofs.IndexLaws.{all-more, sum-more, sum-within}
-use Rattle.integer.proofs.Parts.{le-false, le-is, le-isn't, le-true, leZ-no, lt-false, lt-is, lt-isn't, lt-true, zarith, zify}
+use Rattle.integer.proofs.Parts.{le-is, le-isn't, leZ-no, lt-is, lt-isn't, zarith, zify}
 use Rattle.integer.proofs.RangeLaws.{within!, within-fits, within-in, within-le, within-lit, within-mul}
 use Rattle.integer.proofs.Tests.{T→false, T→true, cond-ind, eqZ→eq, eq→eqZ}
 use Rattle.model.specs.Box.{at, lower, sameList, upper, withBounds}
@@ -36,52 +35,18 @@ use Rattle.row.specs.Redundancy.{zeroRow}
 use Rattle.row.specs.Tightening.{NewRow, tightenAt}
 use Rattle.row.specs.ValidRow.{ImpliesBounds, ValidCoefs}
 
--- ---- a number as the machine has it, and a test of two such numbers
-
--- the number that a need asks to fit
-abbrev pub asked : {w : Width} {z : ℤ} → SFits w z → ℤ
-asked {w} {z} f = z
-
-pub read : (w : Width) {raw z : ℤ} → SFits w raw → raw ≡ z → toZ w (ofZ w raw) ≡ z
-read w f e = toZ-ofZ {w = w} f ∙ e
-
--- an i32 as an i64
-pub wide-fits : {z : ℤ} → SFits w32 z → SFits w64 (toZ w32 (ofZ w32 z))
-wide-fits f = subst⁻¹ (SFits w64) (toZ-ofZ {w = w32} f) (sfits-widen tt f)
-
-pub read-wide : {z : ℤ} → SFits w32 z → toZ w64 (ofZ w64 (toZ w32 (ofZ w32 z))) ≡ z
-read-wide f = read w64 (wide-fits f) (toZ-ofZ {w = w32} f)
-
-pub fits-read : {w : Width} {x z : ℤ} → x ≡ z → SFits w z → SFits w x
-fits-read {w} e f = subst⁻¹ (SFits w) e f
-
-pub le-read : {x y a b : ℤ} → x ≡ a → y ≡ b → leZ x y ≡ true → a ≤ℤ b
-le-read {x} {y} {a} {b} e f t = le-true a b (sym (ap₂ leZ e f) ∙ t)
-
-pub gt-read : {x y a b : ℤ} → x ≡ a → y ≡ b → leZ x y ≡ false → b <ℤ a
-gt-read {x} {y} {a} {b} e f t = le-false a b (sym (ap₂ leZ e f) ∙ t)
-
-pub lt-read : {x y a b : ℤ} → x ≡ a → y ≡ b → ltZ x y ≡ true → a <ℤ b
-lt-read {x} {y} {a} {b} e f t = lt-true a b (sym (ap₂ ltZ e f) ∙ t)
-
-pub ge-read : {x y a b : ℤ} → x ≡ a → y ≡ b → ltZ x y ≡ false → b ≤ℤ a
-ge-read {x} {y} {a} {b} e f t = lt-false a b (sym (ap₂ ltZ e f) ∙ t)
-
-pub eq-read : (w : Width) {x y : ℤ} → SFits w x → SFits w y → ofZ w x ≡ ofZ w y → x ≡ y
-eq-read w f g e = sym (toZ-ofZ {w = w} f) ∙ ap (toZ w) e ∙ toZ-ofZ {w = w} g
-
 not-le : {x y : ℤ} → (x ≤ℤ y → ⊥) → y <ℤ x
 not-le {x} {y} h = leZ-no (not-T (leZ x y) (λ t. h (leZ-yes t)))
 
 -- ---- ranges
 
-pub within-between : {m : ℕ} {l u z : ℤ} → Within m l → Within m u → l ≤ℤ z → z ≤ℤ u → Within m z
+within-between : {m : ℕ} {l u z : ℤ} → Within m l → Within m u → l ≤ℤ z → z ≤ℤ u → Within m z
 within-between {m} {l} {u} {z} h k p q = within! m z (omega (zarith, within-in h, within-in k))
 
-pub bound-within : {z : ℤ} → Between minBound maxBound z → Within 32_768 z
+bound-within : {z : ℤ} → Between minBound maxBound z → Within 32_768 z
 bound-within h = within-between {l = minBound} {u = maxBound} (within-lit tt) (within-lit tt) (h .above) (h .below)
 
-pub coef-within : {z : ℤ} → Between minCoef maxCoef z → Within 1_000_000 z
+coef-within : {z : ℤ} → Between minCoef maxCoef z → Within 1_000_000 z
 coef-within h = within-between {l = minCoef} {u = maxCoef} (within-lit tt) (within-lit tt) (h .above) (h .below)
 
 pub rhs-within : {z : ℤ} → Between minRhs maxRhs z → Within 1_000_000_000 z
@@ -89,7 +54,7 @@ rhs-within h = within-between {l = minRhs} {u = maxRhs} (within-lit tt) (within-
 
 -- ---- activities
 
-pub term-within : {a l u : ℤ} → Within 1_000_000 a → Within 32_768 l → Within 32_768 u → Within 32_768_000_000 (minTerm a l u)
+term-within : {a l u : ℤ} → Within 1_000_000 a → Within 32_768 l → Within 32_768 u → Within 32_768_000_000 (minTerm a l u)
 unfolding minTerm
 term-within {a} {l} {u} h k j =
     cond-ind (ltZ (pos 0) a) (a *ℤ l) (a *ℤ u) (Within 32_768_000_000) (λ _. within-mul h k) (λ _. within-mul h j)
@@ -99,7 +64,7 @@ pub maxTerm-is : (a l u : ℤ) → maxTerm a l u ≡ minTerm a u l
 unfolding maxTerm minTerm
 maxTerm-is a l u = refl
 
-pub sum-small : (f : ℕ → ℤ) → ((j : ℕ) → Within 32_768_000_000 (f j)) → (i : ℕ) → i ≤ maxVariables → Within 5_000_000_000_000 (sum i f)
+sum-small : (f : ℕ → ℤ) → ((j : ℕ) → Within 32_768_000_000 (f j)) → (i : ℕ) → i ≤ maxVariables → Within 5_000_000_000_000 (sum i f)
 sum-small f h i k = within-le (omega arith) (sum-within 32_768_000_000 f h i)
 
 -- what a row's loop adds up: each term is small, so is each sum of them
@@ -140,7 +105,7 @@ module _ {n : ℕ} {A B : List ℤ} (v : ValidCoefs n A B) where
 
 -- of a coefficient a above 0: u stays exactly if a × u is at most the room that the row leaves
 module _ (a b L l u : ℤ) (p : pos 0 <ℤ a) where
-  abbrev pub room : ℤ
+  abbrev room : ℤ
   room = b -ℤ L +ℤ a *ℤ l
 
   upper-is : newUpper a b L l u ≡ minZ u (floorDiv room a)
@@ -173,7 +138,7 @@ g-pos {a} p = simp zify (omega zarith)
 
 -- of a = −g below 0: l stays exactly if g × l is at least what the row needs
 module _ (a b L l u : ℤ) (p : a <ℤ pos 0) where
-  abbrev pub need : ℤ
+  abbrev need : ℤ
   need = L +ℤ negℤ a *ℤ u -ℤ b
 
   lower-is : newLower a b L l u ≡ maxZ l (ceilDiv need (negℤ a))
@@ -326,7 +291,7 @@ clear-suc i [] h = absurd (not-suc-le-zero h)
 clear-suc zero (x ∷ xs) h = refl
 clear-suc (suc i) (x ∷ xs) h = ap (λ (t : List ℤ). pos 0 ∷ t) (clear-suc i xs (le-of-suc-le-suc h))
 
-pub clear-more : (i : ℕ) (xs : List ℤ) → i < length xs → set (clearTo i xs) i (pos 0) ≡ clearTo (i + 1) xs
+clear-more : (i : ℕ) (xs : List ℤ) → i < length xs → set (clearTo i xs) i (pos 0) ≡ clearTo (i + 1) xs
 clear-more i xs h = clear-suc i xs h ∙ ap (λ (k : ℕ). clearTo k xs) (sym (add-one i))
 
 pub length-clear : (i : ℕ) (xs : List ℤ) → i ≤ length xs → length (clearTo i xs) ≡ length xs
@@ -335,7 +300,7 @@ length-clear (suc i) [] h = absurd (not-suc-le-zero h)
 length-clear (suc i) (x ∷ xs) h = ap suc (length-clear i xs (le-of-suc-le-suc h))
 
 -- the coefficient that the loop comes to is the old one
-pub clear-there : (i : ℕ) (xs : List ℤ) → i < length xs → at (clearTo i xs) i ≡ at xs i
+clear-there : (i : ℕ) (xs : List ℤ) → i < length xs → at (clearTo i xs) i ≡ at xs i
 clear-there i [] h = absurd (not-suc-le-zero h)
 clear-there zero (x ∷ xs) h = refl
 clear-there (suc i) (x ∷ xs) h = clear-there i xs (le-of-suc-le-suc h)
@@ -402,7 +367,7 @@ module _ (A : List ℤ) (k : ℕ) (a L b : ℤ) where
   unfolding tightenAt
   stays-redundant h = rw (lt-isn't h)
 
-  -- it can be broken without x_k and with it
+  -- with x_k at its other bound the sum still reaches b
   stays-loose : b ≤ℤ (L -ℤ pos (natAbs a)) → tightenAt a L A b k ≡ same
   unfolding tightenAt
   stays-loose h = rw (lt-isn't h, and-false (ltZ b L))
@@ -413,11 +378,12 @@ module _ (A : List ℤ) (k : ℕ) (a L b : ℤ) where
   pub stays-loose-neg : a ≤ℤ pos 0 → b ≤ℤ (L +ℤ a) → tightenAt a L A b k ≡ same
   stays-loose-neg p h = stays-loose (rw (less-abs-neg L p) h)
 
-  -- the new right side is out of range, or not
+  -- the new right side would be out of range
   pub stays-limit : pos 0 <ℤ a → b <ℤ L → (L -ℤ a) <ℤ b → (L -ℤ a) <ℤ minRhs → tightenAt a L A b k ≡ same
   unfolding tightenAt
   stays-limit p h g l = rw (less-abs-pos L p, lt-is h, lt-is g, lt-is p, le-isn't l)
 
+  -- the coefficient shrinks
   pub tightens-pos : pos 0 <ℤ a → b <ℤ L → (L -ℤ a) <ℤ b → minRhs ≤ℤ (L -ℤ a)
       → tightenAt a L A b k ≡ record { outcome = changed; coefs = set A k (L -ℤ b); rhs = L -ℤ a }
   unfolding tightenAt

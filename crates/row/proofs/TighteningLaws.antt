@@ -193,3 +193,9 @@ tighten-coefficient-replaces n A b B k h l f = tighten-coefficient-ind n A b B k
     value {x} t i =
         let p = free-lower B k (free t) in let q = free-upper B k (free t) in let u = i .low k h in let v = i .high k h in
         zero-or-one (at x k) (omega zarith) (omega zarith)
+
+-- ---- the other coefficients stay
+
+pub tighten-coefficient-other : (n : ℕ) (A : List ℤ) (b : ℤ) (B : List ℤ) (k j : ℕ) → j ≢ k → at (tightenCoefficient n A b B k .coefs) j ≡ at A j
+tighten-coefficient-other n A b B k j ne = tighten-coefficient-ind n A b B k (λ r. at (r .coefs) j ≡ at A j)
+    (λ _. refl) (λ _. refl) (λ _ _ _ _ _. getD-set-other A k j _ (pos 0) ne) (λ _ _ _ _. getD-set-other A k j _ (pos 0) ne)

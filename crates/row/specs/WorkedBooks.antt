@@ -1,6 +1,5 @@
 -- The starred worked books of 01 about one row, as one table with one test (`worked-books-agree`). Variables are free 0-1 unless a
 -- box is given.
-use Prim.Native.Nat.{ℕ}
 use lib.IntN.{negsuc, pos, ℤ}
 use lib.ListN.{length}
 use mathlib.Core.Bool.{Bool, _&&_, false, true}

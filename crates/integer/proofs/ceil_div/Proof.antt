@@ -1,5 +1,4 @@
 -- `integer::ceil_div` is ceilDiv: the mirror of `floor_div`. Assumes nothing.
-use mathlib.Core.Path.{_≡_}
 use lib.IntN.{_+ℤ_, _-ℤ_, pos}
 use lib.Signed.{_<ℤ_, _≤ℤ_, quotZ}
 use mir.Facts.{toZ-ofZ}

@@ -1,10 +1,9 @@
-use mathlib.Core.Path.{_≡_, refl, sym, _∙_, ap, subst}
-use lib.IntN.{ℤ, pos, negsuc, negℤ, _+ℤ_, _-ℤ_, _*ℤ_}
+use lib.IntN.{pos, _+ℤ_, _-ℤ_}
 use lib.Signed.{_≤ℤ_, _<ℤ_, quotZ}
-use mir.Syntax.{w32, w64}
-use mir.Val.{SFits, toZ, ofZ}
+use mir.Syntax.{w64}
+use mir.Val.{SFits}
 use mir.Facts.{toZ-ofZ}
-use Rattle.integer.proofs.Parts.{le-true, le-false, lt-true, lt-false, zarith, zify, one-part-zero, add-parts, sub-parts, fits}
+use Rattle.integer.proofs.Parts.{le-true, le-false, zarith, one-part-zero, add-parts, sub-parts, fits}
 use Rattle.integer.proofs.DivisionLaws.{quot-fits, quot-parts, ofZ-pos, quot-floor, quot-floor-neg}
 use Rattle.integer.proofs.floor_div.Statement.{statement}
 use Rattle.integer.proofs.floor_div.Tie as tie

@@ -8,7 +8,8 @@ use mir.Syntax.{w32, w64}
 use mir.Val.{SFits}
 use Rattle.integer.specs.Division.{ceilDiv}
 use Rattle.integer.proofs.RangeLaws.{within-add, within-fits, within-mul, within-neg, within-sub}
-use Rattle.row.proofs.RowLoops.{asked, fits-read, gt-read, le-read, read, g-pos, lower-moves, lower-small, lower-stays, zero-minus}
+use Rattle.integer.proofs.Reading.{asked, fits-read, gt-read, le-read, read}
+use Rattle.row.proofs.RowLoops.{g-pos, lower-moves, lower-small, lower-stays, zero-minus}
 use Rattle.row.proofs.propagation.new_lower.Statement.{statement}
 use Rattle.row.proofs.propagation.new_lower.Tie as tie
 

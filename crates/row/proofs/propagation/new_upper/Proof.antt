@@ -8,7 +8,8 @@ use mir.Syntax.{w32, w64}
 use mir.Val.{SFits}
 use Rattle.integer.specs.Division.{floorDiv}
 use Rattle.integer.proofs.RangeLaws.{within-add, within-fits, within-mul, within-sub}
-use Rattle.row.proofs.RowLoops.{asked, gt-read, le-read, read, upper-moves, upper-small, upper-stays}
+use Rattle.integer.proofs.Reading.{asked, gt-read, le-read, read}
+use Rattle.row.proofs.RowLoops.{upper-moves, upper-small, upper-stays}
 use Rattle.row.proofs.propagation.new_upper.Statement.{statement}
 use Rattle.row.proofs.propagation.new_upper.Tie as tie
 

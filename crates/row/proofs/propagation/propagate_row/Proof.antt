@@ -17,7 +17,8 @@ use Rattle.model.specs.Box.{isEmpty}
 use Rattle.row.specs.Activity.{minActivity}
 use Rattle.row.specs.Answers.{propagationOutcome}
 use Rattle.row.specs.Propagation.{impliedBox, propagateRow, staysAt}
-use Rattle.row.proofs.RowLoops.{bounds-small, coefs-small, flag-clear, flag-set, ge-read, lt-read, min-activity-small, read-wide, rhs-within, wide-fits}
+use Rattle.integer.proofs.Reading.{ge-read, lt-read, read-wide, wide-fits}
+use Rattle.row.proofs.RowLoops.{bounds-small, coefs-small, flag-clear, flag-set, min-activity-small, rhs-within}
 use Rattle.row.proofs.propagation.propagate_row.Statement.{statement}
 use Rattle.row.proofs.propagation.propagate_row.Tie as tie
 
@@ -80,36 +81,43 @@ met : (c : tie.Else2) → minActivity (n (c .before)) (A (c .before)) (B (c .bef
 met c = ge-read (rhs-is (c .before)) (least-is (c .before)) (c .if2 .left)
 
 tighten-bounds-requires : tie.Need-tighten-bounds-requires
-tighten-bounds-requires c κs = rw (rhs-is (c .before .before), least-is (c .before .before)) (record {
-  len = refl;
-  boxLen = s (c .before .before) .pre .coefs .box .len;
-  few = s (c .before .before) .pre .coefs .few;
-  coefs = coefs-small (s (c .before .before) .pre .coefs);
-  rhs = rhs-within (s (c .before .before) .pre .rhs);
-  activity = min-activity-small (s (c .before .before) .pre .coefs);
-  met = met (c .before);
-  bounds = bounds-small (s (c .before .before) .pre .coefs);
-})
+tighten-bounds-requires c κs =
+    let m = c .before .before in
+    let v = s m .pre .coefs in
+    rw (rhs-is m, least-is m) (record {
+      len = refl;
+      boxLen = v .box .len;
+      few = v .few;
+      coefs = coefs-small v;
+      rhs = rhs-within (s m .pre .rhs);
+      activity = min-activity-small v;
+      met = met (c .before);
+      bounds = bounds-small v;
+    })
 
 same-length-3 : tie.Need-same-length-3
 same-length-3 c = search needs
 
+-- what `tighten_bounds` left and said
 module _ (c : tie.After-tighten-bounds) where
-  abbrev mm : tie.After-minimum-activity
-  mm = c .before .before .before
+  abbrev row : tie.After-minimum-activity
+  row = c .before .before .before
+
+  abbrev least : ℤ
+  least = minActivity (n row) (A row) (B row)
 
   abbrev stayed : Bool
-  stayed = all (n mm) (staysAt (A mm) (s mm .args .b) (minActivity (n mm) (A mm) (B mm)) (B mm))
+  stayed = all (n row) (staysAt (A row) (s row .args .b) least (B row))
 
-  tightened : (c .tighten-bounds .last .1 .1 .1 .0 ≡ impliedBox (n mm) (A mm) (s mm .args .b) (minActivity (n mm) (A mm) (B mm)) (B mm))
-      × (c .tighten-bounds .result ≡ not stayed)
-  tightened = rw (rhs-is mm, least-is mm) at (c .tighten-bounds .ensures)
+  tightened : (c .tighten-bounds .last .1 .1 .1 .0 ≡ impliedBox (n row) (A row) (s row .args .b) least (B row)) × (c .tighten-bounds .result ≡ not stayed)
+  tightened = rw (rhs-is row, least-is row) at (c .tighten-bounds .ensures)
 
 returns-3 : tie.Need-returns-3
 unfolding propagateRow propagationOutcome
 returns-3 c =
-    let m = mm (c .before .before) in
-    rw (some m, lt-isn't (met (c .before .before .before .before)), flag-set (stayed (c .before .before)) (tightened (c .before .before) .1) (c .if3 .taken)) (refl, tightened (c .before .before) .0)
+    let t = c .before .before in
+    let e = flag-set (stayed t) (tightened t .1) (c .if3 .taken) in
+    rw (some (row t), lt-isn't (met (t .before .before)), e) (refl, tightened t .0)
 
 same-length-4 : tie.Need-same-length-4
 same-length-4 c = search needs
@@ -117,8 +125,9 @@ same-length-4 c = search needs
 returns-4 : tie.Need-returns-4
 unfolding propagateRow propagationOutcome
 returns-4 c =
-    let m = mm (c .before .before) in
-    rw (some m, lt-isn't (met (c .before .before .before .before)), flag-clear (stayed (c .before .before)) (tightened (c .before .before) .1) (c .if3 .left)) (refl, tightened (c .before .before) .0)
+    let t = c .before .before in
+    let e = flag-clear (stayed t) (tightened t .1) (c .if3 .left) in
+    rw (some (row t), lt-isn't (met (t .before .before)), e) (refl, tightened t .0)
 
 pub propagate-row-spec : {M : Type 1} → statement M
 propagate-row-spec =

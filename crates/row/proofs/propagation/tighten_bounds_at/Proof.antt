@@ -14,7 +14,8 @@ use Rattle.integer.proofs.Parts.{lt-false, lt-true, zarith}
 use Rattle.integer.proofs.RangeLaws.{within-fits}
 use Rattle.model.specs.Box.{lower, upper}
 use Rattle.row.specs.Propagation.{newLower, newUpper}
-use Rattle.row.proofs.RowLoops.{eq-read, lower-kept, lower-moved, none-moved, upper-kept, upper-moved}
+use Rattle.integer.proofs.Reading.{eq-read}
+use Rattle.row.proofs.RowLoops.{lower-kept, lower-moved, none-moved, upper-kept, upper-moved}
 use Rattle.row.proofs.propagation.tighten_bounds_at.Statement.{statement}
 use Rattle.row.proofs.propagation.tighten_bounds_at.Tie as tie
 

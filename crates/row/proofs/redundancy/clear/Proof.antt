@@ -13,7 +13,8 @@ use native.Mathlib.Omega.{arith}
 use Rattle.integer.proofs.RangeLaws.{within-fits, within-lit}
 use Rattle.model.specs.Box.{at, sameList}
 use Rattle.row.specs.Redundancy.{zeroRow}
-use Rattle.row.proofs.RowLoops.{clear-all, clear-turn, clearTo, eq-read, length-clear, same-none}
+use Rattle.integer.proofs.Reading.{eq-read}
+use Rattle.row.proofs.RowLoops.{clear-all, clear-turn, clearTo, length-clear, same-none}
 use Rattle.row.proofs.redundancy.clear.Statement.{statement}
 use Rattle.row.proofs.redundancy.clear.Tie as tie
 

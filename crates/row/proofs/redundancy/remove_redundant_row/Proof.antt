@@ -18,7 +18,8 @@ use Rattle.model.specs.Box.{isEmpty, sameList}
 use Rattle.row.specs.Activity.{maxActivity}
 use Rattle.row.specs.Answers.{removalOutcome}
 use Rattle.row.specs.Redundancy.{removeRedundantRow, zeroRow}
-use Rattle.row.proofs.RowLoops.{and-false, eq-read, eqZ-no, eqZ-yes, flag-clear, flag-set, ge-read, lt-read, read-wide, rhs-within, wide-fits}
+use Rattle.integer.proofs.Reading.{eq-read, ge-read, lt-read, read-wide, wide-fits}
+use Rattle.row.proofs.RowLoops.{and-false, eqZ-no, eqZ-yes, flag-clear, flag-set, rhs-within}
 use Rattle.row.proofs.redundancy.remove_redundant_row.Statement.{statement}
 use Rattle.row.proofs.redundancy.remove_redundant_row.Tie as tie
 

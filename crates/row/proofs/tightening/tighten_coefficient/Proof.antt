@@ -18,7 +18,8 @@ use Rattle.model.specs.Limits.{minRhs}
 use Rattle.row.specs.Activity.{maxActivity}
 use Rattle.row.specs.Answers.{tighteningOutcome}
 use Rattle.row.specs.Tightening.{tightenCoefficient}
-use Rattle.row.proofs.RowLoops.{coefs-small, fits-read, ge-read, gt-read, le-read, lt-read, max-activity-small, new-coef-neg, new-coef-pos, new-rhs, read, read-wide, rhs-within, stays-limit, stays-loose-neg, stays-loose-pos, stays-redundant, tightens-neg, tightens-pos, wide-fits}
+use Rattle.integer.proofs.Reading.{fits-read, ge-read, gt-read, le-read, lt-read, read, read-wide, wide-fits}
+use Rattle.row.proofs.RowLoops.{coefs-small, max-activity-small, new-coef-neg, new-coef-pos, new-rhs, rhs-within, stays-limit, stays-loose-neg, stays-loose-pos, stays-redundant, tightens-neg, tightens-pos}
 use Rattle.row.proofs.tightening.tighten_coefficient.Statement.{statement}
 use Rattle.row.proofs.tightening.tighten_coefficient.Tie as tie
 
