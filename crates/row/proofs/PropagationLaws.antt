@@ -75,7 +75,7 @@ propagate-row-inside A b B {n} {Q} h p = propagate-row-ind n A b B (λ v. Inside
 
 -- ---- no fractional point is lost by the answer infeasible
 
-empty-no-point : {n : ℕ} {B x : List ℤ} {d : ℕ} → 0 < n → 0 < d → B ≡ emptyBox n → InBoxOver n B x d → ⊥
+pub empty-no-point : {n : ℕ} {B x : List ℤ} {d : ℕ} → 0 < n → 0 < d → B ≡ emptyBox n → InBoxOver n B x d → ⊥
 unfolding emptyBox
 empty-no-point {n} {B} {x} {d} h g e i =
     let l = simp zify at (rw (e, lower-boxOf n (λ j. pos 1) (λ j. pos 0) 0 h) at (i .low 0 h)) in

@@ -1,0 +1,269 @@
+-- Demand 1: the checks of a call stand in the order of their numbers, so the first that fails is the least number that fails.
+use Prim.Native.Nat.{_*_, _+_, _/_, _<_, _≤_, ℕ}
+use lib.Dec.{T, eqb, eqb→eq, leb, leb→le, ltb}
+use lib.IntN.{ℤ}
+use lib.ListN.{length}
+use lib.Signed.{_≤ℤ_, leZ}
+use mathlib.Core.Bool.{Bool, _&&_, _||_, false, not, true}
+use mathlib.Core.List.{List, [], _∷_}
+use mathlib.Core.Logic.{Iff·trans, _↔_}
+use mathlib.Core.Path.{_∙_, _≡_, ap, refl, subst, sym}
+use native.Mathlib.Decide.{decLt, ℕ-discrete}
+use native.Mathlib.Omega.{arith}
+use Rattle.integer.proofs.IndexLaws.{all-test}
+use Rattle.integer.proofs.Tests.{and-l, and-r, both, cond-ind, eqb-test, le-test, leb-test, ltb-test, neqb→ne, or-test, when-test}
+use Rattle.model.specs.Box.{isEmpty, isFree, lower, upper}
+use Rattle.model.specs.Checks.{Check, bits, first, inRange, lengthChecks, must, numberChecks, ordered, sizeChecks, tableByteChecks, tableLengthChecks}
+use Rattle.model.specs.Limits.{maxBound, maxCoef, maxRhs, maxRows, maxVariables, minBound, minCoef, minRhs}
+use Rattle.model.proofs.BoxLaws.{isEmpty-test}
+use Rattle.model.proofs.CheckLaws.{Hold, bits-test, first-none, inRange-test, length-test, size-test}
+use Rattle.semantics.specs.CallChecks.{callChecks, callFault, lentChecks, lentTable, maxBudget, recordChecks, stateChecks}
+use Rattle.semantics.specs.Demand1.{Demand1, LengthsFit, Passes}
+use Rattle.semantics.specs.Perform.{Answer, Performed, act, perform, refused}
+use Rattle.semantics.specs.Run.{isRefused}
+use Rattle.semantics.specs.State.{Call, Kind, State, hasBudget, hasRow, hasTable, hasVariable, isOther, kindOf, lengthsOf, other, probes, propagates, propagatesRow, removes, tightens}
+use Rattle.semantics.proofs.Accepted.{accepted, isLent, lent-test}
+
+-- ---- a list of checks in the order of their numbers
+
+-- every test of number N holds
+abbrev AllPass : ℕ → List Check → Type 0
+AllPass N [] = Unit {0}
+AllPass N (must ok number ∷ checks) = (N ≡ number → T ok) × AllPass N checks
+
+-- the numbers are low or more, and none is less than the one before it
+abbrev sortedFrom : ℕ → List Check → Bool
+sortedFrom low [] = true
+sortedFrom low (must ok number ∷ checks) = leb low number && sortedFrom number checks
+
+hold-pass : (N : ℕ) (checks : List Check) → Hold checks → AllPass N checks
+hold-pass N [] h = tt
+hold-pass N (must ok number ∷ checks) h = ((λ _. h .0), hold-pass N checks (h .1))
+
+below-pass : (N low : ℕ) (checks : List Check) → T (sortedFrom low checks) → N < low → AllPass N checks
+below-pass N low [] t h = tt
+below-pass N low (must ok number ∷ checks) t h =
+    let l = leb→le low number (and-l (leb low number) (sortedFrom number checks) t) in
+    ((λ e. absurd (let z : ⊥ = omega arith in z)), below-pass N number checks (and-r (leb low number) (sortedFrom number checks) t) (omega arith))
+
+-- below the number of the first check that fails, all pass
+first-below : (N low : ℕ) (checks : List Check) → T (sortedFrom low checks) → N < first checks → AllPass N checks
+unfolding first
+first-below N low [] t h = tt
+first-below N low (must true number ∷ checks) t h =
+    ((λ _. tt), first-below N number checks (and-r (leb low number) (sortedFrom number checks) t) h)
+first-below N low (must false number ∷ checks) t h =
+    ((λ e. absurd (let z : ⊥ = omega arith in z)), below-pass N number checks (and-r (leb low number) (sortedFrom number checks) t) h)
+
+-- at its number, not all pass
+first-fails : (checks : List Check) → (first checks ≡ 0 → ⊥) → AllPass (first checks) checks → ⊥
+unfolding first
+first-fails [] n p = n refl
+first-fails (must true number ∷ checks) n p = first-fails checks n (p .1)
+first-fails (must false number ∷ checks) n p = p .0 refl
+
+-- ---- what the tests of a call say
+
+-- the checks of a call, with those of the table in every call: they pass where it is lent none
+abbrev flatChecks : Kind → State → Call → List Check
+flatChecks k s c =
+    must (leb 1 (c .n) && leb (c .n) maxVariables && leb (c .m) maxRows) 3
+    ∷ must (isLent k s c) 5
+    ∷ must (eqb (length (s .box)) (2 * c .n) && eqb (length (s .coefs)) (c .m * c .n) && eqb (length (s .rhs)) (c .m)) 5
+    ∷ must (not (hasTable k) || eqb (length (s .table)) (4 * (c .n * c .n))) 5
+    ∷ must (inRange minBound maxBound (s .box)) 6
+    ∷ must (isEmpty (c .n) (s .box) || ordered (s .box)) 7
+    ∷ must (inRange minCoef maxCoef (s .coefs)) 8
+    ∷ must (inRange minRhs maxRhs (s .rhs)) 9
+    ∷ must (not (hasTable k) || bits (s .table)) 10
+    ∷ must (not (isOther k)) 11
+    ∷ must (not (hasRow k) || ltb (c .row) (s .m)) 12
+    ∷ must (not (hasVariable k) || ltb (c .variable) (s .n)) 13
+    ∷ must (not (hasVariable k) || (isEmpty (s .n) (s .box) || isFree (s .box) (c .variable))) 14
+    ∷ must (not (hasBudget k) || (leb 1 (c .budget) && leb (c .budget) maxBudget)) 15
+    ∷ []
+
+flat : (k : Kind) (s : State) (c : Call) → first (callChecks k s c) ≡ first (flatChecks k s c)
+unfolding first callChecks stateChecks recordChecks sizeChecks lentChecks lengthChecks tableLengthChecks numberChecks tableByteChecks lengthsOf lentTable hasTable
+flat propagatesRow s c = refl
+flat propagates s c = refl
+flat probes s c = refl
+flat tightens s c = refl
+flat removes s c = refl
+flat other s c = refl
+
+lengths-test : (s : State) (c : Call)
+    → (T (isLent (kindOf (c .kind)) s c)
+    × T (eqb (length (s .box)) (2 * c .n) && eqb (length (s .coefs)) (c .m * c .n) && eqb (length (s .rhs)) (c .m))
+    × T (not (hasTable (kindOf (c .kind))) || eqb (length (s .table)) (4 * (c .n * c .n))))
+    ↔ LengthsFit s c
+lengths-test s c =
+    let k = kindOf (c .kind) in
+    let l = lent-test k s c in
+    let d = length-test (c .n) (c .m) (s .box) (s .coefs) (s .rhs) in
+    let t = when-test (hasTable k) _ (eqb-test (length (s .table)) (4 * (c .n * c .n))) in (
+      (λ h. let a = l .0 (h .0) in let b = d .0 (h .1) in record {
+        variables = a .variables;
+        rows = a .rows;
+        box = (a .box, b .0);
+        coefs = (a .coefs, b .1);
+        rhs = (a .rhs, b .2);
+        table = λ x. (a .table x, t .0 (h .2) x);
+      }),
+      (λ f. (
+        l .1 (record { variables = f .variables; rows = f .rows; box = f .box .0; coefs = f .coefs .0; rhs = f .rhs .0; table = λ x. f .table x .0 }),
+        d .1 (f .box .1, f .coefs .1, f .rhs .1),
+        t .1 (λ x. f .table x .1),
+      )),
+    )
+
+order-test : (B : List ℤ) → T (ordered B) ↔ ((j : ℕ) → 2 * j + 1 < length B → lower B j ≤ℤ upper B j)
+unfolding ordered
+order-test B =
+    let d = all-test (length B / 2) (λ j. leZ (lower B j) (upper B j)) (λ j. le-test (lower B j) (upper B j)) in
+    ((λ t j h. d .0 t j (omega arith)), (λ f. d .1 (λ j h. f j (omega arith))))
+
+is-kind : (k i : ℕ) → 1 ≤ i → i ≤ 5 → T (eqb k i) → T true ↔ ((1 ≤ k) × (k ≤ 5))
+is-kind k i a b e = let q = eqb→eq k i e in ((λ _. (omega arith, omega arith)), (λ _. tt))
+
+kind-test : (k : ℕ) → T (not (isOther (kindOf k))) ↔ ((1 ≤ k) × (k ≤ 5))
+unfolding kindOf isOther
+kind-test k =
+    let P : Kind → Type 0 = λ q. T (not (isOther q)) ↔ ((1 ≤ k) × (k ≤ 5)) in
+    cond-ind (eqb k 1) _ _ P (is-kind k 1 (omega arith) (omega arith)) (λ n1.
+    cond-ind (eqb k 2) _ _ P (is-kind k 2 (omega arith) (omega arith)) (λ n2.
+    cond-ind (eqb k 3) _ _ P (is-kind k 3 (omega arith) (omega arith)) (λ n3.
+    cond-ind (eqb k 4) _ _ P (is-kind k 4 (omega arith) (omega arith)) (λ n4.
+    cond-ind (eqb k 5) _ _ P (is-kind k 5 (omega arith) (omega arith)) (λ n5.
+    let m1 = neqb→ne k 1 n1 in let m2 = neqb→ne k 2 n2 in let m3 = neqb→ne k 3 n3 in let m4 = neqb→ne k 4 n4 in let m5 = neqb→ne k 5 n5 in
+    ((λ z. absurd z), (λ h. absurd (let z : ⊥ = omega arith in z))))))))
+
+-- ---- number by number
+
+also : {A B : Type 0} → A → B → A × B
+also a b = (a, b)
+
+passes-test : (N : ℕ) (s : State) (c : Call) → AllPass N (flatChecks (kindOf (c .kind)) s c) ↔ Passes N s c
+passes-test N s c =
+    let k = kindOf (c .kind) in
+    let t3 = size-test (c .n) (c .m) in
+    let t5 = lengths-test s c in
+    let t6 = inRange-test minBound maxBound (s .box) in
+    let t7 = or-test (isEmpty (c .n) (s .box)) (ordered (s .box)) (isEmpty-test (c .n) (s .box)) (order-test (s .box)) in
+    let t8 = inRange-test minCoef maxCoef (s .coefs) in
+    let t9 = inRange-test minRhs maxRhs (s .rhs) in
+    let t10 = when-test (hasTable k) _ (bits-test (s .table)) in
+    let t11 = kind-test (c .kind) in
+    let t12 = when-test (hasRow k) _ (ltb-test (c .row) (s .m)) in
+    let t13 = when-test (hasVariable k) _ (ltb-test (c .variable) (s .n)) in
+    let t14 = when-test (hasVariable k) _
+    (or-test (isEmpty (s .n) (s .box)) (isFree (s .box) (c .variable)) (isEmpty-test (s .n) (s .box)) ((λ t. t), (λ t. t))) in
+    let t15 = when-test (hasBudget k) _ (both (leb 1 (c .budget)) (leb (c .budget) maxBudget) (leb-test 1 (c .budget)) (leb-test (c .budget) maxBudget)) in (
+      (λ (p3, (p5, (p5′, (p5″, (p6, (p7, (p8, (p9, (p10, (p11, (p12, (p13, (p14, (p15, u)))))))))))))). record {
+        check3 = λ e. t3 .0 (p3 e);
+        check5 = λ e. t5 .0 (p5 e, p5′ e, p5″ e);
+        check6 = λ e. t6 .0 (p6 e);
+        check7 = λ e. t7 .0 (p7 e);
+        check8 = λ e. t8 .0 (p8 e);
+        check9 = λ e. t9 .0 (p9 e);
+        check10 = λ e. t10 .0 (p10 e);
+        check11 = λ e. t11 .0 (p11 e);
+        check12 = λ e. t12 .0 (p12 e);
+        check13 = λ e. t13 .0 (p13 e);
+        check14 = λ e. t14 .0 (p14 e);
+        check15 = λ e. t15 .0 (p15 e);
+      }),
+      (λ q. also (λ e. t3 .1 (q .check3 e))
+          (also (λ e. t5 .1 (q .check5 e) .0) (also (λ e. t5 .1 (q .check5 e) .1) (also (λ e. t5 .1 (q .check5 e) .2)
+          (also (λ e. t6 .1 (q .check6 e)) (also (λ e. t7 .1 (q .check7 e)) (also (λ e. t8 .1 (q .check8 e)) (also (λ e. t9 .1 (q .check9 e))
+          (also (λ e. t10 .1 (q .check10 e)) (also (λ e. t11 .1 (q .check11 e)) (also (λ e. t12 .1 (q .check12 e)) (also (λ e. t13 .1 (q .check13 e))
+          (also (λ e. t14 .1 (q .check14 e)) (also (λ e. t15 .1 (q .check15 e)) tt)))))))))))))),
+    )
+
+-- ---- the number of the first check that fails
+
+module _ (s : State) (c : Call) where
+  checks : List Check
+  checks = flatChecks (kindOf (c .kind)) s c
+
+  fault : callFault s c ≡ first checks
+  unfolding callFault checks
+  fault = flat (kindOf (c .kind)) s c
+
+  none-passes : callFault s c ≡ 0 → (N : ℕ) → Passes N s c
+  unfolding checks
+  none-passes e N = passes-test N s c .0 (hold-pass N checks (first-none checks tt .0 (sym fault ∙ e)))
+
+  below-passes : (N : ℕ) → N < callFault s c → Passes N s c
+  unfolding checks
+  below-passes N h = passes-test N s c .0 (first-below N 0 checks tt (rw fault at h))
+
+  fault-fails : (callFault s c ≡ 0 → ⊥) → Passes (callFault s c) s c → ⊥
+  unfolding checks
+  fault-fails n p = first-fails checks (λ e. n (fault ∙ e)) (rw fault at (passes-test (callFault s c) s c .1 p))
+
+  all-pass : ((N : ℕ) → Passes N s c) → callFault s c ≡ 0
+  all-pass f = decided (ℕ-discrete (callFault s c) 0)
+    where
+      decided : Dec (callFault s c ≡ 0) → callFault s c ≡ 0
+      decided (yes e) = e
+      decided (no n) = absurd (fault-fails n (f (callFault s c)))
+
+  number-iff : (N : ℕ) → ((callFault s c ≡ N) × (callFault s c ≡ 0 → ⊥)) ↔ ((Passes N s c → ⊥) × ((M : ℕ) → M < N → Passes M s c))
+  number-iff N = (
+    (λ h. ((λ p. fault-fails (h .1) (rw (h .0) p)), (λ M l. below-passes M (omega arith)))),
+    (λ h. let n : callFault s c ≡ 0 → ⊥ = (λ e. h .0 (none-passes e N)) in (least h n (decLt (callFault s c) N) (decLt N (callFault s c)), n)),
+  )
+    where
+      least : (Passes N s c → ⊥) × ((M : ℕ) → M < N → Passes M s c) → (callFault s c ≡ 0 → ⊥) → Dec (callFault s c < N) → Dec (N < callFault s c)
+          → callFault s c ≡ N
+      least h n (yes l) d = absurd (fault-fails n (h .1 (callFault s c) l))
+      least h n (no l) (yes g) = absurd (h .0 (below-passes N g))
+      least h n (no l) (no g) = omega arith
+
+-- ---- the answer
+
+act-answers : (k : Kind) (s : State) (c : Call) → T (not (isOther k)) → T (isRefused (act k s c .answer)) → ⊥
+unfolding act isOther isRefused
+act-answers propagatesRow s c o t = t
+act-answers propagates s c o t = t
+act-answers probes s c o t = t
+act-answers tightens s c o t = t
+act-answers removes s c o t = t
+act-answers other s c o t = o
+
+module _ (s : State) (c : Call) where
+  accepted-answers : callFault s c ≡ 0 → T (isRefused (act (kindOf (c .kind)) s c .answer)) → ⊥
+  accepted-answers e = act-answers (kindOf (c .kind)) s c (accepted s c e .kind)
+
+  refused-iff : (N : ℕ) → (perform s c .answer ≡ refused N) ↔ ((callFault s c ≡ N) × (callFault s c ≡ 0 → ⊥))
+  unfolding perform isRefused
+  refused-iff N =
+      cond-ind (eqb (callFault s c) 0) _ _ (λ (r : Performed). (r .answer ≡ refused N) ↔ ((callFault s c ≡ N) × (callFault s c ≡ 0 → ⊥)))
+      (λ z. let e = eqb→eq (callFault s c) 0 z in (
+        (λ a. absurd (accepted-answers e (subst (λ (b : Answer). T (isRefused b)) (sym a) tt))),
+        (λ h. absurd (h .1 e)),
+      ))
+      (λ z. ((λ a. (cc, neqb→ne (callFault s c) 0 z)), (λ h. ap refused (h .0))))
+
+  answered-iff : (callFault s c ≡ 0) ↔ (T (isRefused (perform s c .answer)) → ⊥)
+  unfolding perform isRefused
+  answered-iff =
+      cond-ind (eqb (callFault s c) 0) _ _ (λ (r : Performed). (callFault s c ≡ 0) ↔ (T (isRefused (r .answer)) → ⊥))
+      (λ z. (accepted-answers, (λ _. eqb→eq (callFault s c) 0 z)))
+      (λ z. ((λ e _. neqb→ne (callFault s c) 0 z e), (λ f. absurd (f tt))))
+
+  refused-keeps : T (isRefused (perform s c .answer)) → perform s c .state ≡ s
+  unfolding perform
+  refused-keeps =
+      cond-ind (eqb (callFault s c) 0) _ _ (λ (r : Performed). T (isRefused (r .answer)) → r .state ≡ s)
+      (λ z t. absurd (accepted-answers (eqb→eq (callFault s c) 0 z) t)) (λ _ _. refl)
+
+pub demand-1 : Demand1
+unfolding Demand1
+demand-1 s c = record {
+  first = λ N. Iff·trans (refused-iff s c N) (number-iff s c N);
+  accepted = (none-passes s c, all-pass s c);
+  answered = answered-iff s c;
+  kept = refused-keeps s c;
+}

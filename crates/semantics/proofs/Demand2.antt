@@ -1,0 +1,153 @@
+-- Demand 2: what an accepted call means, kind by kind, and what any run keeps.
+use Prim.Native.Nat.{_+_, _<_, ℕ}
+use lib.Dec.{T}
+use lib.IntN.{ℤ}
+use mathlib.Core.List.{List}
+use mathlib.Core.Logic.{_↔_, _≢_, ⊎-elim}
+use mathlib.Core.Path.{_≡_, ap, refl, subst, sym}
+use Rattle.integer.proofs.Tests.{decide}
+use Rattle.model.specs.Box.{at, emptyBox, isEmpty}
+use Rattle.model.specs.Point.{IntegerPoint, rowOf}
+use Rattle.model.proofs.BoxLaws.{isEmpty-test, not-in-empty}
+use Rattle.row.specs.Outcome.{isChanged}
+use Rattle.row.proofs.PointBox.{boxAt, in→Inside, nonEmpty-at}
+use Rattle.row.proofs.RedundancyLaws.{remove-redundant-row-infeasible, remove-redundant-row-unchanged}
+use Rattle.row.proofs.TighteningLaws.{tighten-coefficient-infeasible, tighten-coefficient-unchanged}
+use Rattle.semantics.specs.CallChecks.{callFault}
+use Rattle.semantics.specs.Demand2.{AnswersSame, Demand2, Demand2Runs, PassesWithin, Untouched, ones}
+use Rattle.semantics.specs.Perform.{Answer, Performed, act, perform, probed, propagated, propagatedRow, refused, removed, tightened}
+use Rattle.semantics.specs.Probe.{ProbeEnding, Probed, bothFeasible, fixed, infeasible, probe}
+use Rattle.semantics.specs.Run.{answersNone, step}
+use Rattle.semantics.specs.State.{Call, Kind, State, hasBudget, hasRow, hasTable, hasVariable, isOther, kindOf, other, probes, propagates, propagatesRow, removes, tightens, withBox, withRow}
+use Rattle.semantics.proofs.Accepted.{Accepted, accepted}
+use Rattle.semantics.proofs.CallLaws.{perform-accepted, propagate-row-infeasible-iff, propagate-row-same}
+use Rattle.semantics.proofs.ImplicationLaws.{recordTo-added}
+use Rattle.semantics.proofs.Preserved.{run-preserves, step-preserves}
+use Rattle.semantics.proofs.ProbeLaws.{probe-empty, probe-ind, probe-infeasible-iff, probe-passes0, probe-passes1}
+use Rattle.semantics.proofs.PropagateLaws.{propagate-infeasible-iff, propagate-passes}
+use Rattle.semantics.proofs.RowChange.{removes-untouched, tightens-untouched, withRow-same}
+
+-- ---- None exactly where the box is empty afterwards
+
+act-none : (k : Kind) (s : State) (c : Call) → Accepted k s c → T (answersNone (act k s c .answer)) ↔ (act k s c .state .box ≡ emptyBox (s .n))
+unfolding act answersNone withBox withRow isOther hasVariable
+act-none propagatesRow s c a = propagate-row-infeasible-iff (rowOf (s .n) (s .coefs) (c .row)) (at (s .rhs) (c .row)) (a .model .some) (a .model .box)
+act-none propagates s c a = propagate-infeasible-iff (c .budget) (s .m) (s .coefs) (s .rhs) (a .model .some) (a .model .box)
+act-none probes s c a =
+    probe-infeasible-iff (c .variable) (c .budget) (s .m) (s .coefs) (s .rhs) (s .table) (a .free tt) (a .model .some) (a .model .box)
+act-none tightens s c a =
+    rw (tighten-coefficient-infeasible (s .n) (rowOf (s .n) (s .coefs) (c .row)) (at (s .rhs) (c .row)) (s .box) (c .variable)) (isEmpty-test (s .n) (s .box))
+act-none removes s c a =
+    rw (remove-redundant-row-infeasible (s .n) (rowOf (s .n) (s .coefs) (c .row)) (at (s .rhs) (c .row)) (s .box)) (isEmpty-test (s .n) (s .box))
+act-none other s c a = absurd (a .kind)
+
+no-point : {n m : ℕ} {B C R x : List ℤ} → 0 < n → B ≡ emptyBox n → IntegerPoint n m B C R x → ⊥
+no-point {n} {x = x} h e p = not-in-empty n (boxAt n x) h (nonEmpty-at n x) (rw e at (in→Inside (p .inside)))
+
+-- ---- the numbers of an answer; t is the table afterwards
+
+abbrev Added : List ℕ → List ℕ → ProbeEnding → Type 0
+Added before t infeasible = Unit {0}
+Added before t (fixed v) = Unit {0}
+Added before t (bothFeasible a) = ones t ≡ ones before + a
+
+abbrev Numbers : State → Call → List ℕ → Answer → Type 0
+Numbers s c t (refused number) = Unit {0}
+Numbers s c t (propagatedRow o) = Unit {0}
+Numbers s c t (propagated e p) = PassesWithin (c .budget) p
+Numbers s c t (probed e s0 s1) =
+    (s .box ≢ emptyBox (s .n) → PassesWithin (c .budget) (s0 .passes) × PassesWithin (c .budget) (s1 .passes))
+    × (s .box ≡ emptyBox (s .n) → (s0 .passes ≡ 0) × (s1 .passes ≡ 0))
+    × Added (s .table) t e
+Numbers s c t (tightened o) = Unit {0}
+Numbers s c t (removed o) = Unit {0}
+
+module _ (s : State) (c : Call) (a : Accepted probes s c) where
+  abbrev result : Probed
+  result = probe (c .variable) (c .budget) (s .n) (s .m) (s .coefs) (s .rhs) (s .box) (s .table)
+
+  probe-numbers : Numbers s c (result .table) (probed (result .ending) (result .side0) (result .side1))
+  unfolding hasBudget hasVariable hasTable
+  probe-numbers = (
+    (λ ne. let h = a .budget tt .0 in
+        ⊎-elim (λ t. absurd (ne (isEmpty-test (s .n) (s .box) .0 t)))
+        (λ t. (
+          probe-passes0 (c .variable) (c .budget) (s .n) (s .m) (s .coefs) (s .rhs) (s .box) (s .table) t h,
+          probe-passes1 (c .variable) (c .budget) (s .n) (s .m) (s .coefs) (s .rhs) (s .box) (s .table) t h,
+        ))
+        (decide (isEmpty (s .n) (s .box)))),
+    (λ e. rw (e, probe-empty (c .variable) (c .budget) (s .n) (s .m) (s .coefs) (s .rhs) (s .table)) (refl, refl)),
+    probe-ind (c .variable) (c .budget) (s .n) (s .m) (s .coefs) (s .rhs) (s .box) (s .table) (λ r. Added (s .table) (r .table) (r .ending))
+        (λ _. tt) (λ _ _ _. tt) (λ _ _ _. tt) (λ _ _ _. tt)
+        (λ _ _ _. recordTo-added (s .n) (c .variable) (s .box) _ _ (s .table) (a .variable tt) (a .table tt)),
+  )
+
+act-numbers : (k : Kind) (s : State) (c : Call) → Accepted k s c → Numbers s c (act k s c .state .table) (act k s c .answer)
+unfolding act withBox withRow hasBudget
+act-numbers propagatesRow s c a = tt
+act-numbers propagates s c a = propagate-passes (s .n) (s .m) (s .coefs) (s .rhs) (c .budget) (s .box) (a .budget tt .0)
+act-numbers probes s c a = probe-numbers s c a
+act-numbers tightens s c a = tt
+act-numbers removes s c a = tt
+act-numbers other s c a = tt
+
+-- ---- Same changes nothing, and what a kind leaves alone
+
+act-same : (k : Kind) (s : State) (c : Call) → Accepted k s c → AnswersSame (act k s c .answer) → act k s c .state ≡ s
+unfolding act AnswersSame withBox isOther isChanged
+act-same propagatesRow s c a e =
+    ap (λ (P : List ℤ). withBox s P (s .table)) (propagate-row-same (rowOf (s .n) (s .coefs) (c .row)) (at (s .rhs) (c .row)) (a .model .box) e)
+act-same propagates s c a z = absurd z
+act-same probes s c a z = absurd z
+act-same tightens s c a e =
+    let q = tighten-coefficient-unchanged (s .n) (rowOf (s .n) (s .coefs) (c .row)) (at (s .rhs) (c .row)) (s .box) (c .variable) (rw e tt) in
+    withRow-same s (c .row) _ _ (q .0) (q .1)
+act-same removes s c a e =
+    let q = remove-redundant-row-unchanged (s .n) (rowOf (s .n) (s .coefs) (c .row)) (at (s .rhs) (c .row)) (s .box) (rw e tt) in
+    withRow-same s (c .row) _ _ (q .0) (q .1)
+act-same other s c a z = absurd z
+
+act-untouched : (k : Kind) (s : State) (c : Call) → Accepted k s c → Untouched k s c (act k s c .state)
+unfolding act Untouched withBox hasRow
+act-untouched propagatesRow s c a = (refl, refl, refl)
+act-untouched propagates s c a = (refl, refl, refl)
+act-untouched probes s c a = (refl, refl)
+act-untouched tightens s c a = tightens-untouched s c (a .model) (a .row tt)
+act-untouched removes s c a = removes-untouched s c (a .model) (a .row tt)
+act-untouched other s c a = refl
+
+-- ---- the demand
+
+-- what holds of an accepted call as its kind acts holds of it as it is performed
+of-act : (s : State) (c : Call) → callFault s c ≡ 0 → (P : Performed → Type 0) → P (act (kindOf (c .kind)) s c) → P (perform s c)
+of-act s c e P p = subst P (sym (perform-accepted s c e)) p
+
+pub demand-2 : Demand2
+unfolding Demand2 step
+demand-2 s c e =
+    let k = kindOf (c .kind) in
+    let a = accepted s c e in
+    let p = step-preserves s c in
+    let none = of-act s c e (λ r. T (answersNone (r .answer)) ↔ (r .state .box ≡ emptyBox (s .n))) (act-none k s c a) in
+    let numbers = of-act s c e (λ r. Numbers s c (r .state .table) (r .answer)) (act-numbers k s c a) in
+    let with : (b : Answer) → perform s c .answer ≡ b → Numbers s c (perform s c .state .table) b =
+    (λ b g. subst (Numbers s c (perform s c .state .table)) g numbers) in
+    record {
+      points = p .points;
+      fractional = p .fractional;
+      none = none;
+      noPoint = λ t x z. no-point (rw (p .sizes .0) (a .model .some)) (rw (p .sizes .0) (none .0 t)) (p .points x .1 z);
+      passes = λ b q g. with (propagated b q) g;
+      sidePasses = λ b s0 s1 g. with (probed b s0 s1) g .0;
+      emptySides = λ b s0 s1 g. with (probed b s0 s1) g .1;
+      added = λ b s0 s1 g. with (probed (bothFeasible b) s0 s1) g .2;
+      same = of-act s c e (λ r. AnswersSame (r .answer) → r .state ≡ s) (act-same k s c a);
+      sizes = p .sizes;
+      untouched = of-act s c e (λ r. Untouched k s c (r .state)) (act-untouched k s c a);
+      valid = p .valid;
+    }
+
+pub demand-2-runs : Demand2Runs
+unfolding Demand2Runs
+demand-2-runs s cs =
+    let p = run-preserves s cs in record { points = p .points; fractional = p .fractional; sizes = p .sizes; valid = p .valid }

@@ -1,0 +1,97 @@
+-- Demand 3: after the parting a run keeps every probed fixpoint inside its box, so two ends at rest lie inside each other.
+use Prim.Native.Nat.{_*_, _<_, ℕ}
+use lib.Dec.{T}
+use lib.IntN.{ℤ}
+use mathlib.Core.List.{List, [], _∷_}
+use mathlib.Core.Logic.{_↔_, inl, inr, ⊎-elim}
+use mathlib.Core.Path.{_∙_, _≡_, refl, subst, sym}
+use Rattle.model.specs.Box.{Inside}
+use Rattle.model.proofs.BoxLaws.{inside-antisymm, inside-refl, not-in-empty}
+use Rattle.semantics.specs.CallChecks.{callFault}
+use Rattle.semantics.specs.Fixpoint.{ProbedFixpoint, ProbingFixpoint}
+use Rattle.semantics.specs.Points.{AtRest, PointOf, TableHolds, ValidModelOf, ValidState}
+use Rattle.semantics.specs.Run.{run, step}
+use Rattle.semantics.specs.State.{Call, State, kindOf, withBox}
+use Rattle.semantics.specs.TwoRuns.{Demand3, Narrows, narrows}
+use Rattle.semantics.proofs.Accepted.{accepted, handed-in-valid}
+use Rattle.semantics.proofs.CallLaws.{Narrowed, NarrowedTo, act-narrowed, narrowed-refl, step-ind}
+use Rattle.semantics.proofs.ImplicationLaws.{zeros-hold}
+use Rattle.semantics.proofs.Preserved.{Preserves, narrowed-inside, narrowed-points, preserves-trans, run-preserves, step-preserves}
+
+-- ---- a run of visits, settles and probes narrows the box
+
+unchanged-narrowed : (s : State) → ValidModelOf s → NarrowedTo s s
+unfolding withBox
+unchanged-narrowed s v = record { box = s .box; table = s .table; is = refl; narrowed = narrowed-refl s v }
+
+narrowed-trans : {s r u : State} → 0 < s .n → NarrowedTo s r → NarrowedTo r u → NarrowedTo s u
+unfolding withBox
+narrowed-trans {s} {r} {u} h p q = go (subst (λ (z : State). NarrowedTo z u) (p .is) q)
+  where
+    w : Narrowed s (p .box) (p .table)
+    w = p .narrowed
+
+    go : NarrowedTo (withBox s (p .box) (p .table)) u → NarrowedTo s u
+    go q = record {
+      box = q .box;
+      table = q .table;
+      is = q .is;
+      narrowed = record {
+        box = ⊎-elim (λ e. inl e) (λ i. inr (i .0, narrowed-inside w h (i .0) (i .1))) (q .narrowed .box);
+        keeps = λ o i. q .narrowed .keeps o (w .keeps o i);
+        holds = λ x o i. q .narrowed .holds x (narrowed-points w h x .1 o) (w .holds x o i);
+        table = λ v. q .narrowed .table (w .table v);
+      };
+    }
+
+step-narrowed : (s : State) (c : Call) → ValidModelOf s → (callFault s c ≡ 0 → T (narrows (kindOf (c .kind)))) → NarrowedTo s (step s c)
+step-narrowed s c v f =
+    step-ind s c (NarrowedTo s) (λ e. act-narrowed (kindOf (c .kind)) s c (f e) (accepted s c e)) (unchanged-narrowed s v)
+
+run-narrowed : (s : State) (cs : List Call) → ValidState s → Narrows s cs → NarrowedTo s (run s cs)
+unfolding run Narrows
+run-narrowed s [] v p = unchanged-narrowed s (v .model)
+run-narrowed s (c ∷ cs) v p =
+    narrowed-trans (v .model .some) (step-narrowed s c (v .model) (p .0)) (run-narrowed (step s c) cs (step-preserves s c .valid v) (p .1))
+
+-- ---- two ends of such runs from s
+
+-- a probed fixpoint at the one end lies inside the other
+inside-other : {s : State} {P Q : List ℤ} {t u : List ℕ} → 0 < s .n → Narrowed s P t → Narrowed s Q u
+    → ProbedFixpoint (s .n) (s .m) (s .coefs) (s .rhs) P → Inside (s .n) P Q
+inside-other {s} {P} h a b p = b .keeps p (narrowed-inside a h (p .fixpoint .nonEmpty) (inside-refl (s .n) P))
+
+same-box : {s : State} {P Q : List ℤ} {t u : List ℕ} → 0 < s .n → Narrowed s P t → Narrowed s Q u
+    → ProbingFixpoint (s .n) (s .m) (s .coefs) (s .rhs) P → ProbingFixpoint (s .n) (s .m) (s .coefs) (s .rhs) Q → P ≡ Q
+unfolding ProbingFixpoint
+same-box h a b (inl e) (inl f) = e ∙ sym f
+same-box {s} {P} {Q} h a b (inl e) (inr q) = absurd (not-in-empty (s .n) Q h (q .fixpoint .nonEmpty) (subst (Inside (s .n) Q) e (inside-other h b a q)))
+same-box {s} {P} {Q} h a b (inr p) (inl f) = absurd (not-in-empty (s .n) P h (p .fixpoint .nonEmpty) (subst (Inside (s .n) P) f (inside-other h a b p)))
+same-box h a b (inr p) (inr q) =
+    inside-antisymm (p .fixpoint .nonEmpty) (q .fixpoint .nonEmpty) (inside-other h a b p) (inside-other h b a q)
+
+-- at rest is judged with the rows of the state, which are those of s
+same-end : {s r u : State} → 0 < s .n → NarrowedTo s r → NarrowedTo s u → AtRest r → (r .box ≡ u .box) ↔ AtRest u
+unfolding withBox
+same-end {s} {r} {u} h a b = rw (a .is, b .is) (λ p. (
+  (λ e. subst (ProbingFixpoint (s .n) (s .m) (s .coefs) (s .rhs)) e p),
+  (λ q. same-box h (a .narrowed) (b .narrowed) p q),
+))
+
+-- ---- the demand
+
+pub demand-3 : Demand3
+unfolding Demand3
+demand-3 s before one two g p1 p2 =
+    let k = run-preserves s before in
+    let v = k .valid (handed-in-valid s g) in
+    let ends : (cs : List Call) → Preserves s (run (run s before) cs) = (λ cs. preserves-trans k (run-preserves (run s before) cs)) in
+    let implied : (cs : List Call) (x : List ℤ) → PointOf s x → TableHolds (s .n) (run (run s before) cs .table) x =
+    (λ cs x p. rw (ends cs .sizes .0) at (ends cs .holds x p (rw (g .zeros) (zeros-hold (s .n) (4 * (s .n * s .n)) x)))) in
+    record {
+      sameEnd = same-end (v .model .some) (run-narrowed (run s before) one v p1) (run-narrowed (run s before) two v p2);
+      points1 = ends one .points;
+      points2 = ends two .points;
+      implied1 = implied one;
+      implied2 = implied two;
+    }

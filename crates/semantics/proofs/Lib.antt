@@ -1,0 +1,15 @@
+pub mod WorkedBooks
+pub mod Corners
+pub mod Accepted
+pub mod Demand1
+pub mod RowChange
+pub mod ImplicationLaws
+pub mod Tally
+pub mod PropagateLaws
+pub mod ProbeLaws
+pub mod Convergence
+pub mod CallLaws
+pub mod Preserved
+pub mod Reachability
+pub mod Demand2
+pub mod Demand3

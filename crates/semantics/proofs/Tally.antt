@@ -1,0 +1,27 @@
+-- The four counts of a list of calls add up to the number of the calls.
+use Prim.Native.Nat.{_+_, ℕ}
+use lib.ListN.{length}
+use mathlib.Core.List.{List, [], _∷_}
+use mathlib.Core.Path.{_≡_}
+use native.Mathlib.Omega.{arith}
+use Rattle.semantics.specs.Run.{CallClass, Counts, changedCall, classOf, countCall, infeasibleCall, noCounts, refusedCall, step, tally, unchangedCall}
+use Rattle.semantics.specs.State.{Call, State}
+
+abbrev pub total : Counts → ℕ
+total k = k .refusals + k .infeasibles + k .changes + k .unchanges
+
+count-total : (q : CallClass) (k : Counts) → total (countCall q k) ≡ total k + 1
+unfolding countCall
+count-total refusedCall k = omega arith
+count-total infeasibleCall k = omega arith
+count-total changedCall k = omega arith
+count-total unchangedCall k = omega arith
+
+pub tally-total : (k : Counts) (s : State) (cs : List Call) → total (tally k s cs) ≡ total k + length cs
+unfolding tally
+tally-total k s [] = omega arith
+tally-total k s (c ∷ cs) = omega (arith, tally-total (countCall (classOf s c) k) (step s c) cs, count-total (classOf s c) k)
+
+pub tally-length : (s : State) (cs : List Call) → total (tally noCounts s cs) ≡ length cs
+unfolding noCounts
+tally-length s cs = omega (arith, tally-total noCounts s cs)

@@ -1,0 +1,90 @@
+-- Demand 2, of the definitions: what an accepted call means for the points, its answer's numbers, and what it leaves alone.
+use Prim.Native.Nat.{_*_, _+_, _<_, _≤_, suc, ℕ}
+use lib.Dec.{T, eqb}
+use lib.IntN.{ℤ}
+use mathlib.Core.Bool.{cond}
+use mathlib.Core.List.{List, [], _∷_}
+use mathlib.Core.Logic.{_↔_, _≢_}
+use mathlib.Core.Path.{_≡_}
+use Rattle.model.specs.Box.{at, emptyBox}
+use Rattle.row.specs.Outcome.{unchanged}
+use Rattle.semantics.specs.CallChecks.{callFault}
+use Rattle.semantics.specs.Perform.{Answer, perform, probed, propagated, propagatedRow, refused, removed, tightened}
+use Rattle.semantics.specs.Points.{FractionalPointOf, PointOf, ValidState}
+use Rattle.semantics.specs.Probe.{ProbeEnding, Side, bothFeasible}
+use Rattle.semantics.specs.Propagate.{Ending}
+use Rattle.semantics.specs.Run.{answersNone, run}
+use Rattle.semantics.specs.State.{Call, Kind, State, kindOf, other, probes, propagates, propagatesRow, removes, tightens}
+
+-- how many bytes of a table are 1
+unfoldable pub ones : List ℕ → ℕ
+ones [] = 0
+ones (x ∷ xs) = cond (eqb x 1) (suc (ones xs)) (ones xs)
+
+-- "passes made, 1 to the pass budget"
+abbrev pub PassesWithin : ℕ → ℕ → Type 0
+PassesWithin budget passes = (1 ≤ passes) × (passes ≤ budget)
+
+-- Same: a visit, a sharpen or a drop that changed nothing
+unfoldable pub AnswersSame : Answer → Type 0
+AnswersSame (refused number) = ⊥
+AnswersSame (propagatedRow o) = o ≡ unchanged
+AnswersSame (propagated e p) = ⊥
+AnswersSame (probed e s0 s1) = ⊥
+AnswersSame (tightened o) = o ≡ unchanged
+AnswersSame (removed o) = o ≡ unchanged
+
+-- what a call of a kind leaves as it was
+unfoldable pub Untouched : Kind → State → Call → State → Type 0
+Untouched propagatesRow s c r = (r .coefs ≡ s .coefs) × (r .rhs ≡ s .rhs) × (r .table ≡ s .table)
+Untouched propagates s c r = (r .coefs ≡ s .coefs) × (r .rhs ≡ s .rhs) × (r .table ≡ s .table)
+Untouched probes s c r = (r .coefs ≡ s .coefs) × (r .rhs ≡ s .rhs)
+Untouched tightens s c r =
+    (r .box ≡ s .box) × (r .table ≡ s .table)
+    × ((i : ℕ) → i ≢ c .row * s .n + c .variable → at (r .coefs) i ≡ at (s .coefs) i)
+    × ((i : ℕ) → i ≢ c .row → at (r .rhs) i ≡ at (s .rhs) i)
+Untouched removes s c r =
+    (r .box ≡ s .box) × (r .table ≡ s .table)
+    × ((i j : ℕ) → j < s .n → i ≢ c .row → at (r .coefs) (i * s .n + j) ≡ at (s .coefs) (i * s .n + j))
+    × ((i : ℕ) → i ≢ c .row → at (r .rhs) i ≡ at (s .rhs) i)
+Untouched other s c r = r ≡ s
+
+-- of an accepted call
+pub record CallMeans (s : State) (c : Call) : Type 0 where
+  -- "After it the integer points are exactly those before it, and no fractional point is added."
+  pub points : (x : List ℤ) → PointOf (perform s c .state) x ↔ PointOf s x
+  pub fractional : (x : List ℤ) (d : ℕ) → FractionalPointOf (perform s c .state) x d → FractionalPointOf s x d
+  -- None exactly where the box is empty afterwards; "`None` means that no integer point exists."
+  pub none : T (answersNone (perform s c .answer)) ↔ (perform s c .state .box ≡ emptyBox (s .n))
+  pub noPoint : T (answersNone (perform s c .answer)) → (x : List ℤ) → PointOf s x → ⊥
+  -- "every accepted call ends within its pass budget": a settle with 1 to budget passes, a probe's sides likewise, or 0 and 0 on
+  -- the empty box
+  pub passes : (e : Ending) (p : ℕ) → perform s c .answer ≡ propagated e p → PassesWithin (c .budget) p
+  pub sidePasses : (e : ProbeEnding) (s0 s1 : Side) → perform s c .answer ≡ probed e s0 s1 → s .box ≢ emptyBox (s .n)
+      → PassesWithin (c .budget) (s0 .passes) × PassesWithin (c .budget) (s1 .passes)
+  pub emptySides : (e : ProbeEnding) (s0 s1 : Side) → perform s c .answer ≡ probed e s0 s1 → s .box ≡ emptyBox (s .n)
+      → (s0 .passes ≡ 0) × (s1 .passes ≡ 0)
+  -- "The answer Both has the number of bytes that went from 0 to 1."
+  pub added : (a : ℕ) (s0 s1 : Side) → perform s c .answer ≡ probed (bothFeasible a) s0 s1
+      → ones (perform s c .state .table) ≡ ones (s .table) + a
+  -- Same changes nothing
+  pub same : AnswersSame (perform s c .answer) → perform s c .state ≡ s
+  -- "where one that the call's rule doesn't name stays"
+  pub sizes : (perform s c .state .n ≡ s .n) × (perform s c .state .m ≡ s .m)
+  pub untouched : Untouched (kindOf (c .kind)) s c (perform s c .state)
+  -- a valid state stays valid: a list of calls need not check the model again
+  pub valid : ValidState s → ValidState (perform s c .state)
+
+-- of any list of calls, refused ones among them
+pub record RunMeans (s : State) (cs : List Call) : Type 0 where
+  pub points : (x : List ℤ) → PointOf (run s cs) x ↔ PointOf s x
+  pub fractional : (x : List ℤ) (d : ℕ) → FractionalPointOf (run s cs) x d → FractionalPointOf s x d
+  pub sizes : (run s cs .n ≡ s .n) × (run s cs .m ≡ s .m)
+  pub valid : ValidState s → ValidState (run s cs)
+
+-- proved as `demand-2` and `demand-2-runs`
+unfoldable pub Demand2 : Type 0
+Demand2 = (s : State) (c : Call) → callFault s c ≡ 0 → CallMeans s c
+
+unfoldable pub Demand2Runs : Type 0
+Demand2Runs = (s : State) (cs : List Call) → RunMeans s cs

@@ -1,0 +1,16 @@
+pub mod Propagate
+pub mod Probe
+pub mod Fixpoint
+pub mod State
+pub mod CallChecks
+pub mod Perform
+pub mod Run
+pub mod Points
+pub mod RestTest
+pub mod Demand1
+pub mod Demand2
+pub mod Convergence
+pub mod TwoRuns
+pub mod Books
+pub mod WorkedBooks
+pub mod Corners

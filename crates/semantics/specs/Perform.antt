@@ -1,0 +1,56 @@
+-- One call: its whole answer and the state afterwards.
+use Prim.Native.Nat.{ℕ}
+use lib.Dec.{eqb}
+use mathlib.Core.Bool.{cond}
+use Rattle.model.specs.Box.{at}
+use Rattle.model.specs.Point.{rowOf}
+use Rattle.row.specs.Outcome.{Outcome}
+use Rattle.row.specs.Propagation.{propagateRow}
+use Rattle.row.specs.Redundancy.{removeRedundantRow}
+use Rattle.row.specs.Tightening.{tightenCoefficient}
+use Rattle.semantics.specs.CallChecks.{callFault}
+use Rattle.semantics.specs.Probe.{ProbeEnding, Side, probe}
+use Rattle.semantics.specs.Propagate.{Ending, propagate}
+use Rattle.semantics.specs.State.{Call, Kind, State, kindOf, other, probes, propagates, propagatesRow, removes, tightens, withBox, withRow}
+
+-- 01's answers: the number of the check that refused the call; or the case and the numbers of the call's kind
+pub data Answer : Type 0 where
+  refused : ℕ → Answer
+  -- visit: None, Narrowed, Same
+  propagatedRow : Outcome → Answer
+  -- settle: None, Settled or Spent, and the passes made
+  propagated : Ending → ℕ → Answer
+  -- probe: None, Fixed v, Both with the bytes that became 1, and the two sides' passes and Spent
+  probed : ProbeEnding → Side → Side → Answer
+  -- sharpen: None, Sharpened, Same
+  tightened : Outcome → Answer
+  -- drop: None, Dropped, Same
+  removed : Outcome → Answer
+
+pub record Performed : Type 0 where
+  pub answer : Answer
+  pub state : State
+
+-- an accepted call of each kind; its rule's own definition says the rest
+unfoldable pub act : Kind → State → Call → Performed
+act propagatesRow s c =
+    let r = propagateRow (s .n) (rowOf (s .n) (s .coefs) (c .row)) (at (s .rhs) (c .row)) (s .box) in
+    record { answer = propagatedRow (r .outcome); state = withBox s (r .box) (s .table) }
+act propagates s c =
+    let r = propagate (c .budget) (s .n) (s .m) (s .coefs) (s .rhs) (s .box) in
+    record { answer = propagated (r .ending) (r .passes); state = withBox s (r .box) (s .table) }
+act probes s c =
+    let r = probe (c .variable) (c .budget) (s .n) (s .m) (s .coefs) (s .rhs) (s .box) (s .table) in
+    record { answer = probed (r .ending) (r .side0) (r .side1); state = withBox s (r .box) (r .table) }
+act tightens s c =
+    let r = tightenCoefficient (s .n) (rowOf (s .n) (s .coefs) (c .row)) (at (s .rhs) (c .row)) (s .box) (c .variable) in
+    record { answer = tightened (r .outcome); state = withRow s (c .row) (r .coefs) (r .rhs) }
+act removes s c =
+    let r = removeRedundantRow (s .n) (rowOf (s .n) (s .coefs) (c .row)) (at (s .rhs) (c .row)) (s .box) in
+    record { answer = removed (r .outcome); state = withRow s (c .row) (r .coefs) (r .rhs) }
+act other s c = record { answer = refused 11; state = s }
+
+-- "The first [check] that applies to the call is the answer; every lent number stays." Everything else is accepted.
+unfoldable pub perform : State → Call → Performed
+perform s c =
+    cond (eqb (callFault s c) 0) (act (kindOf (c .kind)) s c) (record { answer = refused (callFault s c); state = s })

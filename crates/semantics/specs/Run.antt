@@ -1,0 +1,85 @@
+-- Runs over a list of calls, and the four counts of a call list (01's run sheet), all read off `perform`.
+use Prim.Native.Nat.{_+_, ℕ}
+use lib.Dec.{eqb}
+use mathlib.Core.Bool.{Bool, _&&_, cond, false, true}
+use mathlib.Core.List.{List, [], _∷_}
+use Rattle.model.specs.Box.{sameList}
+use Rattle.row.specs.Outcome.{isInfeasible}
+use Rattle.semantics.specs.Perform.{Answer, perform, probed, propagated, propagatedRow, refused, removed, tightened}
+use Rattle.semantics.specs.Probe.{ProbeEnding, bothFeasible, fixed, infeasible}
+use Rattle.semantics.specs.Propagate.{isNone}
+use Rattle.semantics.specs.State.{Call, State}
+
+-- the state that a call leaves: "A refused call .. leaves the state as it was"
+unfoldable pub step : State → Call → State
+step s c = perform s c .state
+
+-- "Each call in a list is given the state that the call before it left"
+unfoldable pub run : State → List Call → State
+run s [] = s
+run s (c ∷ cs) = run (step s c) cs
+
+-- ---- how a call counts
+
+-- "refused, None, changed (a bound, row or table byte), unchanged"
+pub data CallClass : Type 0 where
+  refusedCall infeasibleCall changedCall unchangedCall : CallClass
+
+unfoldable pub probeInfeasible : ProbeEnding → Bool
+probeInfeasible infeasible = true
+probeInfeasible (fixed v) = false
+probeInfeasible (bothFeasible c) = false
+
+-- the answer is None
+unfoldable pub answersNone : Answer → Bool
+answersNone (refused number) = false
+answersNone (propagatedRow o) = isInfeasible o
+answersNone (propagated e passes) = isNone e
+answersNone (probed e s0 s1) = probeInfeasible e
+answersNone (tightened o) = isInfeasible o
+answersNone (removed o) = isInfeasible o
+
+unfoldable pub isRefused : Answer → Bool
+isRefused (refused number) = true
+isRefused (propagatedRow o) = false
+isRefused (propagated e passes) = false
+isRefused (probed e s0 s1) = false
+isRefused (tightened o) = false
+isRefused (removed o) = false
+
+unfoldable pub sameBytes : List ℕ → List ℕ → Bool
+sameBytes [] [] = true
+sameBytes [] (y ∷ ys) = false
+sameBytes (x ∷ xs) [] = false
+sameBytes (x ∷ xs) (y ∷ ys) = eqb x y && sameBytes xs ys
+
+-- every bound, row number and table byte is as it was
+unfoldable pub sameState : State → State → Bool
+sameState s r =
+    sameList (s .box) (r .box) && sameList (s .coefs) (r .coefs) && sameList (s .rhs) (r .rhs) && sameBytes (s .table) (r .table)
+
+-- "A call that answers None counts there only, also where it voids the box."
+unfoldable pub classOf : State → Call → CallClass
+classOf s c =
+    cond (isRefused (perform s c .answer)) refusedCall
+    (cond (answersNone (perform s c .answer)) infeasibleCall (cond (sameState s (step s c)) unchangedCall changedCall))
+
+pub record Counts : Type 0 where
+  pub refusals : ℕ
+  pub infeasibles : ℕ
+  pub changes : ℕ
+  pub unchanges : ℕ
+
+unfoldable pub noCounts : Counts
+noCounts = record { refusals = 0; infeasibles = 0; changes = 0; unchanges = 0 }
+
+unfoldable pub countCall : CallClass → Counts → Counts
+countCall refusedCall k = record { refusals = k .refusals + 1; infeasibles = k .infeasibles; changes = k .changes; unchanges = k .unchanges }
+countCall infeasibleCall k = record { refusals = k .refusals; infeasibles = k .infeasibles + 1; changes = k .changes; unchanges = k .unchanges }
+countCall changedCall k = record { refusals = k .refusals; infeasibles = k .infeasibles; changes = k .changes + 1; unchanges = k .unchanges }
+countCall unchangedCall k = record { refusals = k .refusals; infeasibles = k .infeasibles; changes = k .changes; unchanges = k .unchanges + 1 }
+
+-- the counts after the calls from s, where k were counted before
+unfoldable pub tally : Counts → State → List Call → Counts
+tally k s [] = k
+tally k s (c ∷ cs) = tally (countCall (classOf s c) k) (step s c) cs
