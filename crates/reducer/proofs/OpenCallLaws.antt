@@ -1,0 +1,203 @@
+-- What the open calls share: which number refuses one, what it performs then and otherwise, the row that it is lent a part of, and
+-- what its answer means.
+use Prim.Native.Nat.{_*_, _+_, _-_, _<_, ℕ}
+use lib.Dec.{T, eqb}
+use lib.IntN.{ℤ}
+use lib.ListN.{drop, length, set, take}
+use lib.Seq.{drop-drop}
+use mathlib.Core.Bool.{Bool, cond, false, not, true}
+use mathlib.Core.List.{List, [], _++_}
+use mathlib.Core.Logic.{_↔_, ⊎-elim}
+use mathlib.Core.Path.{_∙_, _≡_, ap, refl, subst, sym}
+use native.Mathlib.Omega.{arith}
+use Rattle.integer.proofs.Tests.{T→false, decide, eqb-test, test-false, test-true}
+use Rattle.model.specs.Box.{at}
+use Rattle.model.specs.Checks.{first, none}
+use Rattle.model.specs.Point.{rowOf}
+use Rattle.model.specs.Valid.{ValidModel}
+use Rattle.model.proofs.CheckLaws.{fault-none}
+use Rattle.row.specs.Outcome.{Outcome}
+use Rattle.row.specs.Propagation.{propagateRow}
+use Rattle.row.specs.Tightening.{NewRow}
+use Rattle.semantics.specs.CallChecks.{callFault, lentTable, recordChecks}
+use Rattle.semantics.specs.Convergence.{RestIsTested}
+use Rattle.semantics.specs.Demand2.{CallMeans, Demand2}
+use Rattle.semantics.specs.Perform.{Answer, Performed, act, perform, probed, propagated, propagatedRow, refused}
+use Rattle.semantics.specs.Points.{AtRest}
+use Rattle.semantics.specs.Probe.{Probed, probe}
+use Rattle.semantics.specs.Propagate.{Propagation, propagate}
+use Rattle.semantics.specs.RestTest.{isProbingFixpoint, restFault}
+use Rattle.semantics.specs.Run.{answersNone, isRefused, step}
+use Rattle.semantics.specs.State.{Call, Kind, State, hasRow, hasTable, kindOf, other, splice, withBox, withRow}
+use Rattle.semantics.proofs.Accepted.{accepted, fault-of-own, modelFaultOf}
+use Rattle.semantics.proofs.CallLaws.{perform-accepted}
+use Rattle.semantics.proofs.Convergence.{rest-test}
+use Rattle.semantics.proofs.Demand2.{demand-2}
+use Rattle.semantics.proofs.Preserved.{Preserves, step-preserves}
+use Rattle.reducer.specs.OpenCalls.{Ends, Means, RestVerdict, atRest, callOf, notAtRest, performed, refusedRest, rest, stateOf}
+
+-- ---- the number that refuses
+
+pub kind-other : (k : ℕ) → (k ≡ 1 → ⊥) → (k ≡ 2 → ⊥) → (k ≡ 3 → ⊥) → (k ≡ 4 → ⊥) → (k ≡ 5 → ⊥) → kindOf k ≡ other
+unfolding kindOf
+kind-other k a b c d e = rw (
+  test-false (eqb k 1) (eqb-test k 1) a,
+  test-false (eqb k 2) (eqb-test k 2) b,
+  test-false (eqb k 3) (eqb-test k 3) c,
+  test-false (eqb k 4) (eqb-test k 4) d,
+  test-false (eqb k 5) (eqb-test k 5) e,
+)
+
+-- of a call on s that is lent all of it; f is what the checks of the model (and table) come to
+module _ (s : State) (kind row variable budget : ℕ) {f : ℕ} (h : f ≡ modelFaultOf (kindOf kind) s) where
+  fault-is : callFault s (callOf s kind row variable budget)
+      ≡ cond (eqb f 0) (first (recordChecks (kindOf kind) s (callOf s kind row variable budget))) f
+  unfolding callOf
+  fault-is = fault-of-own s (callOf s kind row variable budget) refl refl refl ∙ rw h
+
+  pub model-refuses : (f ≡ 0 → ⊥) → f ≡ callFault s (callOf s kind row variable budget)
+  model-refuses n = sym (fault-is ∙ rw (test-false (eqb f 0) (eqb-test f 0) n))
+
+  pub own-fault : {r : ℕ} → f ≡ 0 → r ≡ first (recordChecks (kindOf kind) s (callOf s kind row variable budget))
+      → r ≡ callFault s (callOf s kind row variable budget)
+  own-fault z e = e ∙ sym (fault-is ∙ rw (test-true (eqb f 0) (eqb-test f 0) z))
+
+pub no-table : (k : Kind) (s : State) → T (not (hasTable k)) → lentTable k s ≡ none
+unfolding lentTable
+no-table k s t = rw (T→false (hasTable k) t)
+
+-- ---- what a call performs
+
+pub perform-refused : (s : State) (c : Call) {f : ℕ} → f ≡ callFault s c → (f ≡ 0 → ⊥) → performed (refused f) s ≡ perform s c
+unfolding perform performed
+perform-refused s c e n = rw (e, test-false (eqb (callFault s c) 0) (eqb-test (callFault s c) 0) (λ z. n (e ∙ z)))
+
+-- an accepted call with a row
+pub on-row : (n m : ℕ) (B C R : List ℤ) (kind row variable : ℕ) → T (hasRow (kindOf kind))
+    → callFault (stateOf n m B C R []) (callOf (stateOf n m B C R []) kind row variable 0) ≡ 0 → ValidModel n m B C R × (row < m)
+unfolding stateOf callOf
+on-row n m B C R kind row variable t e =
+    let a = accepted (stateOf n m B C R []) (callOf (stateOf n m B C R []) kind row variable 0) e in (a .model, a .row t)
+
+-- what the row's own call answered and left (o, Q) is what the visit performs
+module _ (n m : ℕ) (B C R : List ℤ) (row : ℕ) {x : Answer} {o : Outcome} {Q : List ℤ} where
+  pub row-propagated : let s = stateOf n m B C R [] in
+      let p = propagateRow n (rowOf n C row) (at R row) B in
+      callFault s (callOf s 1 row 0 0) ≡ 0 → x ≡ propagatedRow o → (o ≡ p .outcome) × (Q ≡ p .box)
+      → performed x (stateOf n m Q C R []) ≡ perform s (callOf s 1 row 0 0)
+  unfolding stateOf callOf performed act kindOf withBox
+  row-propagated f e h =
+      let s = stateOf n m B C R [] in sym (perform-accepted s (callOf s 1 row 0 0) f ∙ rw (e, h .0, h .1))
+
+-- the matrix with the numbers A in the part that the code lent of row r
+abbrev pub withPart : List ℤ → ℕ → ℕ → List ℤ → List ℤ
+withPart C r n A = take (r * n) C ++ (A ++ drop (r * n + n - r * n) (drop (r * n) C))
+
+part-spliced : (C A : List ℤ) (r n : ℕ) → length A ≡ n → withPart C r n A ≡ splice C A (r * n)
+unfolding splice
+part-spliced C A r n e = let k : r * n + n - r * n ≡ n = omega arith in rw (k, drop-drop n (r * n) C, e)
+
+-- the same of a call c that may change its row: p is what its rule says of the row
+module _ (n m : ℕ) (B C R : List ℤ) (row : ℕ) (p : NewRow) (F : Outcome → Answer) (c : Call) {x : Answer} {o : Outcome} {A : List ℤ} {b : ℤ} where
+  pub row-changed : let s = stateOf n m B C R [] in
+      act (kindOf (c .kind)) s c ≡ record { answer = F (p .outcome); state = withRow s row (p .coefs) (p .rhs) }
+      → callFault s c ≡ 0 → x ≡ F o → length A ≡ n → (o ≡ p .outcome) × ((A ≡ p .coefs) × (b ≡ p .rhs))
+      → performed x (stateOf n m B (withPart C row n A) (set R row b) []) ≡ perform s c
+  unfolding stateOf performed withRow
+  row-changed k f e l h =
+      sym (perform-accepted (stateOf n m B C R []) c f ∙ k ∙ rw (part-spliced C A row n l, e, h .0, h .1 .0, h .1 .1))
+
+-- the same of a settle and of a probe: w is what the rows' propagation, or the probing, came to
+module _ (n m : ℕ) (B C R : List ℤ) (budget : ℕ) where
+  pub rows-propagated : let s = stateOf n m B C R [] in
+      callFault s (callOf s 2 0 0 budget) ≡ 0 → (w : Propagation) → w ≡ propagate budget n m C R B
+      → performed (propagated (w .ending) (w .passes)) (stateOf n m (w .box) C R []) ≡ perform s (callOf s 2 0 0 budget)
+  unfolding stateOf callOf performed act kindOf withBox
+  rows-propagated f w h = let s = stateOf n m B C R [] in sym (perform-accepted s (callOf s 2 0 0 budget) f ∙ rw h)
+
+  pub variable-probed : (t : List ℕ) (variable : ℕ) → let s = stateOf n m B C R t in
+      callFault s (callOf s 3 0 variable budget) ≡ 0 → (w : Probed) → w ≡ probe variable budget n m C R B t
+      → performed (probed (w .ending) (w .side0) (w .side1)) (stateOf n m (w .box) C R (w .table)) ≡ perform s (callOf s 3 0 variable budget)
+  unfolding stateOf callOf performed act kindOf withBox
+  variable-probed t variable f w h = let s = stateOf n m B C R t in sym (perform-accepted s (callOf s 3 0 variable budget) f ∙ rw h)
+
+-- ---- what its answer means, refused or not
+
+-- a call whose answer is not `refused` was accepted
+taken : (s : State) (c : Call) (P : Answer → Type 0) → ((number : ℕ) → P (refused number) → ⊥) → P (perform s c .answer) → callFault s c ≡ 0
+unfolding perform
+taken s c P n p = ⊎-elim
+    (λ t. eqb-test (callFault s c) 0 .0 t)
+    (λ t. absurd (n (callFault s c) (rw (T→false (eqb (callFault s c) 0) t) at p)))
+    (decide (eqb (callFault s c) 0))
+
+module _ (s r : State) (c : Call) (a : Answer) (e : performed a r ≡ perform s c) where
+  answered : perform s c .answer ≡ a
+  unfolding performed
+  answered = sym (ap (λ (p : Performed). p .answer) e)
+
+  preserved : Preserves s r
+  unfolding performed step
+  preserved = subst (Preserves s) (sym (ap (λ (p : Performed). p .state) e)) (step-preserves s c)
+
+  accepted-by : (P : Answer → Type 0) → ((number : ℕ) → P (refused number) → ⊥) → P a → CallMeans s c
+  unfolding Demand2
+  accepted-by P n p = demand-2 s c (taken s c P n (subst P (sym answered) p))
+
+  means-performed : Means s r a
+  unfolding answersNone
+  means-performed = record {
+    points = preserved .points;
+    fractional = preserved .fractional;
+    noPoint = λ t.
+        accepted-by (λ b. T (answersNone b)) (λ _ z. z) t .noPoint (subst (λ b. T (answersNone b)) (sym answered) t);
+  }
+
+  ends-performed : Ends (c .budget) s a
+  unfolding isRefused
+  ends-performed = record {
+    passes = λ b p g. accepted-by (λ d. T (not (isRefused d))) (λ _ z. z) (rw g tt) .passes b p (answered ∙ g);
+    sides = λ b s0 s1 g. accepted-by (λ d. T (not (isRefused d))) (λ _ z. z) (rw g tt) .sidePasses b s0 s1 (answered ∙ g);
+  }
+
+  -- a call's promises, all of them from the first
+  pub promised : (performed a r ≡ perform s c) × Means s r a
+  promised = (e, means-performed)
+
+  pub promised-ends : (performed a r ≡ perform s c) × (Means s r a × Ends (c .budget) s a)
+  promised-ends = (e, (means-performed, ends-performed))
+
+-- ---- the rest call
+
+pub rest-refused : (s : State) {f : ℕ} → f ≡ restFault s → (f ≡ 0 → ⊥) → refusedRest f ≡ rest s
+unfolding rest
+rest-refused s e n = rw (e, test-false (eqb (restFault s) 0) (eqb-test (restFault s) 0) (λ z. n (e ∙ z)))
+
+pub rest-tested : (s : State) {b : Bool} → restFault s ≡ 0 → b ≡ isProbingFixpoint (s .n) (s .m) (s .coefs) (s .rhs) (s .box)
+    → cond b atRest notAtRest ≡ rest s
+unfolding rest
+rest-tested s z e = rw (e, z)
+
+-- a verdict other than `atRest`
+abbrev NotYes : RestVerdict → Type 0
+NotYes (refusedRest number) = Unit {0}
+NotYes notAtRest = Unit {0}
+NotYes atRest = ⊥
+
+rest-yes : (a b : Bool) (f : ℕ) → (cond a (cond b atRest notAtRest) (refusedRest f) ≡ atRest) ↔ (T a × T b)
+rest-yes true true f = ((λ _. (tt, tt)), (λ _. refl))
+rest-yes true false f = ((λ e. absurd (subst NotYes e tt)), (λ h. absurd (h .1)))
+rest-yes false b f = ((λ e. absurd (subst NotYes e tt)), (λ h. absurd (h .0)))
+
+-- both promises, from the first
+pub rest-promised : (s : State) {v : RestVerdict} → v ≡ rest s → (v ≡ rest s) × ((v ≡ atRest) ↔ ((restFault s ≡ 0) × AtRest s))
+unfolding rest restFault RestIsTested
+rest-promised s e =
+    let f = restFault s in
+    let x = isProbingFixpoint (s .n) (s .m) (s .coefs) (s .rhs) (s .box) in
+    let y = rest-yes (eqb f 0) x f in
+    let z = eqb-test f 0 in
+    let t : (f ≡ 0) → T x ↔ AtRest s = (λ g. rest-test s (fault-none (s .n) (s .m) (s .box) (s .coefs) (s .rhs) .0 g)) in (
+      e,
+      ((λ g. let h = y .0 (sym e ∙ g) in (z .0 (h .0), t (z .0 (h .0)) .0 (h .1))), (λ h. e ∙ y .1 (z .1 (h .0), t (h .0) .1 (h .1)))),
+    )

@@ -1,0 +1,171 @@
+-- `reducer::calls::propagate_row` is `perform` of a visit: refused by the call's number, else the row's own answer on its part of
+-- the matrix. Assumes nothing.
+use Prim.Native.Nat.{_<_, ℕ}
+use borrow.Author.Needs.{needs}
+use lib.IntN.{ℤ}
+use mathlib.Core.List.{List, []}
+use mathlib.Core.Path.{_∙_, _≡_, sym}
+use native.Mathlib.Omega.{arith}
+use Rattle.model.specs.Box.{at}
+use Rattle.model.specs.Point.{rowOf}
+use Rattle.model.specs.Valid.{ValidModel}
+use Rattle.row.specs.Answers.{propagationOutcome}
+use Rattle.row.specs.Propagation.{propagateRow}
+use Rattle.semantics.specs.CallChecks.{callFault}
+use Rattle.semantics.specs.Perform.{Answer, perform, propagatedRow}
+use Rattle.semantics.specs.State.{Call, State, hasRow, hasTable, kindOf}
+use Rattle.reducer.specs.OpenCalls.{callOf, performed, rowAnswer, stateOf}
+use Rattle.reducer.proofs.OpenCallLaws.{on-row, perform-refused, promised, row-propagated}
+use Rattle.reducer.proofs.PropagationLoops.{part-is, row-fits, row-length, row-rhs, valid-row}
+use Rattle.reducer.proofs.calls.propagate_row.Statement.{statement}
+use Rattle.reducer.proofs.calls.propagate_row.Tie as tie
+
+abbrev state : tie.Start → List ℤ → State
+state s B = stateOf (s .args .n) (s .args .m) B (s .args .coefs .now) (s .args .rhs .now) []
+
+abbrev before : tie.Start → State
+before s = state s (s .args .bounds .now)
+
+abbrev call : tie.Start → Call
+call s = callOf (before s) 1 (s .args .row) 0 0
+
+call-fault-requires : tie.Need-call-fault-requires
+unfolding kindOf hasTable
+call-fault-requires c κs = tt
+
+same-length : tie.Need-same-length
+same-length c = search needs
+
+returns : tie.Need-returns
+unfolding rowAnswer
+returns c =
+    let s = c .before .before .before in
+    promised (before s) (before s) (call s) _ (perform-refused (before s) (call s) (c .before .call-fault .ensures) (c .if1 .taken))
+
+-- the call is accepted: its row lies in the matrix
+module _ (c : tie.Else1) where
+  abbrev s : tie.Start
+  s = c .before .before .before
+
+  abbrev n : ℕ
+  n = s .args .n
+
+  abbrev r : ℕ
+  r = s .args .row
+
+  abbrev B : List ℤ
+  B = s .args .bounds .now
+
+  abbrev C : List ℤ
+  C = s .args .coefs .now
+
+  abbrev R : List ℤ
+  R = s .args .rhs .now
+
+  no-fault : callFault (before s) (call s) ≡ 0
+  no-fault = sym (c .before .call-fault .ensures) ∙ c .if1 .left
+
+  on : ValidModel n (s .args .m) B C R × (r < s .args .m)
+  unfolding kindOf hasRow
+  on = on-row n (s .args .m) B C R 1 r 0 tt no-fault
+
+mul-start : tie.Need-mul-start
+mul-start c = omega (arith, row-fits (on c .0) (r c) (on c .1))
+
+add-end : tie.Need-add-end
+add-end c = omega (arith, row-fits (on c .0) (r c) (on c .1))
+
+mul-propagate-row : tie.Need-mul-propagate-row
+mul-propagate-row c = omega (arith, row-fits (on c .0) (r c) (on c .1))
+
+sub-propagate-row : tie.Need-sub-propagate-row
+sub-propagate-row c = search needs
+
+part-propagate-row-start : tie.Need-part-propagate-row-start
+part-propagate-row-start c = search needs
+
+part-propagate-row-end : tie.Need-part-propagate-row-end
+part-propagate-row-end c = omega (arith, row-fits (on c .0) (r c) (on c .1))
+
+mul-propagate-row-2 : tie.Need-mul-propagate-row-2
+mul-propagate-row-2 c = search needs
+
+shared-slice-copy-out-propagate-row : tie.Need-shared-slice-copy-out-propagate-row
+shared-slice-copy-out-propagate-row c = let a = c .before in omega (arith, on a .1, on a .0 .rhsLen)
+
+propagate-row-requires : tie.Need-propagate-row-requires
+propagate-row-requires c κs =
+    let a = c .before .before .before in
+    let v = on a in
+    rw (part-is (r a) (n a) (C a), row-length (v .0) (r a) (v .1), row-rhs (v .0) (r a) (v .1)) (valid-row (v .0) (r a) (v .1) (v .0 .box))
+
+-- what the row answers and leaves
+module _ (c : tie.After-propagate-row) where
+  abbrev a : tie.Else1
+  a = c .before .before .before .before
+
+  abbrev Q : List ℤ
+  Q = c .propagate-row .last .1 .1 .0
+
+  heard : let p = propagateRow (n a) (rowOf (n a) (C a) (r a)) (at (R a) (r a)) (B a) in
+      (propagationOutcome (c .propagate-row .result) ≡ p .outcome) × (Q ≡ p .box)
+  heard = rw (part-is (r a) (n a) (C a), row-length (on a .0) (r a) (on a .1), row-rhs (on a .0) (r a) (on a .1)) at (c .propagate-row .ensures)
+
+  done : {x : Answer} → x ≡ propagatedRow (propagationOutcome (c .propagate-row .result)) → performed x (state (s a) Q) ≡ perform (before (s a)) (call (s a))
+  done e = row-propagated (n a) (s a .args .m) (B a) (C a) (R a) (r a) (no-fault a) e heard
+
+enum-told : tie.Need-enum-told
+enum-told c = search needs
+
+enum-told-2 : tie.Need-enum-told-2
+enum-told-2 c = search needs
+
+enum-told-3 : tie.Need-enum-told-3
+enum-told-3 c = search needs
+
+same-length-2 : tie.Need-same-length-2
+same-length-2 c = search needs
+
+returns-2 : tie.Need-returns-2
+unfolding rowAnswer propagationOutcome
+returns-2 c = let d = c .before .before .before in promised (before (s (a d))) (state (s (a d)) (Q d)) (call (s (a d))) _ (done d (rw (c .enum-told .given .1)))
+
+same-length-3 : tie.Need-same-length-3
+same-length-3 c = search needs
+
+returns-3 : tie.Need-returns-3
+unfolding rowAnswer propagationOutcome
+returns-3 c = let d = c .before .before .before in promised (before (s (a d))) (state (s (a d)) (Q d)) (call (s (a d))) _ (done d (rw (c .enum-told2 .given .1)))
+
+same-length-4 : tie.Need-same-length-4
+same-length-4 c = search needs
+
+returns-4 : tie.Need-returns-4
+unfolding rowAnswer propagationOutcome
+returns-4 c = let d = c .before .before .before in promised (before (s (a d))) (state (s (a d)) (Q d)) (call (s (a d))) _ (done d (rw (c .enum-told3 .given .1)))
+
+pub propagate-row-spec : {M : Type 1} → statement M
+propagate-row-spec =
+    tie.close
+    (tie.spec
+    call-fault-requires
+    same-length
+    returns
+    mul-start
+    add-end
+    mul-propagate-row
+    sub-propagate-row
+    part-propagate-row-start
+    part-propagate-row-end
+    mul-propagate-row-2
+    shared-slice-copy-out-propagate-row
+    propagate-row-requires
+    enum-told
+    enum-told-2
+    enum-told-3
+    same-length-2
+    returns-2
+    same-length-3
+    returns-3
+    same-length-4
+    returns-4)

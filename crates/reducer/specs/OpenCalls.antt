@@ -1,0 +1,127 @@
+-- What an open call is, in the semantics: the state and the call that its arguments make, 01's answers behind the enums that the
+-- code returns, and what an answer means. Each reading of an enum is injective (`open-answers-injective`).
+use Prim.Native.Nat.{_≤_, ℕ}
+use lib.Dec.{T, eqb, leb, ltb}
+use lib.IntN.{ℤ}
+use mathlib.Core.Bool.{_&&_, _||_, cond}
+use mathlib.Core.List.{List, [], _∷_}
+use mathlib.Core.Logic.{_↔_, _≢_}
+use mathlib.Core.Path.{_≡_}
+use Rattle.model.specs.Box.{emptyBox, isEmpty, isFree}
+use Rattle.model.specs.Checks.{Check, must}
+use Rattle.row.specs.Outcome.{changed, infeasible, unchanged}
+use Rattle.semantics.specs.CallChecks.{maxBudget}
+use Rattle.semantics.specs.Perform.{Answer, Performed, probed, propagated, propagatedRow, refused, removed, tightened}
+use Rattle.semantics.specs.Points.{FractionalPointOf, PointOf}
+use Rattle.semantics.specs.Probe as semantic
+use Rattle.semantics.specs.Propagate as ended
+use Rattle.semantics.specs.RestTest.{isProbingFixpoint, restFault}
+use Rattle.semantics.specs.Run.{answersNone}
+use Rattle.semantics.specs.State.{Call, State, lengthsOf}
+use Rattle.reducer.specs.Results.{reportOf}
+use Rattle.reducer.specs.declared.calls.PropagateRowAnswer.{PropagateRowAnswer}
+use Rattle.reducer.specs.declared.calls.PropagateRowAnswer.the-variants as row
+use Rattle.reducer.specs.declared.calls.PropagateAnswer.{PropagateAnswer}
+use Rattle.reducer.specs.declared.calls.PropagateAnswer.the-variants as rows
+use Rattle.reducer.specs.declared.calls.ProbeAnswer.{ProbeAnswer}
+use Rattle.reducer.specs.declared.calls.ProbeAnswer.the-variants as probes
+use Rattle.reducer.specs.declared.calls.TightenAnswer.{TightenAnswer}
+use Rattle.reducer.specs.declared.calls.TightenAnswer.the-variants as tightens
+use Rattle.reducer.specs.declared.calls.RemoveAnswer.{RemoveAnswer}
+use Rattle.reducer.specs.declared.calls.RemoveAnswer.the-variants as removes
+use Rattle.reducer.specs.declared.calls.RestAnswer.{RestAnswer}
+use Rattle.reducer.specs.declared.calls.RestAnswer.the-variants as rests
+
+-- ---- the state and the call that the arguments make
+
+-- n, m and the lists that the buffers hold; a call that is lent no table has the empty list there, and its checks never look at it
+unfoldable pub stateOf : ℕ → ℕ → List ℤ → List ℤ → List ℤ → List ℕ → State
+stateOf n m B C R t = record { n = n; m = m; box = B; coefs = C; rhs = R; table = t }
+
+-- a call with the very n, m and buffer lengths of s; a field that the kind lacks is 0
+unfoldable pub callOf : State → ℕ → ℕ → ℕ → ℕ → Call
+callOf s kind row variable budget =
+    record { kind = kind; row = row; variable = variable; budget = budget; n = s .n; m = s .m; lengths = lengthsOf s }
+
+unfoldable pub performed : Answer → State → Performed
+performed a s = record { answer = a; state = s }
+
+-- ---- 01's answers
+
+-- visit: refused N, None, Narrowed, Same
+unfoldable pub rowAnswer : PropagateRowAnswer → Answer
+rowAnswer (row.Refused number) = refused number
+rowAnswer row.Infeasible = propagatedRow infeasible
+rowAnswer row.Tightened = propagatedRow changed
+rowAnswer row.Unchanged = propagatedRow unchanged
+
+-- settle: refused N, None, Settled, Spent with the passes
+unfoldable pub propagateAnswer : PropagateAnswer → Answer
+propagateAnswer (rows.Refused number) = refused number
+propagateAnswer (rows.Infeasible passes) = propagated ended.infeasible passes
+propagateAnswer (rows.Converged passes) = propagated ended.converged passes
+propagateAnswer (rows.BudgetSpent passes) = propagated ended.budgetSpent passes
+
+-- probe: refused N, None, Fixed v, Both with the new bytes, and both sides' passes and Spent
+unfoldable pub probeAnswer : ProbeAnswer → Answer
+probeAnswer (probes.Refused number) = refused number
+probeAnswer (probes.Infeasible s0 s1) = probed semantic.infeasible (reportOf s0) (reportOf s1)
+probeAnswer (probes.Fixed v s0 s1) = probed (semantic.fixed v) (reportOf s0) (reportOf s1)
+probeAnswer (probes.BothFeasible added s0 s1) = probed (semantic.bothFeasible added) (reportOf s0) (reportOf s1)
+
+-- sharpen: refused N, None, Sharpened, Same
+unfoldable pub tightenAnswer : TightenAnswer → Answer
+tightenAnswer (tightens.Refused number) = refused number
+tightenAnswer tightens.Infeasible = tightened infeasible
+tightenAnswer tightens.Tightened = tightened changed
+tightenAnswer tightens.Unchanged = tightened unchanged
+
+-- drop: refused N, None, Dropped, Same
+unfoldable pub removeAnswer : RemoveAnswer → Answer
+removeAnswer (removes.Refused number) = refused number
+removeAnswer removes.Infeasible = removed infeasible
+removeAnswer removes.Removed = removed changed
+removeAnswer removes.Unchanged = removed unchanged
+
+-- the rest call: refused N, no, yes
+pub data RestVerdict : Type 0 where
+  refusedRest : ℕ → RestVerdict
+  notAtRest atRest : RestVerdict
+
+unfoldable pub restVerdict : RestAnswer → RestVerdict
+restVerdict (rests.Refused number) = refusedRest number
+restVerdict rests.No = notAtRest
+restVerdict rests.Yes = atRest
+
+-- "The rest call says yes exactly when the box is at rest."
+unfoldable pub rest : State → RestVerdict
+rest s =
+    cond (eqb (restFault s) 0)
+    (cond (isProbingFixpoint (s .n) (s .m) (s .coefs) (s .rhs) (s .box)) atRest notAtRest)
+    (refusedRest (restFault s))
+
+-- ---- what an answer means, of the state s before and r after, refused or not
+
+-- "After it the integer points are exactly those before it, and no fractional point is added. `None` means that no integer point
+-- exists."
+pub record Means (s r : State) (a : Answer) : Type 0 where
+  pub points : (x : List ℤ) → PointOf r x ↔ PointOf s x
+  pub fractional : (x : List ℤ) (d : ℕ) → FractionalPointOf r x d → FractionalPointOf s x d
+  pub noPoint : T (answersNone a) → (x : List ℤ) → PointOf s x → ⊥
+
+-- "every accepted call ends within its pass budget"
+pub record Ends (budget : ℕ) (s : State) (a : Answer) : Type 0 where
+  pub passes : (e : ended.Ending) (p : ℕ) → a ≡ propagated e p → (1 ≤ p) × (p ≤ budget)
+  pub sides : (e : semantic.ProbeEnding) (s0 s1 : semantic.Side) → a ≡ probed e s0 s1 → s .box ≢ emptyBox (s .n)
+      → ((1 ≤ s0 .passes) × (s0 .passes ≤ budget)) × ((1 ≤ s1 .passes) × (s1 .passes ≤ budget))
+
+-- ---- the checks of one field, as the code makes them
+
+unfoldable pub rowChecks : ℕ → ℕ → List Check
+rowChecks m row = must (ltb row m) 12 ∷ []
+
+unfoldable pub variableChecks : ℕ → List ℤ → ℕ → List Check
+variableChecks n B variable = must (ltb variable n) 13 ∷ must (isEmpty n B || isFree B variable) 14 ∷ []
+
+unfoldable pub budgetChecks : ℕ → List Check
+budgetChecks budget = must (leb 1 budget && leb budget maxBudget) 15 ∷ []

@@ -1,0 +1,226 @@
+// The open calls: any n and m, any buffers with any contents, any numbers. Each refuses by the number of the first check that
+// fails and then changes nothing; everything else is accepted. `defined`: the answer and every lent buffer afterwards are what
+// `perform` gives for the call made of the very n, m, numbers and buffer lengths handed over. `meaning`: what the answer means
+// for the points, and that the call ended within its budget.
+use crate::checks::call_fault;
+use crate::checks::probe_fault;
+use crate::probing::Probing;
+use crate::probing::Side;
+use crate::propagation::Propagation;
+use row::propagation::RowPropagation;
+use row::redundancy::RowRemoval;
+use row::tightening::CoefficientTightening;
+ghost use mathlib.Core.List.{[]};
+ghost use mathlib.Core.Logic.{_↔_};
+ghost use mathlib.Core.Path.{_≡_};
+ghost use Rattle.semantics.specs.Perform.{perform};
+ghost use Rattle.semantics.specs.Points.{AtRest};
+ghost use Rattle.semantics.specs.RestTest.{restFault};
+ghost use Rattle.reducer.specs.OpenCalls.{Ends, Means, atRest, callOf, performed, probeAnswer, propagateAnswer, removeAnswer, rest, restVerdict, rowAnswer, stateOf, tightenAnswer};
+
+// 01's visit: refused N, None, Narrowed, Same.
+pub enum PropagateRowAnswer {
+    Refused(u32),
+    Infeasible,
+    Tightened,
+    Unchanged,
+}
+
+// 01's settle: refused N, None, Settled, Spent, with the passes made.
+pub enum PropagateAnswer {
+    Refused(u32),
+    Infeasible(u32),
+    Converged(u32),
+    BudgetSpent(u32),
+}
+
+// 01's probe: refused N, None, Fixed with the surviving value, Both with the number of new table bytes; with the reports of the
+// sides at 0 and at 1.
+pub enum ProbeAnswer {
+    Refused(u32),
+    Infeasible(Side, Side),
+    Fixed(u32, Side, Side),
+    BothFeasible(u32, Side, Side),
+}
+
+// 01's sharpen: refused N, None, Sharpened, Same.
+pub enum TightenAnswer {
+    Refused(u32),
+    Infeasible,
+    Tightened,
+    Unchanged,
+}
+
+// 01's drop: refused N, None, Dropped, Same.
+pub enum RemoveAnswer {
+    Refused(u32),
+    Infeasible,
+    Removed,
+    Unchanged,
+}
+
+// 01's rest call: refused N, no, yes.
+pub enum RestAnswer {
+    Refused(u32),
+    No,
+    Yes,
+}
+
+// Propagates row `row` once (01's visit). Refused by 3, 5 to 9, 12.
+pub fn propagate_row(
+    n: usize,
+    m: usize,
+    bounds: &mut [i32],
+    coefs: &[i32],
+    rhs: &[i32],
+    row: u32,
+) -> PropagateRowAnswer
+    ensures defined { λ r. ⌜ performed (rowAnswer r) (stateOf n m (now (bounds .exit)) (now (coefs .entry)) (now (rhs .entry)) []) ≡ perform (stateOf n m (now (bounds .entry)) (now (coefs .entry)) (now (rhs .entry)) []) (callOf (stateOf n m (now (bounds .entry)) (now (coefs .entry)) (now (rhs .entry)) []) 1 row 0 0) ⌝ }
+    ensures meaning { λ r. ⌜ Means (stateOf n m (now (bounds .entry)) (now (coefs .entry)) (now (rhs .entry)) []) (stateOf n m (now (bounds .exit)) (now (coefs .entry)) (now (rhs .entry)) []) (rowAnswer r) ⌝ }
+{
+    let fault = call_fault(n, m, bounds, coefs, rhs, 1, row, 0, 0);
+    if fault != 0 {
+        return PropagateRowAnswer::Refused(fault);
+    }
+    let r = row as usize;
+    let start = r * n;
+    let end = start + n;
+    match row::propagation::propagate_row(&coefs[start..end], rhs[r], bounds) {
+        RowPropagation::Infeasible => PropagateRowAnswer::Infeasible,
+        RowPropagation::Tightened => PropagateRowAnswer::Tightened,
+        RowPropagation::Unchanged => PropagateRowAnswer::Unchanged,
+    }
+}
+
+// Propagates all rows in at most `budget` passes (01's settle). Refused by 3, 5 to 9, 15.
+pub fn propagate(
+    n: usize,
+    m: usize,
+    bounds: &mut [i32],
+    coefs: &[i32],
+    rhs: &[i32],
+    budget: u32,
+) -> PropagateAnswer
+    ensures defined { λ r. ⌜ performed (propagateAnswer r) (stateOf n m (now (bounds .exit)) (now (coefs .entry)) (now (rhs .entry)) []) ≡ perform (stateOf n m (now (bounds .entry)) (now (coefs .entry)) (now (rhs .entry)) []) (callOf (stateOf n m (now (bounds .entry)) (now (coefs .entry)) (now (rhs .entry)) []) 2 0 0 budget) ⌝ }
+    ensures meaning { λ r. ⌜ Means (stateOf n m (now (bounds .entry)) (now (coefs .entry)) (now (rhs .entry)) []) (stateOf n m (now (bounds .exit)) (now (coefs .entry)) (now (rhs .entry)) []) (propagateAnswer r) ⌝ }
+    ensures ending { λ r. ⌜ Ends budget (stateOf n m (now (bounds .entry)) (now (coefs .entry)) (now (rhs .entry)) []) (propagateAnswer r) ⌝ }
+{
+    let fault = call_fault(n, m, bounds, coefs, rhs, 2, 0, 0, budget);
+    if fault != 0 {
+        return PropagateAnswer::Refused(fault);
+    }
+    match crate::propagation::propagate(n, m, bounds, coefs, rhs, budget) {
+        Propagation::Infeasible(passes) => PropagateAnswer::Infeasible(passes),
+        Propagation::Converged(passes) => PropagateAnswer::Converged(passes),
+        Propagation::BudgetSpent(passes) => PropagateAnswer::BudgetSpent(passes),
+    }
+}
+
+// Probes the free binary variable `variable`, each side with `budget` passes (01's probe). Refused by 3, 5 to 10, 13 to 15.
+pub fn probe(
+    n: usize,
+    m: usize,
+    bounds: &mut [i32],
+    coefs: &[i32],
+    rhs: &[i32],
+    table: &mut [u8],
+    variable: u32,
+    budget: u32,
+) -> ProbeAnswer
+    ensures defined { λ r. ⌜ performed (probeAnswer r) (stateOf n m (now (bounds .exit)) (now (coefs .entry)) (now (rhs .entry)) (now (table .exit))) ≡ perform (stateOf n m (now (bounds .entry)) (now (coefs .entry)) (now (rhs .entry)) (now (table .entry))) (callOf (stateOf n m (now (bounds .entry)) (now (coefs .entry)) (now (rhs .entry)) (now (table .entry))) 3 0 variable budget) ⌝ }
+    ensures meaning { λ r. ⌜ Means (stateOf n m (now (bounds .entry)) (now (coefs .entry)) (now (rhs .entry)) (now (table .entry))) (stateOf n m (now (bounds .exit)) (now (coefs .entry)) (now (rhs .entry)) (now (table .exit))) (probeAnswer r) ⌝ }
+    ensures ending { λ r. ⌜ Ends budget (stateOf n m (now (bounds .entry)) (now (coefs .entry)) (now (rhs .entry)) (now (table .entry))) (probeAnswer r) ⌝ }
+{
+    let fault = probe_fault(n, m, bounds, coefs, rhs, table, variable, budget);
+    if fault != 0 {
+        return ProbeAnswer::Refused(fault);
+    }
+    match crate::probing::probe(n, m, bounds, coefs, rhs, table, variable as usize, budget) {
+        Probing::Infeasible(side0, side1) => ProbeAnswer::Infeasible(side0, side1),
+        Probing::Fixed(value, side0, side1) => ProbeAnswer::Fixed(value, side0, side1),
+        Probing::BothFeasible(added, side0, side1) => ProbeAnswer::BothFeasible(
+            added,
+            side0,
+            side1,
+        ),
+    }
+}
+
+// Tightens the coefficient of the free binary variable `variable` in row `row` (01's sharpen). Refused by 3, 5 to 9, 12 to 14.
+pub fn tighten_coefficient(
+    n: usize,
+    m: usize,
+    bounds: &[i32],
+    coefs: &mut [i32],
+    rhs: &mut [i32],
+    row: u32,
+    variable: u32,
+) -> TightenAnswer
+    ensures defined { λ r. ⌜ performed (tightenAnswer r) (stateOf n m (now (bounds .entry)) (now (coefs .exit)) (now (rhs .exit)) []) ≡ perform (stateOf n m (now (bounds .entry)) (now (coefs .entry)) (now (rhs .entry)) []) (callOf (stateOf n m (now (bounds .entry)) (now (coefs .entry)) (now (rhs .entry)) []) 4 row variable 0) ⌝ }
+    ensures meaning { λ r. ⌜ Means (stateOf n m (now (bounds .entry)) (now (coefs .entry)) (now (rhs .entry)) []) (stateOf n m (now (bounds .entry)) (now (coefs .exit)) (now (rhs .exit)) []) (tightenAnswer r) ⌝ }
+{
+    let fault = call_fault(n, m, bounds, coefs, rhs, 4, row, variable, 0);
+    if fault != 0 {
+        return TightenAnswer::Refused(fault);
+    }
+    let r = row as usize;
+    let start = r * n;
+    let end = start + n;
+    match row::tightening::tighten_coefficient(
+        &mut coefs[start..end],
+        &mut rhs[r],
+        bounds,
+        variable as usize,
+    ) {
+        CoefficientTightening::Infeasible => TightenAnswer::Infeasible,
+        CoefficientTightening::Tightened => TightenAnswer::Tightened,
+        CoefficientTightening::Unchanged => TightenAnswer::Unchanged,
+    }
+}
+
+// Removes row `row` where the box implies it (01's drop). Refused by 3, 5 to 9, 12.
+pub fn remove_redundant_row(
+    n: usize,
+    m: usize,
+    bounds: &[i32],
+    coefs: &mut [i32],
+    rhs: &mut [i32],
+    row: u32,
+) -> RemoveAnswer
+    ensures defined { λ r. ⌜ performed (removeAnswer r) (stateOf n m (now (bounds .entry)) (now (coefs .exit)) (now (rhs .exit)) []) ≡ perform (stateOf n m (now (bounds .entry)) (now (coefs .entry)) (now (rhs .entry)) []) (callOf (stateOf n m (now (bounds .entry)) (now (coefs .entry)) (now (rhs .entry)) []) 5 row 0 0) ⌝ }
+    ensures meaning { λ r. ⌜ Means (stateOf n m (now (bounds .entry)) (now (coefs .entry)) (now (rhs .entry)) []) (stateOf n m (now (bounds .entry)) (now (coefs .exit)) (now (rhs .exit)) []) (removeAnswer r) ⌝ }
+{
+    let fault = call_fault(n, m, bounds, coefs, rhs, 5, row, 0, 0);
+    if fault != 0 {
+        return RemoveAnswer::Refused(fault);
+    }
+    let r = row as usize;
+    let start = r * n;
+    let end = start + n;
+    match row::redundancy::remove_redundant_row(&mut coefs[start..end], &mut rhs[r], bounds) {
+        RowRemoval::Infeasible => RemoveAnswer::Infeasible,
+        RowRemoval::Removed => RemoveAnswer::Removed,
+        RowRemoval::Unchanged => RemoveAnswer::Unchanged,
+    }
+}
+
+// Whether the box is a probing fixpoint (01's rest call). Refused by 3, 5 to 9.
+pub fn is_probing_fixpoint(
+    n: usize,
+    m: usize,
+    bounds: &[i32],
+    coefs: &[i32],
+    rhs: &[i32],
+) -> RestAnswer
+    ensures defined { λ r. ⌜ restVerdict r ≡ rest (stateOf n m (now (bounds .entry)) (now (coefs .entry)) (now (rhs .entry)) []) ⌝ }
+    ensures meaning { λ r. ⌜ (restVerdict r ≡ atRest) ↔ ((restFault (stateOf n m (now (bounds .entry)) (now (coefs .entry)) (now (rhs .entry)) []) ≡ 0) × AtRest (stateOf n m (now (bounds .entry)) (now (coefs .entry)) (now (rhs .entry)) [])) ⌝ }
+{
+    let fault = model::model_fault(n, m, bounds, coefs, rhs);
+    if fault != 0 {
+        return RestAnswer::Refused(fault);
+    }
+    if crate::rest::is_probing_fixpoint(n, m, bounds, coefs, rhs) {
+        return RestAnswer::Yes;
+    }
+    RestAnswer::No
+}
