@@ -5,3 +5,4 @@ pub mod ProbingLoops
 pub mod RestLaws
 pub mod OpenCallLaws
 pub mod OpenAnswers
+pub mod CallListLaws

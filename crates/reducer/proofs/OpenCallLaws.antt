@@ -93,7 +93,7 @@ module _ (n m : ℕ) (B C R : List ℤ) (row : ℕ) {x : Answer} {o : Outcome} {
 abbrev pub withPart : List ℤ → ℕ → ℕ → List ℤ → List ℤ
 withPart C r n A = take (r * n) C ++ (A ++ drop (r * n + n - r * n) (drop (r * n) C))
 
-part-spliced : (C A : List ℤ) (r n : ℕ) → length A ≡ n → withPart C r n A ≡ splice C A (r * n)
+pub part-spliced : (C A : List ℤ) (r n : ℕ) → length A ≡ n → withPart C r n A ≡ splice C A (r * n)
 unfolding splice
 part-spliced C A r n e = let k : r * n + n - r * n ≡ n = omega arith in rw (k, drop-drop n (r * n) C, e)
 

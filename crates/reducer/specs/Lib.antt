@@ -1,2 +1,3 @@
 pub mod Results
 pub mod OpenCalls
+pub mod CallLists

@@ -108,6 +108,14 @@ table-test n m B C R t true =
     let d = table-fault-none n m B C R t in ((λ e. (d .0 e .0, λ _. d .0 e .1)), (λ h. d .1 (h .0, h .1 tt)))
 table-test n m B C R t false = let d = fault-none n m B C R in ((λ e. (d .0 e, λ z. absurd z)), (λ h. d .1 (h .0)))
 
+-- in a valid state only the record's own checks can refuse a call that is lent all of it
+pub fault-of-valid : (s : State) (c : Call) → ValidState s → c .n ≡ s .n → c .m ≡ s .m → c .lengths ≡ lengthsOf s
+    → callFault s c ≡ first (recordChecks (kindOf (c .kind)) s c)
+unfolding lentTable
+fault-of-valid s c v n m l =
+    fault-of-own s c n m l
+    ∙ rw (table-test (s .n) (s .m) (s .box) (s .coefs) (s .rhs) (s .table) (hasTable (kindOf (c .kind))) .1 (v .model, λ _. v .table))
+
 -- what the record's own checks come to
 abbrev Fields : Kind → State → Call → Type 0
 Fields k s c =

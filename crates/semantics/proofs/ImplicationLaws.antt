@@ -3,7 +3,7 @@ use Prim.Native.Nat.{_*_, _+_, _-_, _<_, _≤_, suc, zero, ℕ}
 use lib.Dec.{T, T-not, eqb}
 use lib.IntN.{negsuc, pos, ℤ}
 use lib.ListN.{getD, length, length-set, replicate, set}
-use lib.Seq.{getD-set-other}
+use lib.Seq.{getD-set-other, set-getD}
 use lib.Signed.{_≤ℤ_}
 use mathlib.Core.Bool.{Bool, _&&_, cond, false, not, true}
 use mathlib.Core.List.{List, [], _∷_}
@@ -166,16 +166,26 @@ ones-set (suc zero ∷ t) zero h b = omega arith
 ones-set (suc (suc x) ∷ t) zero h b = let z : ⊥ = omega arith in absurd z
 ones-set (x ∷ t) (suc i) h b = one-more (eqb x 1) (ones (set t i 1)) (ones t) _ (ones-set t i (omega arith) b)
 
+-- where none is counted, byte i was 1 and stays
+put-none : (t : List ℕ) (i : ℕ) → getD t i 0 < 2 → _≡_ {A = ℕ} (cond (eqb (getD t i 0) 0) 1 0) 0 → set t i 1 ≡ t
+put-none t i h e = let f = byte-one (getD t i 0) h e in ap (set t i) (sym f) ∙ set-getD t i 0
+  where
+    byte-one : (b : ℕ) → b < 2 → _≡_ {A = ℕ} (cond (eqb b 0) 1 0) 0 → b ≡ 1
+    byte-one zero h e = let z : ⊥ = omega arith in absurd z
+    byte-one (suc b) h e = omega arith
+
 -- r is a valid table that has come of t, with its bytes that became 1 counted
 pub record Grown (n : ℕ) (t : List ℕ) (r : Table) : Type 0 where
   pub valid : ValidTable n (r .bytes)
   pub count : ones (r .bytes) ≡ ones t + r .added
+  pub same : r .added ≡ 0 → r .bytes ≡ t
 
 pub put-grown : {n : ℕ} {t : List ℕ} {r : Table} (i : ℕ) → i < 4 * (n * n) → Grown n t r → Grown n t (put r i)
 unfolding put
 put-grown {n} {t} {r} i h g = record {
   valid = record { len = length-set (r .bytes) i 1 ∙ g .valid .len; bits = getD-set-all (r .bytes) i 1 0 (λ b. b < 2) (omega arith) (g .valid .bits) };
   count = let e = ones-set (r .bytes) i (omega (arith, g .valid .len)) (g .valid .bits i) in omega (arith, g .count);
+  same = λ e. put-none (r .bytes) i (g .valid .bits i) (omega arith) ∙ g .same (omega arith);
 }
 
 pub implies-grown : {n : ℕ} {t : List ℕ} {r : Table} (k v j w : ℕ) → k < n → v < 2 → j < n → w < 2 → Grown n t r → Grown n t (implies n k v j w r)
@@ -189,13 +199,16 @@ module _ (n k : ℕ) (B S0 S1 : List ℤ) (t : List ℕ) (kn : k < n) (v : Valid
       recordTo-ind n k (Grown n t) B S0 S1 t
       (λ j w r h w2 q. implies-grown k 0 j w kn (omega arith) h w2)
       (λ j w r h w2 q. implies-grown k 1 j w kn (omega arith) h w2)
-      (record { valid = v; count = omega arith })
+      (record { valid = v; count = omega arith; same = λ _. refl })
 
   pub recordTo-valid : ValidTable n (recordTo n n k B S0 S1 t .bytes)
   recordTo-valid = recordTo-grown n (omega arith) .valid
 
   pub recordTo-added : ones (recordTo n n k B S0 S1 t .bytes) ≡ ones t + recordTo n n k B S0 S1 t .added
   recordTo-added = recordTo-grown n (omega arith) .count
+
+  pub recordTo-same : recordTo n n k B S0 S1 t .added ≡ 0 → recordTo n n k B S0 S1 t .bytes ≡ t
+  recordTo-same = recordTo-grown n (omega arith) .same
 
 -- ---- the table all 0
 

@@ -13,3 +13,5 @@ pub mod Preserved
 pub mod Reachability
 pub mod Demand2
 pub mod Demand3
+pub mod ClassLaws
+pub mod CallLists

@@ -216,7 +216,7 @@ module _ (n m : ℕ) (C R : List ℤ) where
   propagate-infeasible-box budget B = propagate-ind budget n m C R B (λ r. T (isNone (r .ending)) → r .box ≡ emptyBox n)
       (λ t _. isEmpty→eq n B t) (λ _. propagateFrom-infeasible-box budget 0 B)
 
-  propagateFrom-shrinks : (left made : ℕ) (B : List ℤ) → T (not (isNone (propagateFrom left made n m C R B .ending)))
+  pub propagateFrom-shrinks : (left made : ℕ) (B : List ℤ) → T (not (isNone (propagateFrom left made n m C R B .ending)))
       → Inside n (propagateFrom left made n m C R B .box) B
   unfolding propagateFrom isNone
   propagateFrom-shrinks zero made B = λ _. inside-refl n B

@@ -10,7 +10,7 @@ use Rattle.semantics.specs.State.{Call, State}
 abbrev pub total : Counts → ℕ
 total k = k .refusals + k .infeasibles + k .changes + k .unchanges
 
-count-total : (q : CallClass) (k : Counts) → total (countCall q k) ≡ total k + 1
+pub count-total : (q : CallClass) (k : Counts) → total (countCall q k) ≡ total k + 1
 unfolding countCall
 count-total refusedCall k = omega arith
 count-total infeasibleCall k = omega arith

@@ -11,6 +11,8 @@ pub mod Demand1
 pub mod Demand2
 pub mod Convergence
 pub mod TwoRuns
+pub mod CallList
+pub mod TwoLists
 pub mod Books
 pub mod WorkedBooks
 pub mod Corners

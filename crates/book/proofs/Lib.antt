@@ -1,0 +1,7 @@
+pub mod PieceLaws
+pub mod ByteLaws
+pub mod EncodeLaws
+pub mod DecodeLaws
+pub mod AcceptLaws
+pub mod RoundTripLaws
+pub mod AnswerLaws

@@ -1,0 +1,111 @@
+-- `book::integers::are_in_range`: the loop makes the tests of `all` one after the other, and one that fails decides.
+-- Assumes nothing.
+use Prim.Native.Nat.{_-_, _≤_, ℕ}
+use lib.IntN.{ℤ}
+use lib.ListN.{length}
+use lib.Signed.{leZ}
+use mathlib.Core.Bool.{Bool, _&&_, true}
+use mathlib.Core.List.{List}
+use mathlib.Core.Path.{_≡_, refl, sym}
+use mir.Facts.{toZ-ofZ}
+use mir.Syntax.{w32}
+use mir.Val.{SFits, toZ}
+use native.Mathlib.Omega.{arith}
+use Rattle.integer.specs.Index.{all}
+use Rattle.integer.proofs.IndexLaws.{all-false, all-next}
+use Rattle.integer.proofs.Tests.{told-false, told-true}
+use Rattle.model.specs.Box.{at}
+use Rattle.model.specs.Checks.{inRange}
+use Rattle.book.specs.Bytes.{integersAt}
+use Rattle.book.proofs.DecodeLaws.{at-integersAt, length-integersAt}
+use Rattle.book.proofs.integers.are_in_range.Statement.{statement}
+use Rattle.book.proofs.integers.are_in_range.Tie as tie
+
+abbrev test : List ℤ → ℤ → ℤ → ℕ → Bool
+test xs low high i = leZ low (at xs i) && leZ (at xs i) high
+
+abbrev Inv-loop : tie.InvT-loop
+Inv-loop bytes p step count low high k₀ k = (k ≤ count) × (all k (test (integersAt p step count bytes) (toZ w32 low) (toZ w32 high)) ≡ true)
+
+abbrev μ-loop : tie.MeasureT-loop
+μ-loop bytes p step count low high k₀ k = count - k
+
+loop-holds : tie.Need-loop-holds Inv-loop μ-loop
+unfolding all
+loop-holds c = (omega arith, refl)
+
+mul-read-i32 : tie.Need-mul-read-i32 Inv-loop μ-loop
+mul-read-i32 c = omega (arith, c .before .before .before .pre (c .before .loop .k) (c .loop-test .taken))
+
+add-read-i32 : tie.Need-add-read-i32 Inv-loop μ-loop
+add-read-i32 c = omega (arith, c .before .before .before .pre (c .before .loop .k) (c .loop-test .taken))
+
+read-i32-requires : tie.Need-read-i32-requires Inv-loop μ-loop
+read-i32-requires c κs = c .before .before .before .pre (c .before .loop .k) (c .loop-test .taken)
+
+is-between-requires : tie.Need-is-between-requires Inv-loop μ-loop
+is-between-requires c κs = tt
+
+-- the test of the code is test k
+tested : (c : tie.After-is-between Inv-loop μ-loop)
+    → let s = c .before .before .before .before .before .args in
+    c .is-between .result ≡ test (integersAt (s .at) (s .step) (s .count) (s .bytes .now)) (s .low) (s .high) (c .before .before .before .loop .k)
+tested c =
+    let s = c .before .before .before .before .before in
+    let a = s .args in
+    let k = c .before .before .before .loop .k in
+    let fl = s .fits .low in
+    let fh = s .fits .high in
+    let fx : SFits w32 (c .before .read-i32 .result) = record { sfits = c .before .read-i32 .ok } in
+    let e = at-integersAt (a .at) (a .step) (a .count) (a .bytes .now) k (c .before .before .loop-test .taken) in
+    rw (e, ← c .before .read-i32 .ensures) (simp toZ-ofZ at (c .is-between .ensures))
+
+returns : tie.Need-returns Inv-loop μ-loop
+unfolding inRange
+returns c =
+    let a = c .before .before .before .before .before .before .args in
+    let xs = integersAt (a .at) (a .step) (a .count) (a .bytes .now) in
+    let k = c .before .before .before .before .loop .k in
+    let l = length-integersAt (a .at) (a .step) (a .count) (a .bytes .now) in
+    sym (all-false (length xs) (test xs (a .low) (a .high)) k (omega (arith, l)) (told-false _ (tested (c .before)) (c .if1 .taken)))
+
+add-k : tie.Need-add-k Inv-loop μ-loop
+add-k c = omega arith
+
+loop-less : tie.Need-loop-less Inv-loop μ-loop
+loop-less c = omega arith
+
+loop-again : tie.Need-loop-again Inv-loop μ-loop
+loop-again c =
+    let s = c .before .before .before .before .before .before in
+    let at-loop = c .before .before .before .before .loop in (
+      omega arith,
+      all-next _ (at-loop .k) (at-loop .inv .1)
+          (rw (toZ-ofZ (s .fits .low), toZ-ofZ (s .fits .high)) (told-true _ (tested (c .before)) (c .if1 .left))),
+    )
+
+returns-2 : tie.Need-returns-2 Inv-loop μ-loop
+unfolding inRange
+returns-2 c =
+    let s = c .before .before .before in
+    let a = s .args in
+    let end : c .before .loop .k ≡ length (integersAt (a .at) (a .step) (a .count) (a .bytes .now)) =
+    omega (arith, length-integersAt (a .at) (a .step) (a .count) (a .bytes .now)) in
+    sym (rw (end, toZ-ofZ (s .fits .low), toZ-ofZ (s .fits .high)) at (c .before .loop .inv .1))
+
+pub are-in-range-spec : {M : Type 1} → statement M
+are-in-range-spec =
+    tie.close
+    (tie.spec
+    Inv-loop
+    μ-loop
+    loop-holds
+    mul-read-i32
+    add-read-i32
+    read-i32-requires
+    is-between-requires
+    returns
+    add-k
+    loop-less
+    loop-again
+    returns-2)

@@ -1,0 +1,86 @@
+-- The book (01, "Book"): the bytes of a model and the model of a book.
+use Prim.Native.Nat.{_*_, _+_, _-_, _≤_, ℕ}
+use lib.IntN.{ℤ}
+use lib.ListN.{drop, length}
+use mathlib.Core.List.{List, _++_}
+use Rattle.model.specs.Box.{at}
+use Rattle.book.specs.Bytes.{bytesOf, integerAt, integerBytes, integersAt, numberAt}
+use Rattle.book.specs.Pieces.{joined, listOf}
+
+pub record Model : Type 0 where
+  pub n : ℕ
+  pub m : ℕ
+  pub bounds : List ℤ
+  pub coefs : List ℤ
+  pub rhs : List ℤ
+
+abbrev pub model : ℕ → ℕ → List ℤ → List ℤ → List ℤ → Model
+model n m B C R = record { n = n; m = m; bounds = B; coefs = C; rhs = R }
+
+-- "length of the book, 32 bits, 8n + m(4 + 4n) + 16"
+unfoldable pub bookLength : ℕ → ℕ → ℕ
+bookLength n m = 8 * n + m * (4 + 4 * n) + 16
+
+-- the place of row i: the rows start at 8n, and each is its right side and n coefficients
+unfoldable pub rowPlace : ℕ → ℕ → ℕ
+rowPlace n i = 8 * n + i * (4 + 4 * n)
+
+-- bytes that the bounds and the rows of n variables and m rows lie within
+pub record HoldsModel (n m : ℕ) (bs : List ℕ) : Type 0 where
+  pub few : n ≤ 128
+  pub fewRows : m ≤ 120
+  pub body : 8 * n + m * (4 + 4 * n) ≤ length bs
+
+-- ---- the bytes of a model
+
+-- "First l and u of each variable, 32 bits each"
+unfoldable pub boundBytes : Model → List ℕ
+boundBytes M = joined (2 * M .n) (λ i. integerBytes (at (M .bounds) i))
+
+-- "then for each row b and n coefficients, 32 bits each"
+unfoldable pub rowBytes : ℕ → List ℤ → List ℤ → ℕ → List ℕ
+rowBytes n C R i = integerBytes (at R i) ++ joined n (λ j. integerBytes (at C (i * n + j)))
+
+-- "offset of the bounds (0), offset of the rows (8n), 32 bits each; n, m, 16 bits each; length of the book, 32 bits"
+unfoldable pub trailerBytes : ℕ → ℕ → List ℕ
+trailerBytes n m = bytesOf 4 0 ++ bytesOf 4 (8 * n) ++ bytesOf 2 n ++ bytesOf 2 m ++ bytesOf 4 (bookLength n m)
+
+unfoldable pub encode : Model → List ℕ
+encode M = boundBytes M ++ joined (M .m) (rowBytes (M .n) (M .coefs) (M .rhs)) ++ trailerBytes (M .n) (M .m)
+
+-- ---- the model of a book
+
+-- "The trailer, the last 16 bytes", and its five numbers
+unfoldable pub trailerOf : List ℕ → List ℕ
+trailerOf bs = drop (length bs - 16) bs
+
+abbrev pub boundsOffset : List ℕ → ℕ
+boundsOffset t = numberAt 4 0 t
+
+abbrev pub rowsOffset : List ℕ → ℕ
+rowsOffset t = numberAt 4 4 t
+
+abbrev pub variables : List ℕ → ℕ
+variables t = numberAt 2 8 t
+
+abbrev pub rows : List ℕ → ℕ
+rows t = numberAt 2 10 t
+
+abbrev pub lengthGiven : List ℕ → ℕ
+lengthGiven t = numberAt 4 12 t
+
+-- the numbers of a book whose trailer says n and m
+unfoldable pub boundsOf : ℕ → List ℕ → List ℤ
+boundsOf n bs = integersAt 0 4 (2 * n) bs
+
+unfoldable pub rhsOf : ℕ → ℕ → List ℕ → List ℤ
+rhsOf n m bs = listOf m (λ i. integerAt (rowPlace n i) bs)
+
+unfoldable pub coefsOf : ℕ → ℕ → List ℕ → List ℤ
+coefsOf n m bs = joined m (λ i. integersAt (rowPlace n i + 4) 4 n bs)
+
+unfoldable pub modelOf : ℕ → ℕ → List ℕ → Model
+modelOf n m bs = model n m (boundsOf n bs) (coefsOf n m bs) (rhsOf n m bs)
+
+unfoldable pub decode : List ℕ → Model
+decode bs = let t = trailerOf bs in modelOf (variables t) (rows t) bs

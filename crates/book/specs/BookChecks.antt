@@ -1,0 +1,52 @@
+-- The checks of a book and of a book to be written, by 01's numbers and in 01's order.
+use Prim.Native.Nat.{_*_, ℕ}
+use lib.Dec.{eqb, leb}
+use lib.IntN.{ℤ}
+use lib.ListN.{length}
+use mathlib.Core.Bool.{_&&_}
+use mathlib.Core.List.{List, [], _++_, _∷_}
+use Rattle.model.specs.Checks.{Check, first, lengthChecks, must, numberChecks, sizeChecks}
+use Rattle.book.specs.Book.{Model, bookLength, boundsOffset, decode, lengthGiven, rows, rowsOffset, trailerOf, variables}
+
+-- 4. An offset or the length is not what n and m give.
+unfoldable pub offsetChecks : List ℕ → List Check
+offsetChecks t =
+    must (eqb (boundsOffset t) 0 && eqb (rowsOffset t) (8 * variables t) && eqb (lengthGiven t) (bookLength (variables t) (rows t))) 4 ∷ []
+
+-- 3 and 4 of the 16 trailer bytes
+unfoldable pub layoutChecks : List ℕ → List Check
+layoutChecks t = sizeChecks (variables t) (rows t) ++ offsetChecks t
+
+-- The trailer call: "it makes check 1, refuses more than 16 bytes by 5, and then makes checks 3 and 4".
+unfoldable pub trailerChecks : List ℕ → List Check
+trailerChecks t = must (leb 16 (length t)) 1 ∷ must (leb (length t) 16) 5 ∷ layoutChecks t
+
+-- 2. The trailer's length is not the book's.
+unfoldable pub givenLengthChecks : List ℕ → ℕ → List Check
+givenLengthChecks t len = must (eqb (lengthGiven t) len) 2 ∷ []
+
+-- 1. The book has under 16 bytes. Then 2, 3 and 4.
+unfoldable pub headChecks : List ℕ → List Check
+headChecks bs = must (leb 16 (length bs)) 1 ∷ givenLengthChecks (trailerOf bs) (length bs) ++ layoutChecks (trailerOf bs)
+
+-- 6 to 9, of a model's numbers
+abbrev pub modelNumberChecks : Model → List Check
+modelNumberChecks M = numberChecks (M .n) (M .bounds) (M .coefs) (M .rhs)
+
+-- a book alone: 1 to 4 and 6 to 9
+unfoldable pub bookChecks : List ℕ → List Check
+bookChecks bs = headChecks bs ++ modelNumberChecks (decode bs)
+
+-- reading a book into lent buffers: 1 to 9
+unfoldable pub readChecks : List ℕ → List ℤ → List ℤ → List ℤ → List Check
+readChecks bs B C R = headChecks bs ++ (lengthChecks (decode bs .n) (decode bs .m) B C R ++ modelNumberChecks (decode bs))
+
+-- writing a model into a lent book of k bytes: 3, 5 to 9
+unfoldable pub writeChecks : Model → ℕ → List Check
+writeChecks M k =
+    sizeChecks (M .n) (M .m)
+    ++ (lengthChecks (M .n) (M .m) (M .bounds) (M .coefs) (M .rhs)
+    ++ (must (eqb k (bookLength (M .n) (M .m))) 5 ∷ modelNumberChecks M))
+
+unfoldable pub bookFault : List ℕ → ℕ
+bookFault bs = first (bookChecks bs)

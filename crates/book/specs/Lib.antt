@@ -1,0 +1,6 @@
+pub mod Pieces
+pub mod Bytes
+pub mod Book
+pub mod BookChecks
+pub mod RoundTrips
+pub mod Answers

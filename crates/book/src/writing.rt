@@ -1,0 +1,81 @@
+// Writing a model as a book: every check over the model and the lent book, and only then the bytes.
+use crate::bytes::write_i32;
+use crate::integers::write_integers;
+use crate::trailer::TRAILER;
+use crate::trailer::book_length;
+use crate::trailer::row_place;
+use crate::trailer::write_trailer;
+use model::length_fault;
+use model::number_fault;
+use model::size_fault;
+ghost use mathlib.Core.Path.{_≡_};
+ghost use Prim.Native.Nat.{_*_};
+ghost use lib.ListN.{length};
+ghost use Rattle.book.specs.Answers.{bookWritten, writeAnswer, writeCall, writeFault, written};
+ghost use Rattle.book.specs.Book.{HoldsModel, decode, model, rowBytes};
+ghost use Rattle.book.specs.BookChecks.{bookFault};
+ghost use Rattle.book.specs.Pieces.{joined, overwrite};
+
+pub enum WriteAnswer {
+    // By the number of the first check that fails.
+    Refused(u32),
+    Written,
+}
+
+// Checks 3 and 5 to 9 of a model and of the book that it is to be written to: the number of the first that fails, else 0.
+fn write_fault(n: usize, m: usize, bounds: &[i32], coefs: &[i32], rhs: &[i32], book: &[u8]) -> u32
+    ensures { λ r. ⌜ r ≡ writeFault (model n m (now (bounds .entry)) (now (coefs .entry)) (now (rhs .entry))) (now (book .entry)) ⌝ }
+{
+    let size = size_fault(n, m);
+    if size != 0 {
+        return size;
+    }
+    let length = length_fault(n, m, bounds, coefs, rhs);
+    if length != 0 {
+        return length;
+    }
+    if book.len() != book_length(n, m) {
+        return 5;
+    }
+    number_fault(n, bounds, coefs, rhs)
+}
+
+fn write_rows(n: usize, coefs: &[i32], rhs: &[i32], book: &mut [u8])
+    requires { ⌜ HoldsModel n (length (now rhs)) (now book) × (length (now coefs) ≡ length (now rhs) * n) ⌝ }
+    ensures { λ r. ⌜ now (book .exit) ≡ overwrite (8 * n) (joined (length (now (rhs .entry))) (rowBytes n (now (coefs .entry)) (now (rhs .entry)))) (now (book .entry)) ⌝ }
+{
+    let mut i = 0;
+    while i < rhs.len() {
+        let row = row_place(n, i);
+        let start = i * n;
+        let end = start + n;
+        write_i32(book, row, rhs[i]);
+        write_integers(book, row + 4, &coefs[start..end]);
+        i += 1;
+    }
+}
+
+// Writes a model as a book. Refused by 3 and 5 to 9; then nothing is written.
+// Reading what was written is not refused, and gives the same model (`round_trip`).
+pub fn write(
+    n: usize,
+    m: usize,
+    bounds: &[i32],
+    coefs: &[i32],
+    rhs: &[i32],
+    book: &mut [u8],
+) -> WriteAnswer
+    ensures answer { λ r. ⌜ writeAnswer r ≡ writeCall (model n m (now (bounds .entry)) (now (coefs .entry)) (now (rhs .entry))) (now (book .entry)) ⌝ }
+    ensures book_written { λ r. ⌜ now (book .exit) ≡ bookWritten (model n m (now (bounds .entry)) (now (coefs .entry)) (now (rhs .entry))) (now (book .entry)) ⌝ }
+    ensures round_trip { λ r. ⌜ (writeAnswer r ≡ written → (bookFault (now (book .exit)) ≡ 0) × (decode (now (book .exit)) ≡ model n m (now (bounds .entry)) (now (coefs .entry)) (now (rhs .entry)))) ⌝ }
+{
+    let fault = write_fault(n, m, bounds, coefs, rhs, book);
+    if fault != 0 {
+        return WriteAnswer::Refused(fault);
+    }
+    write_integers(book, 0, bounds);
+    write_rows(n, coefs, rhs, book);
+    let end = book.len() - TRAILER;
+    write_trailer(&mut book[end..], n, m);
+    WriteAnswer::Written
+}

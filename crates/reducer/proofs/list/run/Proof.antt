@@ -1,0 +1,208 @@
+-- `reducer::list::run`: refused by the list's number, or run record by record: before each, what is left gives the whole (`Along`).
+-- Assumes nothing.
+use Prim.Native.Nat.{_+_, _-_, _/_, _%_}
+use borrow.Author.Needs.{needs}
+use lib.ListN as lists
+use mathlib.Core.Path.{_∙_, _≡_, sym}
+use native.Mathlib.Omega.{arith}
+use Rattle.semantics.specs.CallList.{recordAt}
+use Rattle.semantics.specs.Points.{ValidState}
+use Rattle.semantics.specs.Run.{noCounts}
+use Rattle.semantics.specs.State.{State}
+use Rattle.semantics.proofs.CallLists.{Along, along-end, along-more, along-start, counts-add-up, demand-3-lists, list-accepted, list-refused}
+use Rattle.reducer.specs.CallLists.{countsOf, listAnswer, listRun}
+use Rattle.reducer.specs.OpenCalls.{callOf, stateOf}
+use Rattle.reducer.proofs.list.run.Statement.{statement}
+use Rattle.reducer.proofs.list.run.Tie as tie
+
+abbrev Inv-loop : tie.InvT-loop
+Inv-loop n m bounds₀ coefs₀ rhs₀ table₀ calls fault counts₀ records i₀ bounds coefs rhs table counts i =
+    Along (stateOf n m bounds₀ coefs₀ rhs₀ table₀) calls (stateOf n m bounds coefs rhs table) (countsOf counts) i
+
+abbrev μ-loop : tie.MeasureT-loop
+μ-loop n m bounds₀ coefs₀ rhs₀ table₀ calls fault counts₀ records i₀ bounds coefs rhs table counts i = lists.length calls / 4 - i
+
+list-fault-requires : tie.Need-list-fault-requires Inv-loop μ-loop
+list-fault-requires c κs = search needs
+
+same-length : tie.Need-same-length Inv-loop μ-loop
+same-length c = search needs
+
+same-length-2 : tie.Need-same-length-2 Inv-loop μ-loop
+same-length-2 c = search needs
+
+same-length-3 : tie.Need-same-length-3 Inv-loop μ-loop
+same-length-3 c = search needs
+
+same-length-4 : tie.Need-same-length-4 Inv-loop μ-loop
+same-length-4 c = search needs
+
+-- the state as it was lent
+abbrev first : tie.Start Inv-loop μ-loop → State
+first s = let a = s .args in stateOf (a .n) (a .m) (a .bounds .now) (a .coefs .now) (a .rhs .now) (a .table .now)
+
+returns : tie.Need-returns Inv-loop μ-loop
+unfolding listRun listAnswer
+returns c =
+    let s = c .before .before .before .before .before .before .before .before in
+    let e = c .before .list-fault .ensures in
+    (sym (list-refused (first s) (s .args .calls .now) (λ z. c .if1 .taken (e ∙ z)) ∙ rw e), (demand-3-lists, counts-add-up))
+
+-- the list is run
+accepted : (c : tie.Else1 Inv-loop μ-loop) → let s = c .before .before .before .before .before .before .before .before in
+    ValidState (first s) × (lists.length (s .args .calls .now) % 4 ≡ 0)
+accepted c =
+    let s = c .before .before .before .before .before .before .before .before in
+    list-accepted (first s) (s .args .calls .now) .0 (sym (c .before .list-fault .ensures) ∙ c .if1 .left)
+
+loop-holds : tie.Need-loop-holds Inv-loop μ-loop
+unfolding countsOf noCounts
+loop-holds c =
+    let s = c .before .before .before .before .before .before .before .before in along-start (first s) (s .args .calls .now) (accepted c .0)
+
+-- at the loop's head
+module _ (h : tie.At-loop Inv-loop μ-loop) where
+  abbrev s : tie.Start Inv-loop μ-loop
+  s = h .before .before .before .before .before .before .before .before .before
+
+  abbrev state : State
+  state = stateOf (s .args .n) (s .args .m) (h .loop .bounds) (h .loop .coefs) (h .loop .rhs) (h .loop .table)
+
+  -- as many calls are counted as records are run
+  counted : let k = h .loop .counts in k .refused + k .infeasible + k .changed + k .unchanged ≡ h .loop .i
+  unfolding countsOf
+  counted = h .loop .inv .counted
+
+mul-run-record : tie.Need-mul-run-record Inv-loop μ-loop
+mul-run-record c = omega arith
+
+mul-run-record-2 : tie.Need-mul-run-record-2 Inv-loop μ-loop
+mul-run-record-2 c = omega arith
+
+shared-slice-read-run-record : tie.Need-shared-slice-read-run-record Inv-loop μ-loop
+shared-slice-read-run-record c = omega arith
+
+mul-run-record-3 : tie.Need-mul-run-record-3 Inv-loop μ-loop
+mul-run-record-3 c = omega arith
+
+add-run-record : tie.Need-add-run-record Inv-loop μ-loop
+add-run-record c = omega arith
+
+mul-run-record-4 : tie.Need-mul-run-record-4 Inv-loop μ-loop
+mul-run-record-4 c = omega arith
+
+shared-slice-read-run-record-2 : tie.Need-shared-slice-read-run-record-2 Inv-loop μ-loop
+shared-slice-read-run-record-2 c = omega arith
+
+mul-run-record-5 : tie.Need-mul-run-record-5 Inv-loop μ-loop
+mul-run-record-5 c = omega arith
+
+add-run-record-2 : tie.Need-add-run-record-2 Inv-loop μ-loop
+add-run-record-2 c = omega arith
+
+mul-run-record-6 : tie.Need-mul-run-record-6 Inv-loop μ-loop
+mul-run-record-6 c = omega arith
+
+shared-slice-read-run-record-3 : tie.Need-shared-slice-read-run-record-3 Inv-loop μ-loop
+shared-slice-read-run-record-3 c = omega arith
+
+mul-run-record-7 : tie.Need-mul-run-record-7 Inv-loop μ-loop
+mul-run-record-7 c = omega arith
+
+add-run-record-3 : tie.Need-add-run-record-3 Inv-loop μ-loop
+add-run-record-3 c = omega arith
+
+mul-run-record-8 : tie.Need-mul-run-record-8 Inv-loop μ-loop
+mul-run-record-8 c = omega arith
+
+shared-slice-read-run-record-4 : tie.Need-shared-slice-read-run-record-4 Inv-loop μ-loop
+shared-slice-read-run-record-4 c = omega arith
+
+run-record-requires : tie.Need-run-record-requires Inv-loop μ-loop
+run-record-requires c κs = c .before .before .before .before .before .before .before .before .before .loop .inv .valid
+
+count-requires : tie.Need-count-requires Inv-loop μ-loop
+count-requires c κs =
+    let e = c .before .before .before .before .before .before .before .before .before .before .before .before .before .before in
+    omega (arith, counted (e .before), e .loop-test .taken, s (e .before) .good)
+
+add-i : tie.Need-add-i Inv-loop μ-loop
+add-i c =
+    let e = c .before .before .before .before .before .before .before .before .before .before .before .before .before .before .before in
+    omega (arith, e .loop-test .taken, s (e .before) .good)
+
+loop-less : tie.Need-loop-less Inv-loop μ-loop
+loop-less c = omega arith
+
+loop-again : tie.Need-loop-again Inv-loop μ-loop
+unfolding callOf recordAt
+loop-again c =
+    let r = c .before .before .before .before .before .before in
+    let e = r .before .before .before .before .before .before .before .before .before in
+    let h = e .before in
+    along-more (first (s h)) (s h .args .calls .now) (state h) (countsOf (h .loop .counts)) (h .loop .i) (h .loop .inv) (e .loop-test .taken)
+    (r .run-record .ensures) (c .count .ensures)
+
+same-length-5 : tie.Need-same-length-5 Inv-loop μ-loop
+unfolding stateOf
+same-length-5 c = let v = c .before .loop .inv .valid in let w = c .before .loop .inv .start in v .model .box .len ∙ sym (w .model .box .len)
+
+same-length-6 : tie.Need-same-length-6 Inv-loop μ-loop
+unfolding stateOf
+same-length-6 c = let v = c .before .loop .inv .valid in let w = c .before .loop .inv .start in v .model .coefsLen ∙ sym (w .model .coefsLen)
+
+same-length-7 : tie.Need-same-length-7 Inv-loop μ-loop
+unfolding stateOf
+same-length-7 c = let v = c .before .loop .inv .valid in let w = c .before .loop .inv .start in v .model .rhsLen ∙ sym (w .model .rhsLen)
+
+same-length-8 : tie.Need-same-length-8 Inv-loop μ-loop
+unfolding stateOf
+same-length-8 c = let v = c .before .loop .inv .valid in let w = c .before .loop .inv .start in v .table .len ∙ sym (w .table .len)
+
+returns-2 : tie.Need-returns-2 Inv-loop μ-loop
+unfolding listRun listAnswer
+returns-2 c =
+    let h = c .before in (
+      along-end (first (s h)) (s h .args .calls .now) (state h) (countsOf (h .loop .counts)) (h .loop .i) (h .loop .inv)
+          (c .loop-test .left) (accepted (h .before) .1),
+      (demand-3-lists, counts-add-up),
+    )
+
+pub run-spec : {M : Type 1} → statement M
+run-spec =
+    tie.close
+    (tie.spec
+    Inv-loop
+    μ-loop
+    list-fault-requires
+    same-length
+    same-length-2
+    same-length-3
+    same-length-4
+    returns
+    loop-holds
+    mul-run-record
+    mul-run-record-2
+    shared-slice-read-run-record
+    mul-run-record-3
+    add-run-record
+    mul-run-record-4
+    shared-slice-read-run-record-2
+    mul-run-record-5
+    add-run-record-2
+    mul-run-record-6
+    shared-slice-read-run-record-3
+    mul-run-record-7
+    add-run-record-3
+    mul-run-record-8
+    shared-slice-read-run-record-4
+    run-record-requires
+    count-requires
+    add-i
+    loop-less
+    loop-again
+    same-length-5
+    same-length-6
+    same-length-7
+    same-length-8
+    returns-2)

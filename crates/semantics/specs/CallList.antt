@@ -1,0 +1,60 @@
+-- Call lists (01's run sheet): many calls on one model, checked once.
+use Prim.Native.Nat.{_*_, _+_, _/_, _%_, suc, zero, ℕ}
+use lib.Dec.{eqb}
+use lib.ListN.{getD, length}
+use mathlib.Core.Bool.{cond}
+use mathlib.Core.List.{List, [], _++_, _∷_}
+use Rattle.model.specs.Checks.{Check, first, lengthChecks, must, numberChecks, sizeChecks, table, tableByteChecks, tableLengthChecks}
+use Rattle.semantics.specs.Run.{Counts, noCounts, run, tally}
+use Rattle.semantics.specs.State.{Call, State, lengthsOf}
+
+-- "kind, ..; row; variable; budget; each an unsigned number of 32 bits": record i of a flat list of numbers, four to a record, as a
+-- call on s
+unfoldable pub recordAt : State → List ℕ → ℕ → Call
+recordAt s xs i =
+    record {
+      kind = getD xs (4 * i) 0;
+      row = getD xs (4 * i + 1) 0;
+      variable = getD xs (4 * i + 2) 0;
+      budget = getD xs (4 * i + 3) 0;
+      n = s .n;
+      m = s .m;
+      lengths = lengthsOf s;
+    }
+
+-- the records from number i on, `count` of them
+unfoldable pub recordsFrom : (count : ℕ) → State → List ℕ → ℕ → List Call
+recordsFrom zero s xs i = []
+recordsFrom (suc count) s xs i = recordAt s xs i ∷ recordsFrom count s xs (i + 1)
+
+unfoldable pub recordsOf : State → List ℕ → List Call
+recordsOf s xs = recordsFrom (length xs / 4) s xs 0
+
+-- "The model and table are checked before the first record": 3, 5 to 10; a list of numbers that are not four to a record has a wrong
+-- length, 5
+unfoldable pub listChecks : State → List ℕ → List Check
+listChecks s xs =
+    sizeChecks (s .n) (s .m)
+    ++ (lengthChecks (s .n) (s .m) (s .box) (s .coefs) (s .rhs)
+    ++ (tableLengthChecks (s .n) (table (s .table))
+    ++ (must (eqb (length xs % 4) 0) 5
+    ∷ (numberChecks (s .n) (s .box) (s .coefs) (s .rhs) ++ tableByteChecks (table (s .table))))))
+
+unfoldable pub listFault : State → List ℕ → ℕ
+listFault s xs = first (listChecks s xs)
+
+-- "if they fail, the sheet as a whole is refused"; else "four counts whose sum is the list's length"
+pub data ListAnswer : Type 0 where
+  refusedList : ℕ → ListAnswer
+  ran : Counts → ListAnswer
+
+pub record ListRun : Type 0 where
+  pub answer : ListAnswer
+  pub state : State
+
+-- "The run goes on after a refused call."
+unfoldable pub runList : State → List ℕ → ListRun
+runList s xs =
+    cond (eqb (listFault s xs) 0)
+    (record { answer = ran (tally noCounts s (recordsOf s xs)); state = run s (recordsOf s xs) })
+    (record { answer = refusedList (listFault s xs); state = s })
