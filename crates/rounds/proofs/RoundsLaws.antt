@@ -1,0 +1,251 @@
+-- What the functions of `rounds` need of the definitions: where calls lead, one turn of a loop over calls, and the rounds that are
+-- still to be made.
+use Prim.Native.Nat.{_*_, _+_, _-_, _<_, _≤_, suc, zero, ℕ}
+use borrow.Author.Tests.{ne-eqb}
+use lib.IntN.{ℤ}
+use lib.ListN.{length}
+use mathlib.Core.Bool.{Bool, _||_, cond, false, or-assoc, or-false, or-true, true}
+use mathlib.Core.List.{List, [], _++_, _∷_, append-assoc, append-nil}
+use mathlib.Core.Path.{_∙_, _≡_, ap, ap₂, refl, subst, sym}
+use native.Mathlib.Numerals.{add-one}
+use native.Mathlib.Omega.{arith}
+use Rattle.model.specs.Box.{isEmpty}
+use Rattle.semantics.specs.Perform.{act}
+use Rattle.semantics.specs.Points.{ValidState}
+use Rattle.semantics.specs.Run.{CallClass, classOf, run, step}
+use Rattle.semantics.specs.State.{Call, State, kindOf, withRow}
+use Rattle.semantics.proofs.CallLaws.{step-ind}
+use Rattle.semantics.proofs.Preserved.{Preserves, run-preserves}
+use Rattle.rounds.specs.Rounds.{Rounds, RoundsAnswer, RoundsEnding, SamePoints, after, andThen, anyChange, atLimit, callOn, dropCall, drops, ended, infeasible, isChange, nothingChanged, probes, refusedRounds, round, roundsFault, roundsFrom, runRounds, settleCall, sharpens, unlessEmpty, upwards}
+
+-- ---- where calls lead
+
+run-append : (s : State) (cs ds : List Call) → run s (cs ++ ds) ≡ run (run s cs) ds
+unfolding run
+run-append s [] ds = refl
+run-append s (c ∷ cs) ds = run-append (step s c) cs ds
+
+change-append : (s : State) (cs ds : List Call) → anyChange s (cs ++ ds) ≡ (anyChange s cs || anyChange (run s cs) ds)
+unfolding run anyChange
+change-append s [] ds = refl
+change-append s (c ∷ cs) ds =
+    let b = isChange (classOf s c) in
+    ap (λ (x : Bool). b || x) (change-append (step s c) cs ds) ∙ sym (or-assoc b (anyChange (step s c) cs) (anyChange (run (step s c) cs) ds))
+
+-- from s the calls cs lead to t, and b says whether one of them changed something
+pub record Leads (s : State) (cs : List Call) (t : State) (b : Bool) : Type 0 where
+  pub left : t ≡ run s cs
+  pub changed : b ≡ anyChange s cs
+
+pub leads-valid : {s t : State} {cs : List Call} {b : Bool} → Leads s cs t b → ValidState s → ValidState t
+leads-valid {s} {cs = cs} p v = subst ValidState (sym (p .left)) (run-preserves s cs .valid v)
+
+-- calls keep the length of each buffer
+pub record SameLengths (s t : State) : Type 0 where
+  pub box : length (t .box) ≡ length (s .box)
+  pub coefs : length (t .coefs) ≡ length (s .coefs)
+  pub rhs : length (t .rhs) ≡ length (s .rhs)
+  pub table : length (t .table) ≡ length (s .table)
+
+pub valid-lengths : {s t : State} → ValidState s → ValidState t → (t .n ≡ s .n) × (t .m ≡ s .m) → SameLengths s t
+valid-lengths v w e = record {
+  box = w .model .box .len ∙ ap (λ (x : ℕ). 2 * x) (e .0) ∙ sym (v .model .box .len);
+  coefs = w .model .coefsLen ∙ ap₂ _*_ (e .1) (e .0) ∙ sym (v .model .coefsLen);
+  rhs = w .model .rhsLen ∙ e .1 ∙ sym (v .model .rhsLen);
+  table = w .table .len ∙ ap (λ (x : ℕ). 4 * (x * x)) (e .0) ∙ sym (v .table .len);
+}
+
+pub same-lengths : {s t : State} {cs : List Call} {b : Bool} → Leads s cs t b → ValidState s → SameLengths s t
+same-lengths {s} {cs = cs} p v = let q = subst (Preserves s) (sym (p .left)) (run-preserves s cs) in valid-lengths v (q .valid v) (q .sizes)
+
+no-call : (s : State) → Leads s [] s false
+unfolding run anyChange
+no-call s = record { left = refl; changed = refl }
+
+-- as the code makes a call: k is its class, t the state that it leaves
+pub one-call : {s t : State} (c : Call) {k : CallClass} {b : Bool} → (k ≡ classOf s c) × (t ≡ step s c) → b ≡ isChange k → Leads s (c ∷ []) t b
+unfolding run anyChange
+one-call {s} c e f = record { left = e .1; changed = f ∙ ap isChange (e .0) ∙ sym (or-false (isChange (classOf s c))) }
+
+pub leads-then : (f g : State → List Call) {s t u : State} {b d e : Bool}
+    → Leads s (f s) t b → Leads t (g t) u d → e ≡ (b || d) → Leads s (andThen f g s) u e
+unfolding andThen
+leads-then f g {s} p q k =
+    let r = rw (p .left) at q in
+    record {
+      left = r .left ∙ sym (run-append s (f s) (g (run s (f s))));
+      changed = k ∙ ap₂ _||_ (p .changed) (r .changed) ∙ sym (change-append s (f s) (g (run s (f s))));
+    }
+
+-- the flag b of a loop over calls becomes e after a call of which d says whether it changed something
+pub flag-raised : (b : Bool) {d e : Bool} → d ≡ true → e ≡ true → e ≡ (b || d)
+flag-raised b h k = k ∙ sym (ap (λ (x : Bool). b || x) h ∙ or-true b)
+
+pub flag-kept : (b : Bool) {d e : Bool} → d ≡ false → e ≡ b → e ≡ (b || d)
+flag-kept b h k = k ∙ sym (ap (λ (x : Bool). b || x) h ∙ or-false b)
+
+-- ---- a loop over the calls of f 0, f 1, ..
+
+-- i of `count` turns are made: from the valid state s their calls lead to t, and b says whether one of them changed something
+pub record Turns (count : ℕ) (f : ℕ → State → List Call) (s t : State) (b : Bool) (i : ℕ) : Type 0 where
+  pub within : i ≤ count
+  pub start : ValidState s
+  pub made : Leads s (upwards i f s) t b
+
+module _ (count : ℕ) (f : ℕ → State → List Call) {s : State} where
+  pub no-turn : ValidState s → Turns count f s s false 0
+  unfolding upwards
+  no-turn v = record { within = omega arith; start = v; made = no-call s }
+
+  module _ {t : State} {b : Bool} {i : ℕ} (w : Turns count f s t b i) where
+    pub turn : i < count → {u : State} {d e : Bool} → Leads t (f i t) u d → e ≡ (b || d) → Turns count f s u e (i + 1)
+    unfolding upwards
+    turn h p k = record { within = omega arith; start = w .start; made = rw (add-one i) (leads-then (upwards i f) (f i) (w .made) p k) }
+
+    pub all-turns : count ≤ i → Leads s (upwards count f s) t b
+    all-turns h = let e : i ≡ count = omega arith in rw e at (w .made)
+
+    -- a turn that makes the call c only where the test x holds
+    module _ (x : Bool) (c : Call) (q : f i t ≡ cond x (c ∷ []) []) (h : i < count) where
+      pub call-turn : x ≡ true → {u : State} {k : CallClass} {d e : Bool} → (k ≡ classOf t c) × (u ≡ step t c) → d ≡ isChange k → e ≡ (b || d)
+          → Turns count f s u e (i + 1)
+      call-turn y r g = turn h (rw (q, y) (one-call c r g))
+
+      pub skip-turn : x ≡ false → {e : Bool} → e ≡ b → Turns count f s t e (i + 1)
+      skip-turn y k = turn h (rw (q, y) (no-call t)) (flag-kept b refl k)
+
+module _ {count i : ℕ} {f : ℕ → State → List Call} {s t : State} {b : Bool} (w : Turns count f s t b i) where
+  pub turns-valid : ValidState t
+  turns-valid = leads-valid (w .made) (w .start)
+
+  pub turns-lengths : SameLengths s t
+  turns-lengths = same-lengths (w .made) (w .start)
+
+-- ---- the phases of a round
+
+-- a drop leaves the box
+drop-box : (s : State) (r : ℕ) → step s (callOn s 5 r 0 0) .box ≡ s .box
+unfolding act callOn kindOf withRow
+drop-box s r = step-ind s (callOn s 5 r 0 0) (λ u. u .box ≡ s .box) (λ _. refl) refl
+
+-- so the box of a loop over drops stays one that is not empty
+pub drop-turn : {count r : ℕ} {s t u : State} {k : CallClass} {b d e : Bool}
+    → Turns count dropCall s t b r → isEmpty (t .n) (t .box) ≡ false → r < count
+    → (k ≡ classOf t (callOn t 5 r 0 0)) × (u ≡ step t (callOn t 5 r 0 0)) → d ≡ isChange k → e ≡ (b || d)
+    → Turns count dropCall s u e (r + 1) × (isEmpty (t .n) (u .box) ≡ false)
+unfolding dropCall unlessEmpty
+drop-turn {count} {r} {t = t} w z h o g k = (
+  turn count dropCall w h (rw z (one-call (callOn t 5 r 0 0) o g)) k,
+  ap (λ (B : List ℤ). isEmpty (t .n) B) (ap (λ (x : State). x .box) (o .1) ∙ drop-box t r) ∙ z,
+)
+
+-- "at None" no row is dropped
+no-calls : (count : ℕ) (f : ℕ → State → List Call) (s : State) → ((i : ℕ) → f i s ≡ []) → upwards count f s ≡ []
+unfolding upwards andThen run
+no-calls zero f s h = refl
+no-calls (suc count) f s h = rw (no-calls count f s h) (h count)
+
+pub no-drops : (s : State) → isEmpty (s .n) (s .box) ≡ true → Leads s (drops s) s false
+unfolding drops dropCall unlessEmpty
+no-drops s e = rw (no-calls (s .m) dropCall s (λ r. rw e)) (no-call s)
+
+then-assoc : (f g h : State → List Call) (s : State) → andThen (andThen f g) h s ≡ andThen f (andThen g h) s
+unfolding andThen
+then-assoc f g h s =
+    let t = run s (f s) in
+    append-assoc (f s) (g t) (h (run s (f s ++ g t))) ∙ ap (λ (r : State). f s ++ (g t ++ h r)) (run-append s (f s) (g t))
+
+-- a round, one phase after another
+pub in-order : (s : State) → andThen (andThen (andThen settleCall drops) sharpens) probes s ≡ round s
+unfolding round
+in-order s = then-assoc (andThen settleCall drops) sharpens probes s ∙ then-assoc settleCall drops (andThen sharpens probes) s
+
+-- ---- rounds
+
+-- no further call: they end with e after k rounds
+unfoldable pub halt : RoundsEnding → ℕ → Rounds
+halt e k = record { ending = e; rounds = k; calls = [] }
+
+-- what `rest` does from t ends what `all` does from s
+pub record Finishes (s : State) (all : Rounds) (t : State) (rest : Rounds) : Type 0 where
+  pub ending : rest .ending ≡ all .ending
+  pub rounds : rest .rounds ≡ all .rounds
+  pub left : run t (rest .calls) ≡ run s (all .calls)
+
+finishes-refl : (s : State) (all : Rounds) → Finishes s all s all
+finishes-refl s all = record { ending = refl; rounds = refl; left = refl }
+
+-- after a round that leads to u, where b says whether it changed something
+abbrev restAfter : (left made : ℕ) → State → Bool → Rounds
+restAfter left made u b = cond (isEmpty (u .n) (u .box)) (halt infeasible made) (cond b (roundsFrom left made u) (halt nothingChanged made))
+
+rounds-next : (left made : ℕ) (s : State)
+    → roundsFrom (suc left) made s ≡ after (round s) (restAfter left (suc made) (run s (round s)) (anyChange s (round s)))
+unfolding roundsFrom after halt
+rounds-next left made s = go (isEmpty (run s (round s) .n) (run s (round s) .box)) (anyChange s (round s)) (append-nil (round s))
+  where
+    go : (a b : Bool) → round s ++ [] ≡ round s
+        → cond a (record { ending = infeasible; rounds = suc made; calls = round s })
+        (cond b (after (round s) (roundsFrom left (suc made) (run s (round s)))) (record { ending = nothingChanged; rounds = suc made; calls = round s }))
+        ≡ after (round s) (cond a (halt infeasible (suc made)) (cond b (roundsFrom left (suc made) (run s (round s))) (halt nothingChanged (suc made))))
+    go true b e = ap (λ (cs : List Call). record { ending = infeasible; rounds = suc made; calls = cs }) (sym e)
+    go false true e = refl
+    go false false e = ap (λ (cs : List Call). record { ending = nothingChanged; rounds = suc made; calls = cs }) (sym e)
+
+rest-after : {s t u : State} {all : Rounds} {b : Bool} (left made : ℕ) → Leads t (round t) u b
+    → Finishes s all t (roundsFrom (suc left) made t) → Finishes s all u (restAfter left (suc made) u b)
+unfolding after
+rest-after {s} {t} {all = all} left made p f =
+    let r = restAfter left (suc made) (run t (round t)) (anyChange t (round t)) in
+    let g : Finishes s all t (after (round t) r) = rw (sym (rounds-next left made t)) f in
+    rw (p .left, p .changed) (record { ending = g .ending; rounds = g .rounds; left = sym (run-append t (round t) (r .calls)) ∙ g .left })
+
+-- `made` of the rounds from s are made: what is left to do from the valid state t ends them
+pub record Rest (s : State) (limit made : ℕ) (t : State) : Type 0 where
+  pub within : made ≤ limit
+  pub valid : ValidState t
+  pub finishes : Finishes s (roundsFrom limit 0 s) t (roundsFrom (limit - made) made t)
+
+pub no-round : (limit : ℕ) {s : State} → ValidState s → Rest s limit 0 s
+no-round limit {s} v =
+    let e : limit - 0 ≡ limit = omega arith in record { within = omega arith; valid = v; finishes = rw e (finishes-refl s (roundsFrom limit 0 s)) }
+
+pub at-limit : {s t : State} {limit made : ℕ} → Rest s limit made t → limit ≤ made → Finishes s (roundsFrom limit 0 s) t (halt atLimit made)
+unfolding roundsFrom halt
+at-limit {limit = limit} {made} w h = let e : limit - made ≡ 0 = omega (arith, w .within) in rw e at (w .finishes)
+
+-- one more round
+module _ {s t u : State} {limit made : ℕ} {b : Bool} (w : Rest s limit made t) (h : made < limit) (p : Leads t (round t) u b) where
+  round-made : Finishes s (roundsFrom limit 0 s) u (restAfter (limit - (made + 1)) (made + 1) u b)
+  round-made =
+      let e : limit - made ≡ suc (limit - (made + 1)) = omega arith in
+      subst (λ (k : ℕ). Finishes s (roundsFrom limit 0 s) u (restAfter (limit - (made + 1)) k u b)) (sym (add-one made))
+      (rest-after (limit - (made + 1)) made p (rw e at (w .finishes)))
+
+  pub ends-empty : isEmpty (u .n) (u .box) ≡ true → Finishes s (roundsFrom limit 0 s) u (halt infeasible (made + 1))
+  ends-empty e = rw e at round-made
+
+  pub ends-unchanged : isEmpty (u .n) (u .box) ≡ false → b ≡ false → Finishes s (roundsFrom limit 0 s) u (halt nothingChanged (made + 1))
+  ends-unchanged e f = rw (e, f) at round-made
+
+  pub goes-on : isEmpty (u .n) (u .box) ≡ false → b ≡ true → Rest s limit (made + 1) u
+  goes-on e f = record { within = omega arith; valid = leads-valid p (w .valid); finishes = rw (e, f) at round-made }
+
+-- ---- the call
+
+module _ (limit : ℕ) (s : State) where
+  abbrev pub Answers : RoundsAnswer → State → Type 0
+  Answers a t = (a ≡ runRounds limit s .answer) × ((t ≡ run s (runRounds limit s .calls)) × SamePoints s t)
+
+  answers : {a : RoundsAnswer} {t : State} → a ≡ runRounds limit s .answer → t ≡ run s (runRounds limit s .calls) → Answers a t
+  answers e f =
+      let p = run-preserves s (runRounds limit s .calls) in
+      (e, (f, subst (SamePoints s) (sym f) (record { points = p .points; fractional = p .fractional })))
+
+  pub refuses : {number : ℕ} → number ≡ roundsFault s → (number ≡ 0 → ⊥) → Answers (refusedRounds number) s
+  unfolding runRounds run
+  refuses e h = let z = ne-eqb (roundsFault s) 0 (λ q. h (e ∙ q)) in answers (rw (z, e) refl) (rw z refl)
+
+  pub finished : {t : State} {e : RoundsEnding} {k : ℕ} → roundsFault s ≡ 0 → Finishes s (roundsFrom limit 0 s) t (halt e k) → Answers (ended e k) t
+  unfolding runRounds run halt
+  finished z f = answers (rw z (ap₂ ended (f .ending) (f .rounds))) (rw z (f .left))

@@ -1,0 +1,124 @@
+-- The rounds of `reduce` (01, "Book"): "A round is: settle with 1,000 passes; drop each row; sharpen each row at each variable free
+-- then; probe each variable free then with 1,000. Rows and variables go upwards. It ends after a round that changed nothing, after
+-- 8 rounds, or at None."
+use Prim.Native.Nat.{suc, zero, ℕ}
+use lib.Dec.{eqb}
+use lib.IntN.{ℤ}
+use mathlib.Core.Bool.{Bool, _||_, cond, false, true}
+use mathlib.Core.List.{List, [], _++_, _∷_}
+use mathlib.Core.Logic.{_↔_}
+use Rattle.model.specs.Box.{isEmpty, isFree}
+use Rattle.model.specs.Checks.{modelFault, table}
+use Rattle.semantics.specs.Points.{FractionalPointOf, PointOf}
+use Rattle.semantics.specs.Run.{CallClass, changedCall, classOf, infeasibleCall, refusedCall, run, step, unchangedCall}
+use Rattle.semantics.specs.State.{Call, State, lengthsOf}
+
+-- a call on s that is lent buffers of the right lengths
+unfoldable pub callOn : State → ℕ → ℕ → ℕ → ℕ → Call
+callOn s kind row variable budget =
+    record { kind = kind; row = row; variable = variable; budget = budget; n = s .n; m = s .m; lengths = lengthsOf s }
+
+-- ---- the calls of a round, each on the state that the calls before it left
+
+-- those of f, then those of g on the state that they leave
+unfoldable pub andThen : (State → List Call) → (State → List Call) → State → List Call
+andThen f g s = let cs = f s in cs ++ g (run s cs)
+
+-- those of f 0, then of f 1, .. then of f (count − 1)
+unfoldable pub upwards : ℕ → (ℕ → State → List Call) → State → List Call
+upwards zero f s = []
+upwards (suc count) f s = andThen (upwards count f) (f count) s
+
+-- none once the box is empty: the rounds end at None
+unfoldable pub unlessEmpty : (State → List Call) → State → List Call
+unlessEmpty f s = cond (isEmpty (s .n) (s .box)) [] (f s)
+
+unfoldable pub settleCall : State → List Call
+settleCall s = callOn s 2 0 0 1000 ∷ []
+
+unfoldable pub dropCall : ℕ → State → List Call
+dropCall r = unlessEmpty (λ s. callOn s 5 r 0 0 ∷ [])
+
+-- "at each variable free then": free when its own turn comes
+unfoldable pub sharpenCall : ℕ → ℕ → State → List Call
+sharpenCall r k s = cond (isFree (s .box) k) (callOn s 4 r k 0 ∷ []) []
+
+unfoldable pub probeCall : ℕ → State → List Call
+probeCall k s = cond (isFree (s .box) k) (callOn s 3 0 k 1000 ∷ []) []
+
+unfoldable pub drops : State → List Call
+drops s = upwards (s .m) dropCall s
+
+unfoldable pub sharpenRow : ℕ → State → List Call
+sharpenRow r s = upwards (s .n) (sharpenCall r) s
+
+unfoldable pub sharpens : State → List Call
+sharpens s = upwards (s .m) sharpenRow s
+
+unfoldable pub probes : State → List Call
+probes s = upwards (s .n) probeCall s
+
+unfoldable pub round : State → List Call
+round s = andThen settleCall (andThen drops (andThen sharpens probes)) s
+
+-- ---- rounds
+
+unfoldable pub isChange : CallClass → Bool
+isChange refusedCall = false
+isChange infeasibleCall = false
+isChange changedCall = true
+isChange unchangedCall = false
+
+-- some call of the list, from s, changed a bound, row or table byte
+unfoldable pub anyChange : State → List Call → Bool
+anyChange s [] = false
+anyChange s (c ∷ cs) = isChange (classOf s c) || anyChange (step s c) cs
+
+-- how they end: at None, after a round that changed nothing, at the limit
+pub data RoundsEnding : Type 0 where
+  infeasible nothingChanged atLimit : RoundsEnding
+
+-- the ending, the number of rounds made, and all the calls that they made
+pub record Rounds : Type 0 where
+  pub ending : RoundsEnding
+  pub rounds : ℕ
+  pub calls : List Call
+
+-- the calls cs, and then those of r
+unfoldable pub after : List Call → Rounds → Rounds
+after cs r = record { ending = r .ending; rounds = r .rounds; calls = cs ++ r .calls }
+
+-- `left` rounds may still be made, `made` are made. "The number .. includes the last, unchanged round", and the round in which None came.
+unfoldable pub roundsFrom : (left : ℕ) → ℕ → State → Rounds
+roundsFrom zero made s = record { ending = atLimit; rounds = made; calls = [] }
+roundsFrom (suc left) made s =
+    let cs = round s in
+    let r = run s cs in
+    let more : Rounds = after cs (roundsFrom left (suc made) r) in
+    cond (isEmpty (r .n) (r .box)) (record { ending = infeasible; rounds = suc made; calls = cs })
+    (cond (anyChange s cs) more (record { ending = nothingChanged; rounds = suc made; calls = cs }))
+
+-- ---- the call
+
+-- refused by 3, 5 to 10, or the rounds with the given limit
+pub data RoundsAnswer : Type 0 where
+  refusedRounds : ℕ → RoundsAnswer
+  ended : RoundsEnding → ℕ → RoundsAnswer
+
+pub record RoundsRun : Type 0 where
+  pub answer : RoundsAnswer
+  pub calls : List Call
+
+unfoldable pub roundsFault : State → ℕ
+roundsFault s = modelFault (s .n) (s .m) (s .box) (s .coefs) (s .rhs) (table (s .table))
+
+unfoldable pub runRounds : ℕ → State → RoundsRun
+runRounds limit s =
+    let r = roundsFrom limit 0 s in
+    cond (eqb (roundsFault s) 0) (record { answer = ended (r .ending) (r .rounds); calls = r .calls })
+    (record { answer = refusedRounds (roundsFault s); calls = [] })
+
+-- demand 2 of the whole: the integer points are those of the model handed in, and no fractional point is added
+pub record SamePoints (s r : State) : Type 0 where
+  pub points : (x : List ℤ) → PointOf r x ↔ PointOf s x
+  pub fractional : (x : List ℤ) (d : ℕ) → FractionalPointOf r x d → FractionalPointOf s x d

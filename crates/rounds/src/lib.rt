@@ -1,0 +1,197 @@
+// The rounds of `reduce`: propagate, remove redundant rows, tighten coefficients and probe, again until a round changes nothing.
+// The model and the table are checked once; each call leaves them valid.
+use reducer::implications::is_free;
+use reducer::list::CallClass;
+use reducer::list::run_record;
+ghost use mathlib.Core.Path.{_≡_};
+ghost use Prim.Native.Nat.{_<_};
+ghost use Rattle.semantics.specs.Points.{PointOf, ValidState};
+ghost use Rattle.semantics.specs.Run.{run as ran};
+ghost use Rattle.reducer.specs.CallLists.{classIs};
+ghost use Rattle.reducer.specs.OpenCalls.{stateOf};
+ghost use Rattle.rounds.specs.Answers.{roundsAnswer};
+ghost use Rattle.rounds.specs.Rounds.{SamePoints, anyChange, drops, isChange, probes, round as roundOf, runRounds, sharpenRow, sharpens};
+
+const PASSES: u32 = 1_000;
+
+// How the rounds ended, with the number of rounds made: refused N; at None; after a round that changed nothing; at the limit.
+pub enum RoundsAnswer {
+    Refused(u32),
+    Infeasible(u32),
+    NothingChanged(u32),
+    AtLimit(u32),
+}
+
+// Whether a call changed a bound, row or table byte.
+fn is_changed(class: CallClass) -> bool
+    ensures { λ r. ⌜ r ≡ isChange (classIs class) ⌝ }
+{
+    let CallClass::Changed = class else {
+        return false;
+    };
+    true
+}
+
+// Removes each redundant row, upwards; says whether a number changed.
+fn remove_rows(
+    n: usize,
+    m: usize,
+    bounds: &mut [i32],
+    coefs: &mut [i32],
+    rhs: &mut [i32],
+    table: &mut [u8],
+) -> bool
+    requires { ⌜ ValidState (stateOf n m (now bounds) (now coefs) (now rhs) (now table)) ⌝ }
+    ensures left { λ r. ⌜ stateOf n m (now (bounds .exit)) (now (coefs .exit)) (now (rhs .exit)) (now (table .exit)) ≡ ran (stateOf n m (now (bounds .entry)) (now (coefs .entry)) (now (rhs .entry)) (now (table .entry))) (drops (stateOf n m (now (bounds .entry)) (now (coefs .entry)) (now (rhs .entry)) (now (table .entry)))) ⌝ }
+    ensures changed { λ r. ⌜ r ≡ anyChange (stateOf n m (now (bounds .entry)) (now (coefs .entry)) (now (rhs .entry)) (now (table .entry))) (drops (stateOf n m (now (bounds .entry)) (now (coefs .entry)) (now (rhs .entry)) (now (table .entry)))) ⌝ }
+{
+    if model::is_empty(bounds) {
+        return false;
+    }
+    let mut changed = false;
+    let mut r: u32 = 0;
+    while (r as usize) < m {
+        if is_changed(run_record(n, m, bounds, coefs, rhs, table, 5, r, 0, 0)) {
+            changed = true;
+        }
+        r += 1;
+    }
+    changed
+}
+
+// Tightens row `row` at each variable that is free when its turn comes, upwards; says whether a number changed.
+fn tighten_row(
+    n: usize,
+    m: usize,
+    bounds: &mut [i32],
+    coefs: &mut [i32],
+    rhs: &mut [i32],
+    table: &mut [u8],
+    row: u32,
+) -> bool
+    requires { ⌜ row < m ⌝ }
+    requires { ⌜ ValidState (stateOf n m (now bounds) (now coefs) (now rhs) (now table)) ⌝ }
+    ensures left { λ r. ⌜ stateOf n m (now (bounds .exit)) (now (coefs .exit)) (now (rhs .exit)) (now (table .exit)) ≡ ran (stateOf n m (now (bounds .entry)) (now (coefs .entry)) (now (rhs .entry)) (now (table .entry))) (sharpenRow row (stateOf n m (now (bounds .entry)) (now (coefs .entry)) (now (rhs .entry)) (now (table .entry)))) ⌝ }
+    ensures changed { λ r. ⌜ r ≡ anyChange (stateOf n m (now (bounds .entry)) (now (coefs .entry)) (now (rhs .entry)) (now (table .entry))) (sharpenRow row (stateOf n m (now (bounds .entry)) (now (coefs .entry)) (now (rhs .entry)) (now (table .entry)))) ⌝ }
+{
+    let mut changed = false;
+    let mut k: u32 = 0;
+    while (k as usize) < n {
+        if is_free(bounds, k as usize) {
+            if is_changed(run_record(n, m, bounds, coefs, rhs, table, 4, row, k, 0)) {
+                changed = true;
+            }
+        }
+        k += 1;
+    }
+    changed
+}
+
+// The same of each row, upwards.
+fn tighten_rows(
+    n: usize,
+    m: usize,
+    bounds: &mut [i32],
+    coefs: &mut [i32],
+    rhs: &mut [i32],
+    table: &mut [u8],
+) -> bool
+    requires { ⌜ ValidState (stateOf n m (now bounds) (now coefs) (now rhs) (now table)) ⌝ }
+    ensures left { λ r. ⌜ stateOf n m (now (bounds .exit)) (now (coefs .exit)) (now (rhs .exit)) (now (table .exit)) ≡ ran (stateOf n m (now (bounds .entry)) (now (coefs .entry)) (now (rhs .entry)) (now (table .entry))) (sharpens (stateOf n m (now (bounds .entry)) (now (coefs .entry)) (now (rhs .entry)) (now (table .entry)))) ⌝ }
+    ensures changed { λ r. ⌜ r ≡ anyChange (stateOf n m (now (bounds .entry)) (now (coefs .entry)) (now (rhs .entry)) (now (table .entry))) (sharpens (stateOf n m (now (bounds .entry)) (now (coefs .entry)) (now (rhs .entry)) (now (table .entry)))) ⌝ }
+{
+    let mut changed = false;
+    let mut r: u32 = 0;
+    while (r as usize) < m {
+        if tighten_row(n, m, bounds, coefs, rhs, table, r) {
+            changed = true;
+        }
+        r += 1;
+    }
+    changed
+}
+
+// Probes each variable that is free when its turn comes, upwards; says whether a bound or a table byte changed.
+fn probe_variables(
+    n: usize,
+    m: usize,
+    bounds: &mut [i32],
+    coefs: &mut [i32],
+    rhs: &mut [i32],
+    table: &mut [u8],
+) -> bool
+    requires { ⌜ ValidState (stateOf n m (now bounds) (now coefs) (now rhs) (now table)) ⌝ }
+    ensures left { λ r. ⌜ stateOf n m (now (bounds .exit)) (now (coefs .exit)) (now (rhs .exit)) (now (table .exit)) ≡ ran (stateOf n m (now (bounds .entry)) (now (coefs .entry)) (now (rhs .entry)) (now (table .entry))) (probes (stateOf n m (now (bounds .entry)) (now (coefs .entry)) (now (rhs .entry)) (now (table .entry)))) ⌝ }
+    ensures changed { λ r. ⌜ r ≡ anyChange (stateOf n m (now (bounds .entry)) (now (coefs .entry)) (now (rhs .entry)) (now (table .entry))) (probes (stateOf n m (now (bounds .entry)) (now (coefs .entry)) (now (rhs .entry)) (now (table .entry)))) ⌝ }
+{
+    let mut changed = false;
+    let mut k: u32 = 0;
+    while (k as usize) < n {
+        if is_free(bounds, k as usize) {
+            if is_changed(run_record(n, m, bounds, coefs, rhs, table, 3, 0, k, PASSES)) {
+                changed = true;
+            }
+        }
+        k += 1;
+    }
+    changed
+}
+
+// One round; says whether anything changed. After None the box is empty, and no further call is made.
+fn round(
+    n: usize,
+    m: usize,
+    bounds: &mut [i32],
+    coefs: &mut [i32],
+    rhs: &mut [i32],
+    table: &mut [u8],
+) -> bool
+    requires { ⌜ ValidState (stateOf n m (now bounds) (now coefs) (now rhs) (now table)) ⌝ }
+    ensures left { λ r. ⌜ stateOf n m (now (bounds .exit)) (now (coefs .exit)) (now (rhs .exit)) (now (table .exit)) ≡ ran (stateOf n m (now (bounds .entry)) (now (coefs .entry)) (now (rhs .entry)) (now (table .entry))) (roundOf (stateOf n m (now (bounds .entry)) (now (coefs .entry)) (now (rhs .entry)) (now (table .entry)))) ⌝ }
+    ensures changed { λ r. ⌜ r ≡ anyChange (stateOf n m (now (bounds .entry)) (now (coefs .entry)) (now (rhs .entry)) (now (table .entry))) (roundOf (stateOf n m (now (bounds .entry)) (now (coefs .entry)) (now (rhs .entry)) (now (table .entry)))) ⌝ }
+{
+    let mut changed = is_changed(run_record(n, m, bounds, coefs, rhs, table, 2, 0, 0, PASSES));
+    if remove_rows(n, m, bounds, coefs, rhs, table) {
+        changed = true;
+    }
+    if tighten_rows(n, m, bounds, coefs, rhs, table) {
+        changed = true;
+    }
+    if probe_variables(n, m, bounds, coefs, rhs, table) {
+        changed = true;
+    }
+    changed
+}
+
+// Makes rounds until one changes nothing, the box is empty or `limit` rounds are made. Refused by 3, 5 to 10; the table is kept
+// and extended.
+pub fn run(
+    n: usize,
+    m: usize,
+    bounds: &mut [i32],
+    coefs: &mut [i32],
+    rhs: &mut [i32],
+    table: &mut [u8],
+    limit: u32,
+) -> RoundsAnswer
+    ensures answer { λ r. ⌜ roundsAnswer r ≡ runRounds limit (stateOf n m (now (bounds .entry)) (now (coefs .entry)) (now (rhs .entry)) (now (table .entry))) .answer ⌝ }
+    ensures left { λ r. ⌜ stateOf n m (now (bounds .exit)) (now (coefs .exit)) (now (rhs .exit)) (now (table .exit)) ≡ ran (stateOf n m (now (bounds .entry)) (now (coefs .entry)) (now (rhs .entry)) (now (table .entry))) (runRounds limit (stateOf n m (now (bounds .entry)) (now (coefs .entry)) (now (rhs .entry)) (now (table .entry))) .calls) ⌝ }
+    ensures meaning { λ r. ⌜ SamePoints (stateOf n m (now (bounds .entry)) (now (coefs .entry)) (now (rhs .entry)) (now (table .entry))) (stateOf n m (now (bounds .exit)) (now (coefs .exit)) (now (rhs .exit)) (now (table .exit))) ⌝ }
+{
+    let fault = model::model_table_fault(n, m, bounds, coefs, rhs, table);
+    if fault != 0 {
+        return RoundsAnswer::Refused(fault);
+    }
+    let mut made: u32 = 0;
+    while made < limit {
+        made += 1;
+        let changed = round(n, m, bounds, coefs, rhs, table);
+        if model::is_empty(bounds) {
+            return RoundsAnswer::Infeasible(made);
+        }
+        if !changed {
+            return RoundsAnswer::NothingChanged(made);
+        }
+    }
+    RoundsAnswer::AtLimit(made)
+}
