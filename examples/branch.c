@@ -1,0 +1,131 @@
+/*
+ * A small branch and bound without the bound: all integer points of a model, found by a depth-first
+ * search that propagates at each node.
+ *
+ *     cc -std=c99 -Wall -Wextra -Iinclude examples/branch.c target/staticlib/libcapi.a -o branch
+ *     ./branch | diff examples/branch.expected -
+ *
+ * The model: five warehouse receipts of 30, 25, 20, 15 and 10 tons go to a notice whole or not at all,
+ * filled up with at most two lots of 5 tons, so that the notice gets exactly 55 tons. At most three
+ * receipts; the first two are of one car and cannot both go; the fourth goes only with the third.
+ */
+#include <stdio.h>
+#include <string.h>
+
+#include "astrolabe.h"
+
+enum { N = 6, M = 5, BUDGET = 1000 };
+
+typedef int32_t Box[2 * N]; /* l0 u0 l1 u1 .. */
+
+static const Box root = {0, 1, 0, 1, 0, 1, 0, 1, 0, 1, 0, 2};
+
+static const int32_t coefs[M * N] = {
+    30,  25,  20,  15,  10,  5,  /* at most 55 tons */
+    -30, -25, -20, -15, -10, -5, /* and at least 55 */
+    1,   1,   1,   1,   1,   0,  /* at most three receipts */
+    1,   1,   0,   0,   0,   0,  /* not both of the first two */
+    0,   0,   -1,  1,   0,   0,  /* the fourth only with the third */
+};
+
+static const int32_t rhs[M] = {55, -55, 3, 1, 0};
+
+static unsigned nodes, solutions;
+
+/* The first variable that is not fixed, or N. */
+static size_t first_unfixed(const Box box)
+{
+    size_t j = 0;
+    while (j < N && box[2 * j] == box[2 * j + 1])
+        j++;
+    return j;
+}
+
+static void print_solution(const Box box)
+{
+    printf("solution %u:", ++solutions);
+    for (size_t j = 0; j < N; j++)
+        printf(" %d", (int)box[2 * j]);
+    putchar('\n');
+}
+
+/* Propagates one node and searches below it. The box is the node's own copy. 0, or a refusal. */
+static uint32_t search(Box box, unsigned depth)
+{
+    uint64_t answer[ASTROLABE_ANSWER_LEN];
+    uint32_t refused = astrolabe_propagate(N, M, box, 2 * N, coefs, M * N, rhs, M, BUDGET,
+                                           answer, ASTROLABE_ANSWER_LEN);
+    if (refused)
+        return refused;
+
+    printf("%*snode %u: ", 2 * (int)depth, "", ++nodes);
+    if (answer[0] == ASTROLABE_PROPAGATE_INFEASIBLE) {
+        printf("infeasible, passes %u\n", (unsigned)answer[1]);
+        return ASTROLABE_OK;
+    }
+    size_t j = first_unfixed(box);
+    if (j == N) {
+        print_solution(box);
+        return ASTROLABE_OK;
+    }
+    printf("branch on x%u, passes %u\n", (unsigned)j, (unsigned)answer[1]);
+
+    /* x <= middle on one branch, x > middle on the other; each searches its own copy of the bounds. */
+    int32_t middle = box[2 * j] + (box[2 * j + 1] - box[2 * j]) / 2;
+    Box branch;
+    memcpy(branch, box, sizeof branch);
+    branch[2 * j + 1] = middle;
+    refused = search(branch, depth + 1);
+    if (refused)
+        return refused;
+    memcpy(branch, box, sizeof branch);
+    branch[2 * j] = middle + 1;
+    return search(branch, depth + 1);
+}
+
+/* Whether a point meets every row. */
+static int meets_rows(const int32_t *x)
+{
+    for (size_t r = 0; r < M; r++) {
+        int32_t sum = 0;
+        for (size_t j = 0; j < N; j++)
+            sum += coefs[r * N + j] * x[j];
+        if (sum > rhs[r])
+            return 0;
+    }
+    return 1;
+}
+
+/* The number of integer points, by looking at every point of the box. */
+static unsigned enumerate(void)
+{
+    int32_t x[N];
+    unsigned points = 0;
+    for (size_t j = 0; j < N; j++)
+        x[j] = root[2 * j];
+    for (;;) {
+        points += meets_rows(x);
+        size_t j = 0;
+        while (j < N && x[j] == root[2 * j + 1]) { /* the next point, as an odometer counts */
+            x[j] = root[2 * j];
+            j++;
+        }
+        if (j == N)
+            return points;
+        x[j]++;
+    }
+}
+
+int main(void)
+{
+    Box box;
+    memcpy(box, root, sizeof box);
+    uint32_t refused = search(box, 0);
+    if (refused) {
+        fprintf(stderr, "refused by check %u\n", (unsigned)refused);
+        return 2;
+    }
+    unsigned points = enumerate();
+    printf("%u nodes, %u solutions, %u by enumeration\n", nodes, solutions, points);
+    return solutions == points ? 0 : 1;
+}

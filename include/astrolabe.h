@@ -1,0 +1,360 @@
+/*
+ * astrolabe.h - a proved presolve library for 0-1 and small-integer linear models.
+ *
+ * Link with libcapi.a (`rt staticlib capi`). C99 or later, C++98 or later.
+ *
+ *     cc -Iinclude program.c target/staticlib/libcapi.a
+ *
+ * THE MODEL. n variables (1 to 128) with whole bounds, m rows (0 to 120), each row
+ *     sum of coefficient x variable <= right-hand side.
+ * It lives in the caller's memory, in flat buffers; nothing is kept between calls.
+ *
+ *     buffer   type       count   what                                            range of each number
+ *     bounds   int32_t    2n      l0 u0 l1 u1 ..: lower and upper bounds, "the    -32,768 .. 32,767
+ *                                 box"
+ *     coefs    int32_t    m*n     the rows' coefficients, row after row           -1,000,000 .. 1,000,000
+ *     rhs      int32_t    m       the rows' right-hand sides                      -1,000,000,000 .. 1,000,000,000
+ *     table    uint8_t    4n^2    the implication table: byte p*2n + q is 1       0 or 1
+ *                                 when literal p implies literal q; the literal
+ *                                 "variable k is v" has the number 2k + v.
+ *                                 Start it with all 0
+ *     calls    uint32_t   4 each  call records: kind, row, variable, budget       any
+ *     book     uint8_t    16+     a model as a file, see "Books" below
+ *     answer   uint64_t   6       the answer; places that a call does not use
+ *                                 are set to 0
+ *
+ * THE EMPTY BOX (01's void box) has every lower bound 1 and every upper bound 0. It is the only box
+ * with a lower bound above its upper, and it says that the model has no integer point. A call that
+ * finds the model infeasible leaves this box behind.
+ *
+ * A FREE BINARY VARIABLE (01's free 0-1) is one whose bounds are now 0 and 1.
+ *
+ * WHAT IS PROMISED, and proved for every input: each call does exactly what the specification
+ * (document 01) says; the integer points after it are those before it, and no fractional point is
+ * added; "infeasible" is said only where no integer point exists.
+ *
+ * REFUSALS. Every function returns ASTROLABE_OK (0), or the number of the first check that fails, in
+ * the order of the numbers. On a refusal no lent number changes, the answer's places among them. All
+ * that is lent is checked in every call, so a model can be changed freely between calls.
+ *
+ * THE CALLER'S FAULT, which no check can see and for which nothing is promised:
+ *     - a pointer that is NULL, or does not point to as many elements as its count says, where the
+ *       count is above 0 (with a count of 0 a pointer may be NULL);
+ *     - buffers that overlap each other;
+ *     - a pointer that is not aligned for its type;
+ *     - another thread that writes a lent buffer, or reads one that the call writes, meanwhile.
+ *
+ * THREADS. There is no shared state: any number of threads may call at once, each on its own buffers.
+ * Buffers that a call takes as const may be shared by calls.
+ */
+#ifndef ASTROLABE_H
+#define ASTROLABE_H
+
+#include <stddef.h>
+#include <stdint.h>
+
+#ifdef __cplusplus
+extern "C" {
+#endif
+
+/* ---------------------------------------------------------------------------------------------
+ * Limits
+ */
+
+#define ASTROLABE_MAX_VARIABLES 128
+#define ASTROLABE_MAX_ROWS 120
+#define ASTROLABE_MIN_BOUND (-32768)
+#define ASTROLABE_MAX_BOUND 32767
+#define ASTROLABE_MAX_COEF 1000000   /* and its negative */
+#define ASTROLABE_MAX_RHS 1000000000 /* and its negative */
+/* The largest budget. It is never spent: no propagation makes more passes. */
+#define ASTROLABE_MAX_BUDGET 8388481
+/* The count of every answer buffer. */
+#define ASTROLABE_ANSWER_LEN 6
+/* The bytes of a book's trailer. */
+#define ASTROLABE_TRAILER_LEN 16
+
+/* ---------------------------------------------------------------------------------------------
+ * Refusals: 01's "Checks in their order". Each function's comment has those that apply to it.
+ */
+
+#define ASTROLABE_OK 0                           /* accepted */
+#define ASTROLABE_REFUSED_SHORT_BOOK 1           /* the book has under 16 bytes */
+#define ASTROLABE_REFUSED_BOOK_LENGTH 2          /* the trailer's length is not the book's */
+#define ASTROLABE_REFUSED_SIZE 3                 /* n is not 1 to 128, or m is over 120 */
+#define ASTROLABE_REFUSED_BOOK_LAYOUT 4          /* an offset or the length is not what n and m give */
+#define ASTROLABE_REFUSED_BUFFER_LENGTH 5        /* a lent buffer has not exactly the count needed */
+#define ASTROLABE_REFUSED_BOUND 6                /* a bound is outside its range */
+#define ASTROLABE_REFUSED_CROSSED_BOUNDS 7       /* a lower bound is above its upper in a box not empty */
+#define ASTROLABE_REFUSED_COEFFICIENT 8          /* a coefficient is outside its range */
+#define ASTROLABE_REFUSED_RIGHT_HAND_SIDE 9      /* a right-hand side is outside its range */
+#define ASTROLABE_REFUSED_TABLE_BYTE 10          /* a table byte is neither 0 nor 1 */
+#define ASTROLABE_REFUSED_KIND 11                /* the kind is not 1 to 5; of a record of astrolabe_run only */
+#define ASTROLABE_REFUSED_ROW 12                 /* the row is not below m */
+#define ASTROLABE_REFUSED_VARIABLE 13            /* the variable is not below n */
+#define ASTROLABE_REFUSED_VARIABLE_NOT_FREE 14   /* in a box that is not empty: the variable is not free binary */
+#define ASTROLABE_REFUSED_BUDGET 15              /* the budget is not 1 to 8,388,481 */
+
+/* ---------------------------------------------------------------------------------------------
+ * Propagation
+ */
+
+/* Cases of astrolabe_propagate_row, answer[0]. */
+#define ASTROLABE_ROW_INFEASIBLE 0 /* 01's None: the box is empty now */
+#define ASTROLABE_ROW_TIGHTENED 1  /* 01's Narrowed: a bound moved */
+#define ASTROLABE_ROW_UNCHANGED 2  /* 01's Same */
+
+/*
+ * Propagates row `row` over the box once (01's visit): every variable's bounds are narrowed to what the
+ * row and the other variables' bounds allow, rounded to whole numbers.
+ *
+ *     bounds      written   narrowed, or made the empty box
+ *     answer[0]   ASTROLABE_ROW_..
+ *
+ * Refused by 3, 5 to 9, 12. On the empty box: infeasible.
+ */
+uint32_t astrolabe_propagate_row(size_t n, size_t m,
+                                 int32_t *bounds, size_t bounds_len,
+                                 const int32_t *coefs, size_t coefs_len,
+                                 const int32_t *rhs, size_t rhs_len,
+                                 uint32_t row,
+                                 uint64_t *answer, size_t answer_len);
+
+/* Cases of astrolabe_propagate, answer[0]. */
+#define ASTROLABE_PROPAGATE_INFEASIBLE 0   /* 01's None: the box is empty now */
+#define ASTROLABE_PROPAGATE_CONVERGED 1    /* 01's Settled: the last pass moved nothing */
+#define ASTROLABE_PROPAGATE_BUDGET_SPENT 2 /* 01's Spent: the budget's passes are made and the last moved a bound */
+
+/*
+ * Propagates all rows, upwards, pass after pass, until a pass moves nothing, a row is infeasible, or
+ * `budget` passes are made (01's settle).
+ *
+ *     bounds      written   narrowed, or made the empty box
+ *     answer[0]   ASTROLABE_PROPAGATE_..
+ *     answer[1]   the passes made, 1 to budget; a pass that an infeasible row breaks off counts
+ *
+ * Refused by 3, 5 to 9, 15. On the empty box: infeasible with 1 pass.
+ */
+uint32_t astrolabe_propagate(size_t n, size_t m,
+                             int32_t *bounds, size_t bounds_len,
+                             const int32_t *coefs, size_t coefs_len,
+                             const int32_t *rhs, size_t rhs_len,
+                             uint32_t budget,
+                             uint64_t *answer, size_t answer_len);
+
+/* ---------------------------------------------------------------------------------------------
+ * Probing
+ */
+
+/* Cases of astrolabe_probe, answer[0]. */
+#define ASTROLABE_PROBE_INFEASIBLE 0    /* 01's None: neither side is feasible, the box is empty now */
+#define ASTROLABE_PROBE_FIXED 1         /* 01's Fixed: only one side is feasible, and its box is the new one */
+#define ASTROLABE_PROBE_BOTH_FEASIBLE 2 /* 01's Both: the new box is the smallest that contains both sides */
+
+/*
+ * Probes the free binary variable `variable`: each side v (0, 1) is the box with the variable set to v,
+ * propagated with `budget`. Where both sides are feasible, "variable is v" implies what side v fixes of
+ * the other free binary variables; that and its contrapositive go into the table.
+ *
+ *     bounds      written   the new box
+ *     table       written   bytes go from 0 to 1, where both sides are feasible
+ *     answer[0]   ASTROLABE_PROBE_..
+ *     answer[1]   FIXED: the value v; BOTH_FEASIBLE: the number of table bytes that went from 0 to 1;
+ *                 INFEASIBLE: 0
+ *     answer[2]   the passes of side 0
+ *     answer[3]   1 where side 0 spent its budget, else 0; 0 where side 0 is infeasible
+ *     answer[4]   the passes of side 1
+ *     answer[5]   1 where side 1 spent its budget, else 0; 0 where side 1 is infeasible
+ *
+ * Refused by 3, 5 to 10, 13, 14, 15. On the empty box: infeasible with 0 passes for each side.
+ */
+uint32_t astrolabe_probe(size_t n, size_t m,
+                         int32_t *bounds, size_t bounds_len,
+                         const int32_t *coefs, size_t coefs_len,
+                         const int32_t *rhs, size_t rhs_len,
+                         uint8_t *table, size_t table_len,
+                         uint32_t variable, uint32_t budget,
+                         uint64_t *answer, size_t answer_len);
+
+/* Answers of astrolabe_is_probing_fixpoint, answer[0]. */
+#define ASTROLABE_FIXPOINT_NO 0  /* a row or a probe would still change the box */
+#define ASTROLABE_FIXPOINT_YES 1 /* 01's at rest */
+
+/*
+ * Says whether the box is a probing fixpoint (01's at rest): it is empty; or no row narrows it and, for
+ * each free binary variable, both sides propagated to their ends are feasible and give back this box
+ * as the smallest that contains both. Writes nothing but the answer; takes no budget, since none could be spent.
+ *
+ *     answer[0]   ASTROLABE_FIXPOINT_..
+ *
+ * Refused by 3, 5 to 9.
+ */
+uint32_t astrolabe_is_probing_fixpoint(size_t n, size_t m,
+                                       const int32_t *bounds, size_t bounds_len,
+                                       const int32_t *coefs, size_t coefs_len,
+                                       const int32_t *rhs, size_t rhs_len,
+                                       uint64_t *answer, size_t answer_len);
+
+/* ---------------------------------------------------------------------------------------------
+ * Rows. What these two write holds for this box and every box inside it, and for no other: do not
+ * carry a row that was tightened or removed at one branch over to another.
+ */
+
+/* Cases of astrolabe_tighten_coefficient, answer[0]. */
+#define ASTROLABE_TIGHTEN_INFEASIBLE 0 /* 01's None: the box is the empty one */
+#define ASTROLABE_TIGHTEN_TIGHTENED 1  /* 01's Sharpened */
+#define ASTROLABE_TIGHTEN_UNCHANGED 2  /* 01's Same */
+
+/*
+ * Tightens the coefficient of the free binary variable `variable` in row `row` (01's sharpen): the same
+ * integer points, fewer fractional ones. A positive coefficient takes the right-hand side down with
+ * it, a negative one does not.
+ *
+ *     coefs       written   one coefficient
+ *     rhs         written   one right-hand side, where the coefficient is positive
+ *     answer[0]   ASTROLABE_TIGHTEN_..
+ *
+ * Refused by 3, 5 to 9, 12, 13, 14. On the empty box: infeasible.
+ */
+uint32_t astrolabe_tighten_coefficient(size_t n, size_t m,
+                                       const int32_t *bounds, size_t bounds_len,
+                                       int32_t *coefs, size_t coefs_len,
+                                       int32_t *rhs, size_t rhs_len,
+                                       uint32_t row, uint32_t variable,
+                                       uint64_t *answer, size_t answer_len);
+
+/* Cases of astrolabe_remove_redundant_row, answer[0]. */
+#define ASTROLABE_REMOVE_INFEASIBLE 0 /* 01's None: the box is the empty one */
+#define ASTROLABE_REMOVE_REMOVED 1    /* 01's Dropped: a number changed */
+#define ASTROLABE_REMOVE_UNCHANGED 2  /* 01's Same: the row is needed, or all zero already */
+
+/*
+ * Removes row `row` where the box alone implies it (01's drop): its coefficients and its right-hand
+ * side become 0. The row keeps its place, m stays.
+ *
+ *     coefs       written   one row
+ *     rhs         written   one right-hand side
+ *     answer[0]   ASTROLABE_REMOVE_..
+ *
+ * Refused by 3, 5 to 9, 12. On the empty box: infeasible.
+ */
+uint32_t astrolabe_remove_redundant_row(size_t n, size_t m,
+                                        const int32_t *bounds, size_t bounds_len,
+                                        int32_t *coefs, size_t coefs_len,
+                                        int32_t *rhs, size_t rhs_len,
+                                        uint32_t row,
+                                        uint64_t *answer, size_t answer_len);
+
+/* ---------------------------------------------------------------------------------------------
+ * Many calls at once
+ */
+
+/* Kinds of a call record, its first number. A field that a kind lacks may hold anything. */
+#define ASTROLABE_KIND_PROPAGATE_ROW 1        /* 01's visit: row */
+#define ASTROLABE_KIND_PROPAGATE 2            /* 01's settle: budget */
+#define ASTROLABE_KIND_PROBE 3                /* 01's probe: variable, budget */
+#define ASTROLABE_KIND_TIGHTEN_COEFFICIENT 4  /* 01's sharpen: row, variable */
+#define ASTROLABE_KIND_REMOVE_REDUNDANT_ROW 5 /* 01's drop: row */
+
+/*
+ * Makes the calls of a list one after another (01's run sheet), each on what the one before it left. A
+ * record is four numbers: kind, row, variable, budget; `calls_len` counts numbers, four a record. A
+ * record that one of the checks 11 to 15 refuses changes nothing, and the run goes on.
+ *
+ *     bounds, coefs, rhs, table   written   as the calls do
+ *     answer[0]   calls refused
+ *     answer[1]   calls that answered infeasible (01's None)
+ *     answer[2]   other calls that changed a bound, a row or a table byte
+ *     answer[3]   other calls that changed nothing
+ *
+ * The four add up to calls_len / 4. An empty list is accepted.
+ * The list as a whole is refused by 3, 5 to 10; a calls_len that is not a multiple of four is 5.
+ */
+uint32_t astrolabe_run(size_t n, size_t m,
+                       int32_t *bounds, size_t bounds_len,
+                       int32_t *coefs, size_t coefs_len,
+                       int32_t *rhs, size_t rhs_len,
+                       uint8_t *table, size_t table_len,
+                       const uint32_t *calls, size_t calls_len,
+                       uint64_t *answer, size_t answer_len);
+
+/* Cases of astrolabe_rounds, answer[0]. */
+#define ASTROLABE_ROUNDS_INFEASIBLE 0    /* 01's None: the box is empty now */
+#define ASTROLABE_ROUNDS_UNCHANGED 1     /* the last round changed nothing */
+#define ASTROLABE_ROUNDS_LIMIT_REACHED 2 /* `limit` rounds are made and the last changed something, or limit is 0 */
+
+/*
+ * Makes the rounds of the program `reduce`: propagate with 1,000 passes; remove each redundant row;
+ * tighten each row at each variable that is free then; probe each variable that is free then with 1,000
+ * passes. It ends after a round that changed nothing, after `limit` rounds, or at infeasible. Any limit
+ * is accepted (`reduce` itself has 8); with 0 no call is made at all.
+ *
+ *     bounds, coefs, rhs, table   written   as the calls do; the table is kept and extended
+ *     answer[0]   ASTROLABE_ROUNDS_..
+ *     answer[1]   the rounds made, the last one included
+ *
+ * Refused by 3, 5 to 10.
+ */
+uint32_t astrolabe_rounds(size_t n, size_t m,
+                          int32_t *bounds, size_t bounds_len,
+                          int32_t *coefs, size_t coefs_len,
+                          int32_t *rhs, size_t rhs_len,
+                          uint8_t *table, size_t table_len,
+                          uint32_t limit,
+                          uint64_t *answer, size_t answer_len);
+
+/* ---------------------------------------------------------------------------------------------
+ * Books. A model as a file, little-endian: the bounds, l and u of each variable; then for each row its
+ * right-hand side and its n coefficients; 32 bits each, two's complement. The last 16 bytes are the
+ * trailer, unsigned: offset of the bounds (0) and of the rows (8n), 32 bits each; n and m, 16 bits
+ * each; length of the book, 32 bits. The table is not in it.
+ */
+
+/* The bytes of the book of n variables and m rows; n and m within their limits. */
+#define ASTROLABE_BOOK_LEN(n, m) (8 * (size_t)(n) + (size_t)(m) * (4 + 4 * (size_t)(n)) + ASTROLABE_TRAILER_LEN)
+
+/*
+ * Reads n and m from the 16 trailer bytes alone, to know what buffers astrolabe_book_read needs.
+ *
+ *     answer[0]   n
+ *     answer[1]   m
+ *
+ * Refused by 1, 5 (more than 16 bytes, or a wrong answer_len), 3, 4, in this order.
+ */
+uint32_t astrolabe_book_trailer(const uint8_t *bytes, size_t bytes_len,
+                                uint64_t *answer, size_t answer_len);
+
+/*
+ * Reads a book into the buffers of a model.
+ *
+ *     bounds, coefs, rhs   written   the model; counts as the book's n and m give them
+ *     answer[0]   n
+ *     answer[1]   m
+ *
+ * Refused by 1 to 9; 6 to 9 are of the book's numbers.
+ */
+uint32_t astrolabe_book_read(const uint8_t *book, size_t book_len,
+                             int32_t *bounds, size_t bounds_len,
+                             int32_t *coefs, size_t coefs_len,
+                             int32_t *rhs, size_t rhs_len,
+                             uint64_t *answer, size_t answer_len);
+
+/*
+ * Writes a model into a book. There is no answer: the returned number says all. Reading the book gives
+ * back the model, and writing the model of an accepted book gives back its bytes.
+ *
+ *     book        written   exactly ASTROLABE_BOOK_LEN(n, m) bytes
+ *
+ * Refused by 3, 5 to 9.
+ */
+uint32_t astrolabe_book_write(size_t n, size_t m,
+                              const int32_t *bounds, size_t bounds_len,
+                              const int32_t *coefs, size_t coefs_len,
+                              const int32_t *rhs, size_t rhs_len,
+                              uint8_t *book, size_t book_len);
+
+#ifdef __cplusplus
+}
+#endif
+
+#endif /* ASTROLABE_H */

@@ -1,0 +1,202 @@
+//! Cases: a model and the calls made on it, from a seed and a number.
+
+use crate::damage;
+use crate::lent::{Lent, Operation};
+use crate::models::{self, Family, MAX_BUDGET};
+use crate::rng::Rng;
+
+/// Buffers and the calls made on them, one after another.
+#[derive(Debug)]
+pub struct Case {
+    pub lent: Lent,
+    pub steps: Vec<Step>,
+    /// The check that was made to fail, in a damaged case.
+    pub refused_by: Option<u32>,
+}
+
+/// A call on what the call before it left, or afresh on what the case began with: after a few calls a
+/// model is often at rest or empty, and nothing would happen any more.
+#[derive(Clone, Copy, Debug)]
+pub struct Step {
+    pub afresh: bool,
+    pub operation: Operation,
+}
+
+/// A case of one accepted call.
+fn single(lent: Lent, operation: Operation) -> Case {
+    Case { lent, steps: vec![Step { afresh: false, operation }], refused_by: None }
+}
+
+/// Case `number` of a seed.
+pub fn case(seed: u64, number: u64) -> Case {
+    let mut rng = Rng::for_case(seed, number);
+    match number % 10 {
+        0..5 => session(&mut rng),
+        5 => book(&mut rng),
+        _ => damaged(&mut rng),
+    }
+}
+
+/// An accepted model and a handful of calls on it, refused ones among them.
+fn session(rng: &mut Rng) -> Case {
+    let family = match rng.between(0, 999) {
+        0..300 => Family::Tiny,
+        300..600 => Family::Binary,
+        600..800 => Family::Mixed,
+        800..810 => Family::Largest,
+        810..870 => Family::Limits,
+        870..890 => Family::LeastRhs,
+        890..950 => Family::Crawling,
+        _ => Family::Empty,
+    };
+    let mut lent = models::model(rng, family);
+    lent.calls = call_list(rng, &lent);
+    let count = if family == Family::Largest { 3 } else { rng.between(4, 12) };
+    let steps = (0..count)
+        .map(|_| Step { afresh: rng.chance(50), operation: operation(rng, &lent) })
+        .collect();
+    Case { lent, steps, refused_by: None }
+}
+
+/// The work of carrying propagation to its end where every pass moves one bound by one.
+fn longest_crawl(lent: &Lent) -> i64 {
+    let width: i64 = lent.bounds.chunks(2).map(|pair| i64::from(pair[1] - pair[0]).max(0)).sum();
+    (width + 1) * (lent.n * lent.m) as i64
+}
+
+/// What a call without a small budget may take: beyond it one case could take minutes.
+const LONGEST: i64 = 20_000_000;
+
+/// A call of any kind; now and then with a row, variable or budget that is refused.
+fn operation(rng: &mut Rng, lent: &Lent) -> Operation {
+    let crawls_long = longest_crawl(lent) > LONGEST;
+    let largest = lent.n * lent.m > 5_000;
+    let (row, variable) = (row(rng, lent), variable(rng, lent));
+    let budget = if crawls_long { budget(rng).min(1_000) } else { budget(rng) };
+    match rng.between(0, 15) {
+        0..3 => Operation::PropagateRow { row },
+        3..5 => Operation::Propagate { budget },
+        5..9 => Operation::Probe { variable, budget },
+        9..11 => Operation::TightenCoefficient { row, variable },
+        11 => Operation::RemoveRedundantRow { row },
+        12 if !crawls_long => Operation::IsProbingFixpoint,
+        13 if largest => Operation::Rounds { limit: rng.pick(&[0, 1]) },
+        13 => Operation::Rounds { limit: rng.pick(&[0, 1, 2, 3, 8, 100]) },
+        _ => Operation::Run,
+    }
+}
+
+/// A row: mostly one that exists.
+fn row(rng: &mut Rng, lent: &Lent) -> u32 {
+    match rng.between(0, 19) {
+        0 => rng.pick(&[lent.m as u32, u32::MAX]),
+        _ => rng.index(lent.m.max(1)) as u32,
+    }
+}
+
+/// A variable: mostly one that is free where there is one.
+fn variable(rng: &mut Rng, lent: &Lent) -> u32 {
+    let free: Vec<u32> = (0..lent.n as u32)
+        .filter(|&k| reference::bounds::is_free(&lent.bounds, k as usize))
+        .collect();
+    match rng.between(0, 19) {
+        0 => rng.pick(&[lent.n as u32, u32::MAX]),
+        1 | 2 => rng.index(lent.n) as u32,
+        _ if free.is_empty() => rng.index(lent.n) as u32,
+        _ => rng.pick(&free),
+    }
+}
+
+fn budget(rng: &mut Rng) -> u32 {
+    match rng.between(0, 19) {
+        0 => rng.pick(&[0, MAX_BUDGET + 1, u32::MAX]),
+        1..8 => rng.between(1, 4) as u32,
+        8..14 => rng.pick(&[1_000, 100]),
+        _ => MAX_BUDGET,
+    }
+}
+
+/// Records of all kinds, with numbers in the fields that a kind lacks.
+fn call_list(rng: &mut Rng, lent: &Lent) -> Vec<u32> {
+    let crawls_long = longest_crawl(lent) > LONGEST;
+    (0..rng.between(0, 12))
+        .flat_map(|_| {
+            let kind = match rng.between(0, 29) {
+                0 => rng.pick(&[0, 6, u32::MAX]),
+                _ => rng.pick(&[1, 2, 3, 3, 4, 4, 5]),
+            };
+            let budget = if crawls_long { budget(rng).min(1_000) } else { budget(rng) };
+            [kind, row(rng, lent), variable(rng, lent), budget]
+        })
+        .collect()
+}
+
+/// Writes a model into a book and reads it back into other buffers, trailer first.
+fn book(rng: &mut Rng) -> Case {
+    let family = rng.pick(&[Family::Tiny, Family::Mixed, Family::Limits, Family::Empty]);
+    let family = if rng.chance(1) { Family::Largest } else { family };
+    let mut lent = models::model(rng, family);
+    match rng.between(0, 2) {
+        0 => {
+            lent.book = vec![0x55; reference::book::length(lent.n, lent.m)];
+            single(lent, Operation::BookWrite)
+        }
+        1 => {
+            damage::write_book(&mut lent);
+            scramble(&mut lent);
+            single(lent, Operation::BookRead)
+        }
+        _ => {
+            trailer_only(&mut lent);
+            single(lent, Operation::BookTrailer)
+        }
+    }
+}
+
+/// Fills the buffers that a book is read into with numbers that no model has.
+fn scramble(lent: &mut Lent) {
+    lent.bounds.fill(i32::MIN);
+    lent.coefs.fill(i32::MAX);
+    lent.rhs.fill(i32::MIN);
+}
+
+fn trailer_only(lent: &mut Lent) {
+    damage::write_book(lent);
+    lent.book.drain(..lent.book.len() - reference::book::TRAILER);
+}
+
+/// One call that fails a check, each check of each call as often as the others.
+fn damaged(rng: &mut Rng) -> Case {
+    let mut lent = loop {
+        let family = if rng.chance(2) { Family::Largest } else { Family::Tiny };
+        let lent = models::model(rng, family);
+        if lent.m > 0 && reference::bounds::is_free(&lent.bounds, 0) {
+            break lent;
+        }
+    };
+    let (row, variable, budget) = (rng.index(lent.m) as u32, 0, rng.pick(&[1, MAX_BUDGET]));
+    let mut operation = rng.pick(&[
+        Operation::PropagateRow { row },
+        Operation::Propagate { budget },
+        Operation::Probe { variable, budget },
+        Operation::TightenCoefficient { row, variable },
+        Operation::RemoveRedundantRow { row },
+        Operation::IsProbingFixpoint,
+        Operation::Run,
+        Operation::Rounds { limit: 1 },
+        Operation::BookTrailer,
+        Operation::BookRead,
+        Operation::BookWrite,
+    ]);
+    lent.calls = call_list(rng, &lent);
+    match operation {
+        Operation::BookTrailer => trailer_only(&mut lent),
+        _ => damage::write_book(&mut lent),
+    }
+    let check = rng.pick(damage::checks(operation));
+    damage::damage(rng, &mut operation, &mut lent, check);
+    if operation == Operation::BookRead {
+        scramble(&mut lent);
+    }
+    Case { refused_by: Some(check), ..single(lent, operation) }
+}

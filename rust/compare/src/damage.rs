@@ -1,0 +1,238 @@
+//! Makes a call fail a chosen check, at its boundary where it has one.
+
+use crate::lent::{Lent, Operation};
+use crate::models::{MAX_BOUND, MAX_BUDGET, MAX_COEF, MAX_RHS, MIN_BOUND};
+use crate::rng::Rng;
+
+/// The checks that a call makes, in the order in which it makes them. In `run`, checks 11 to 15 are
+/// of the records, and none of them refuses the list.
+pub fn checks(operation: Operation) -> &'static [u32] {
+    match operation {
+        Operation::PropagateRow { .. } | Operation::RemoveRedundantRow { .. } => {
+            &[3, 5, 6, 7, 8, 9, 12]
+        }
+        Operation::Propagate { .. } => &[3, 5, 6, 7, 8, 9, 15],
+        Operation::Probe { .. } => &[3, 5, 6, 7, 8, 9, 10, 13, 14, 15],
+        Operation::TightenCoefficient { .. } => &[3, 5, 6, 7, 8, 9, 12, 13, 14],
+        Operation::IsProbingFixpoint | Operation::BookWrite => &[3, 5, 6, 7, 8, 9],
+        Operation::Run | Operation::Rounds { .. } => &[3, 5, 6, 7, 8, 9, 10],
+        Operation::BookTrailer => &[1, 5, 3, 4],
+        Operation::BookRead => &[1, 2, 3, 4, 5, 6, 7, 8, 9],
+    }
+}
+
+/// Damages an accepted call so that `check` is the first that fails; often later ones fail as well.
+/// The model has a row, and its box is not empty.
+pub fn damage(rng: &mut Rng, operation: &mut Operation, lent: &mut Lent, check: u32) {
+    let order = checks(*operation);
+    let place = order.iter().position(|&c| c == check).expect("the call makes this check");
+    let more = rng.chance(50);
+    // From the last check to the chosen one: what is damaged later never repairs an earlier check.
+    for &later in order[place + 1..].iter().rev() {
+        if more && rng.chance(50) {
+            damage_one(rng, operation, lent, later);
+        }
+    }
+    damage_one(rng, operation, lent, check);
+}
+
+fn damage_one(rng: &mut Rng, operation: &mut Operation, lent: &mut Lent, check: u32) {
+    match check {
+        1 => lent.book.truncate(rng.pick(&[15, 15, 14, 8, 1, 0])),
+        2 => wrong_book_length(rng, &mut lent.book),
+        3 => wrong_size(rng, *operation, lent),
+        4 => wrong_layout(rng, *operation, lent),
+        5 => wrong_length(rng, *operation, lent),
+        6..=9 => {
+            wrong_number(rng, lent, check);
+            if *operation == Operation::BookRead {
+                write_book(lent);
+            }
+        }
+        10 => *any(rng, &mut lent.table) = rng.pick(&[2, 3, 128, 255]),
+        _ => wrong_argument(rng, operation, lent, check),
+    }
+}
+
+/// The book of the model as it stands, accepted or not.
+pub fn write_book(lent: &mut Lent) {
+    lent.book = reference::book::write(lent.n, lent.m, &lent.bounds, &lent.coefs, &lent.rhs);
+}
+
+/// A place of the buffer: often the first or the last.
+fn any<'a, T>(rng: &mut Rng, buffer: &'a mut [T]) -> &'a mut T {
+    let last = buffer.len() - 1;
+    let at = match rng.between(0, 3) {
+        0 => 0,
+        1 => last,
+        _ => rng.index(last + 1),
+    };
+    &mut buffer[at]
+}
+
+/// Where the trailer's fields are, from the book's end: width in bytes and distance.
+const BOUNDS_AT: (usize, usize) = (4, 16);
+const ROWS_AT: (usize, usize) = (4, 12);
+const N: (usize, usize) = (2, 8);
+const M: (usize, usize) = (2, 6);
+const LENGTH: (usize, usize) = (4, 4);
+
+fn set_field(book: &mut [u8], (width, from_end): (usize, usize), value: u32) {
+    let at = book.len() - from_end;
+    book[at..at + width].copy_from_slice(&value.to_le_bytes()[..width]);
+}
+
+/// Check 2: bytes too many or too few, or a length in the trailer that is not the book's.
+fn wrong_book_length(rng: &mut Rng, book: &mut Vec<u8>) {
+    let len = book.len() as u32;
+    match rng.between(0, 4) {
+        0 => book.insert(0, 0),
+        1 => drop(book.remove(0)),
+        2 => set_field(book, LENGTH, len + 1),
+        3 => set_field(book, LENGTH, len - 1),
+        _ => set_field(book, LENGTH, rng.pick(&[0, 16, u32::MAX])),
+    }
+}
+
+/// Check 3: n is 0 or above 128, or m is above 120. Sometimes the lengths are right for the wrong size.
+fn wrong_size(rng: &mut Rng, operation: Operation, lent: &mut Lent) {
+    let n_is_wrong = rng.chance(50);
+    match operation {
+        Operation::BookTrailer | Operation::BookRead if n_is_wrong => {
+            set_field(&mut lent.book, N, rng.pick(&[0, 129, 256, 65_535]));
+        }
+        Operation::BookTrailer | Operation::BookRead => {
+            set_field(&mut lent.book, M, rng.pick(&[121, 256, 65_535]));
+        }
+        _ if n_is_wrong => lent.n = rng.pick(&[0, 129, 1 << 31, 1 << 63, usize::MAX]),
+        _ => lent.m = rng.pick(&[121, 1 << 32, usize::MAX]),
+    }
+    let small = lent.n <= 129 && lent.m <= 121;
+    if small && !matches!(operation, Operation::BookTrailer | Operation::BookRead) && rng.chance(50)
+    {
+        lent.bounds.resize(2 * lent.n, 0);
+        lent.coefs.resize(lent.n * lent.m, 0);
+        lent.rhs.resize(lent.m, 0);
+        lent.table.resize(4 * lent.n * lent.n, 0);
+    }
+}
+
+/// Check 4: an offset, or a length that n and m do not give.
+fn wrong_layout(rng: &mut Rng, operation: Operation, lent: &mut Lent) {
+    let (n, m) = (lent.n as u32, lent.m as u32);
+    let book = &mut lent.book;
+    match rng.between(0, 4) {
+        0 => set_field(book, BOUNDS_AT, rng.pick(&[1, 16, u32::MAX])),
+        1 => set_field(book, ROWS_AT, rng.pick(&[8 * n - 1, 8 * n + 1, 0, u32::MAX])),
+        2 => set_field(book, N, if n == 1 { 2 } else { n - 1 }),
+        3 => set_field(book, M, if m == 0 { 1 } else { m - 1 }),
+        _ if operation == Operation::BookTrailer => {
+            let length = reference::book::length(lent.n, lent.m) as u32;
+            set_field(book, LENGTH, rng.pick(&[length - 1, length + 1, 0, u32::MAX]));
+        }
+        _ => {
+            // A longer book that says so itself.
+            let more = rng.pick(&[1, 4, 1_000]);
+            book.splice(0..0, vec![0; more]);
+            let len = book.len() as u32;
+            set_field(book, LENGTH, len);
+        }
+    }
+}
+
+/// Check 5: one buffer of the call is an element too short or too long, or empty.
+fn wrong_length(rng: &mut Rng, operation: Operation, lent: &mut Lent) {
+    let model = ["bounds", "coefs", "rhs", "answer"];
+    let buffer = match operation {
+        Operation::Probe { .. } | Operation::Rounds { .. } => {
+            rng.pick(&["bounds", "coefs", "rhs", "answer", "table"])
+        }
+        Operation::Run => rng.pick(&["bounds", "coefs", "rhs", "answer", "table", "calls"]),
+        Operation::BookTrailer => rng.pick(&["trailer", "answer"]),
+        Operation::BookWrite => rng.pick(&["bounds", "coefs", "rhs", "book"]),
+        _ => rng.pick(&model),
+    };
+    match buffer {
+        "bounds" => resize(rng, &mut lent.bounds),
+        "coefs" => resize(rng, &mut lent.coefs),
+        "rhs" => resize(rng, &mut lent.rhs),
+        "table" => resize(rng, &mut lent.table),
+        "answer" => resize(rng, &mut lent.answer),
+        "book" => resize(rng, &mut lent.book),
+        "calls" => lent.calls.extend(vec![1; rng.pick(&[1, 2, 3])]),
+        _ => lent.book.extend(vec![0; rng.pick(&[1, 16, 28])]),
+    }
+}
+
+fn resize<T: Copy + Default>(rng: &mut Rng, buffer: &mut Vec<T>) {
+    match rng.between(0, 4) {
+        0 | 1 => buffer.push(T::default()),
+        2 if !buffer.is_empty() => buffer.clear(),
+        _ if buffer.pop().is_none() => buffer.push(T::default()),
+        _ => {}
+    }
+}
+
+/// Checks 6 to 9, of the model's numbers.
+fn wrong_number(rng: &mut Rng, lent: &mut Lent, check: u32) {
+    match check {
+        6 => {
+            let beyond = [MIN_BOUND - 1, MAX_BOUND + 1, i32::MIN, i32::MAX];
+            *any(rng, &mut lent.bounds) = rng.pick(&beyond);
+        }
+        7 => cross_a_pair(rng, &mut lent.bounds),
+        8 => {
+            let beyond = [-MAX_COEF - 1, MAX_COEF + 1, i32::MIN, i32::MAX];
+            *any(rng, &mut lent.coefs) = rng.pick(&beyond);
+        }
+        _ => {
+            let beyond = [-MAX_RHS - 1, MAX_RHS + 1, i32::MIN, i32::MAX];
+            *any(rng, &mut lent.rhs) = rng.pick(&beyond);
+        }
+    }
+}
+
+/// A lower bound above its upper in a box that is not the empty one, though it can be close to it.
+fn cross_a_pair(rng: &mut Rng, bounds: &mut [i32]) {
+    let at = 2 * rng.index(bounds.len() / 2);
+    let crossed = [[2, 1], [0, -1], [1, -1], [2, 0], [MAX_BOUND, MIN_BOUND]];
+    if bounds.len() > 2 && rng.chance(50) {
+        // The empty box but for one variable, which is crossed otherwise or not at all.
+        bounds.chunks_mut(2).for_each(|pair| pair.copy_from_slice(&[1, 0]));
+        let odd = [[0, 0], [1, 1], [0, 1], [2, 1], [1, -1]];
+        bounds[at..at + 2].copy_from_slice(&rng.pick(&odd));
+    } else {
+        bounds[at..at + 2].copy_from_slice(&rng.pick(&crossed));
+    }
+}
+
+/// Checks 12 to 15, of the call's own numbers.
+fn wrong_argument(rng: &mut Rng, operation: &mut Operation, lent: &mut Lent, check: u32) {
+    let (n, m) = (lent.n as u32, lent.m as u32);
+    match (check, operation) {
+        (
+            12,
+            Operation::PropagateRow { row }
+            | Operation::TightenCoefficient { row, .. }
+            | Operation::RemoveRedundantRow { row },
+        ) => *row = rng.pick(&[m, m, m + 1, u32::MAX]),
+        (
+            13,
+            Operation::Probe { variable, .. } | Operation::TightenCoefficient { variable, .. },
+        ) => {
+            *variable = rng.pick(&[n, n, n + 1, u32::MAX]);
+        }
+        (
+            14,
+            Operation::Probe { variable, .. } | Operation::TightenCoefficient { variable, .. },
+        ) => {
+            let k = 2 * *variable as usize;
+            let pairs = [[0, 0], [1, 1], [0, 2], [-1, 1], [-1, 0], [1, 2], [MIN_BOUND, MAX_BOUND]];
+            lent.bounds[k..k + 2].copy_from_slice(&rng.pick(&pairs));
+        }
+        (15, Operation::Propagate { budget } | Operation::Probe { budget, .. }) => {
+            *budget = rng.pick(&[0, MAX_BUDGET + 1, u32::MAX]);
+        }
+        (check, operation) => unreachable!("{operation:?} does not make check {check}"),
+    }
+}

@@ -1,0 +1,137 @@
+//! What a call can be lent, the eleven calls, and the trait of an implementation of them.
+
+use reference::calls;
+
+/// Every buffer that a call can be lent, owned. A call uses those that it has.
+#[derive(Clone, Debug, Default, PartialEq, Eq)]
+pub struct Lent {
+    pub n: usize,
+    pub m: usize,
+    pub bounds: Vec<i32>,
+    pub coefs: Vec<i32>,
+    pub rhs: Vec<i32>,
+    pub table: Vec<u8>,
+    /// Four numbers a record.
+    pub calls: Vec<u32>,
+    /// A book, or the bytes of a trailer.
+    pub book: Vec<u8>,
+    pub answer: Vec<u64>,
+}
+
+/// The same buffers, lent for one call.
+pub struct Loan<'a> {
+    pub n: usize,
+    pub m: usize,
+    pub bounds: &'a mut [i32],
+    pub coefs: &'a mut [i32],
+    pub rhs: &'a mut [i32],
+    pub table: &'a mut [u8],
+    pub calls: &'a mut [u32],
+    pub book: &'a mut [u8],
+    pub answer: &'a mut [u64],
+}
+
+impl Lent {
+    /// Copies every number from another, without new memory where the lengths are the same.
+    pub fn reset(&mut self, to: &Lent) {
+        (self.n, self.m) = (to.n, to.m);
+        self.bounds.clone_from(&to.bounds);
+        self.coefs.clone_from(&to.coefs);
+        self.rhs.clone_from(&to.rhs);
+        self.table.clone_from(&to.table);
+        self.calls.clone_from(&to.calls);
+        self.book.clone_from(&to.book);
+        self.answer.clone_from(&to.answer);
+    }
+
+    pub fn lend(&mut self) -> Loan<'_> {
+        Loan {
+            n: self.n,
+            m: self.m,
+            bounds: &mut self.bounds,
+            coefs: &mut self.coefs,
+            rhs: &mut self.rhs,
+            table: &mut self.table,
+            calls: &mut self.calls,
+            book: &mut self.book,
+            answer: &mut self.answer,
+        }
+    }
+}
+
+/// One of the eleven calls, with its numbers.
+#[derive(Clone, Copy, Debug, PartialEq, Eq)]
+pub enum Operation {
+    PropagateRow { row: u32 },
+    Propagate { budget: u32 },
+    Probe { variable: u32, budget: u32 },
+    TightenCoefficient { row: u32, variable: u32 },
+    RemoveRedundantRow { row: u32 },
+    IsProbingFixpoint,
+    Run,
+    Rounds { limit: u32 },
+    BookTrailer,
+    BookRead,
+    BookWrite,
+}
+
+impl Operation {
+    /// The call's name in the C interface, without `astrolabe_`.
+    pub fn name(self) -> &'static str {
+        match self {
+            Operation::PropagateRow { .. } => "propagate_row",
+            Operation::Propagate { .. } => "propagate",
+            Operation::Probe { .. } => "probe",
+            Operation::TightenCoefficient { .. } => "tighten_coefficient",
+            Operation::RemoveRedundantRow { .. } => "remove_redundant_row",
+            Operation::IsProbingFixpoint => "is_probing_fixpoint",
+            Operation::Run => "run",
+            Operation::Rounds { .. } => "rounds",
+            Operation::BookTrailer => "book_trailer",
+            Operation::BookRead => "book_read",
+            Operation::BookWrite => "book_write",
+        }
+    }
+}
+
+/// An implementation of the eleven calls.
+pub trait Backend {
+    /// Makes the call; 0, or the number of the failed check.
+    fn call(&mut self, operation: Operation, loan: Loan) -> u32;
+}
+
+/// The plain Rust implementation.
+pub struct Reference;
+
+impl Backend for Reference {
+    fn call(&mut self, operation: Operation, loan: Loan) -> u32 {
+        let Loan { n, m, bounds, coefs, rhs, table, calls, book, answer } = loan;
+        match operation {
+            Operation::PropagateRow { row } => {
+                calls::propagate_row(n, m, bounds, coefs, rhs, row, answer)
+            }
+            Operation::Propagate { budget } => {
+                calls::propagate(n, m, bounds, coefs, rhs, budget, answer)
+            }
+            Operation::Probe { variable, budget } => {
+                calls::probe(n, m, bounds, coefs, rhs, table, variable, budget, answer)
+            }
+            Operation::TightenCoefficient { row, variable } => {
+                calls::tighten_coefficient(n, m, bounds, coefs, rhs, row, variable, answer)
+            }
+            Operation::RemoveRedundantRow { row } => {
+                calls::remove_redundant_row(n, m, bounds, coefs, rhs, row, answer)
+            }
+            Operation::IsProbingFixpoint => {
+                calls::is_probing_fixpoint(n, m, bounds, coefs, rhs, answer)
+            }
+            Operation::Run => calls::run(n, m, bounds, coefs, rhs, table, calls, answer),
+            Operation::Rounds { limit } => {
+                calls::rounds(n, m, bounds, coefs, rhs, table, limit, answer)
+            }
+            Operation::BookTrailer => calls::book_trailer(book, answer),
+            Operation::BookRead => calls::book_read(book, bounds, coefs, rhs, answer),
+            Operation::BookWrite => calls::book_write(n, m, bounds, coefs, rhs, book),
+        }
+    }
+}

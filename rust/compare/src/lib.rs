@@ -1,0 +1,23 @@
+//! Two implementations of the reducer, compared call by call on generated models.
+//!
+//! [`suite::run`] makes cases from a seed; each case is a model and a list of calls on it. Every call
+//! is made on both sides with equal buffers, and afterwards the returned numbers and *every* buffer
+//! must be equal, the guard cells around them included. A case depends on the seed and its own number
+//! only, so one that fails can be made again alone.
+//!
+//! | module | what |
+//! |---|---|
+//! | [`lent`] | what a call can be lent, the eleven calls, and the trait of an implementation |
+//! | [`models`] | families of accepted models: tiny and largest, dense and sparse, crawling, at the limits |
+//! | [`damage`] | makes a call fail a chosen check at its boundary |
+//! | [`cases`] | a case: a model, its calls, or one call that is refused |
+//! | [`suite`] | the comparison |
+//! | [`coverage`] | what the cases met |
+
+pub mod cases;
+pub mod coverage;
+pub mod damage;
+pub mod lent;
+pub mod models;
+pub mod rng;
+pub mod suite;

@@ -1,0 +1,290 @@
+//! Families of accepted models.
+
+use crate::lent::Lent;
+use crate::rng::Rng;
+
+pub const MAX_VARIABLES: usize = 128;
+pub const MAX_ROWS: usize = 120;
+pub const MIN_BOUND: i32 = -32_768;
+pub const MAX_BOUND: i32 = 32_767;
+pub const MAX_COEF: i32 = 1_000_000;
+pub const MAX_RHS: i32 = 1_000_000_000;
+pub const MAX_BUDGET: u32 = 8_388_481;
+
+#[derive(Clone, Copy, Debug, PartialEq, Eq)]
+pub enum Family {
+    /// One to four variables, few rows: every corner of a rule is near.
+    Tiny,
+    /// Free binary variables and small coefficients: probing, implications, tightening.
+    Binary,
+    /// Binary and wider variables mixed, any density.
+    Mixed,
+    /// n = 128 and m = 120.
+    Largest,
+    /// Bounds, coefficients and right sides at the ends of their ranges.
+    Limits,
+    /// A tightening whose new right side is the least that there is, one less or one more.
+    LeastRhs,
+    /// Propagation that moves bounds by one, pass after pass.
+    Crawling,
+    /// The empty box.
+    Empty,
+}
+
+/// A model of the family, with an answer buffer and a table. No calls, no book.
+pub fn model(rng: &mut Rng, family: Family) -> Lent {
+    let mut lent = match family {
+        Family::Tiny => {
+            let (n, m) = (rng.between(1, 4) as usize, rng.between(0, 4) as usize);
+            let density = rng.pick(&[50, 75, 100]);
+            let bounds = mixed_box(rng, n, 40);
+            rows(rng, bounds, m, density, 4)
+        }
+        Family::Binary => {
+            let (n, m) = (rng.between(2, 16) as usize, rng.between(1, 14) as usize);
+            let density = rng.pick(&[15, 30, 60, 100]);
+            let coef = rng.pick(&[1, 3, 9]);
+            let bounds = mixed_box(rng, n, 100);
+            rows(rng, bounds, m, density, coef)
+        }
+        Family::Mixed => {
+            let (n, m) = (rng.between(1, 40) as usize, rng.between(0, 40) as usize);
+            let (binary, density) = (rng.pick(&[30, 70, 95]), rng.pick(&[3, 25, 100]));
+            let coef = rng.pick(&[1, 5, 1_000, MAX_COEF]);
+            let bounds = mixed_box(rng, n, binary);
+            rows(rng, bounds, m, density, coef)
+        }
+        Family::Largest => {
+            let (density, coef) = (rng.pick(&[3, 25, 100]), rng.pick(&[5, MAX_COEF]));
+            let bounds = mixed_box(rng, MAX_VARIABLES, 70);
+            rows(rng, bounds, MAX_ROWS, density, coef)
+        }
+        Family::Limits => limits(rng),
+        Family::LeastRhs => least_rhs(rng),
+        Family::Crawling => crawling(rng),
+        Family::Empty => {
+            let (n, m) = (rng.between(1, 6) as usize, rng.between(0, 5) as usize);
+            let bounds = mixed_box(rng, n, 70);
+            let mut lent = rows(rng, bounds, m, 70, 9);
+            lent.bounds = [1, 0].repeat(n);
+            lent
+        }
+    };
+    lent.table = table(rng, lent.n);
+    lent.answer = vec![0; 6];
+    lent
+}
+
+/// A table as a caller may lend it: mostly all 0, else with some bytes 1.
+fn table(rng: &mut Rng, n: usize) -> Vec<u8> {
+    let percent = rng.pick(&[0, 0, 0, 10, 100]);
+    (0..4 * n * n).map(|_| u8::from(percent > 0 && rng.chance(percent))).collect()
+}
+
+/// Bounds of n variables, `binary` per cent of them 0 and 1, some fixed, the others of any width.
+fn mixed_box(rng: &mut Rng, n: usize, binary: i64) -> Vec<i32> {
+    let width = rng.pick(&[2, 5, 60, 4_000, 65_535]);
+    (0..n)
+        .flat_map(|_| {
+            if rng.chance(binary) {
+                rng.pick(&[[0, 1], [0, 1], [0, 1], [0, 1], [0, 1], [0, 0], [1, 1]])
+            } else {
+                pair_of_width(rng, width)
+            }
+        })
+        .collect()
+}
+
+/// Bounds at most `width` apart, around 0 where they are narrow.
+fn pair_of_width(rng: &mut Rng, width: i64) -> [i32; 2] {
+    let (low, high) = (i64::from(MIN_BOUND), i64::from(MAX_BOUND));
+    let l = rng.between(-width, width).clamp(low, high);
+    let u = (l + rng.between(0, width)).min(high);
+    [l as i32, u as i32]
+}
+
+/// The model of a box and m generated rows of `density` per cent nonzero coefficients up to `coef`.
+fn rows(rng: &mut Rng, bounds: Vec<i32>, m: usize, density: i64, coef: i32) -> Lent {
+    let n = bounds.len() / 2;
+    // Most right sides hold at this point: a model of unrelated rows is nearly always infeasible.
+    let witness = witness(rng, &bounds);
+    // How many rows only just bind: those are the ones that tightening and removal look for.
+    let loose = rng.pick(&[0, 20, 90]);
+    let mut lent = Lent { n, m, bounds, ..Lent::default() };
+    for _ in 0..m {
+        let row: Vec<i32> = (0..n).map(|_| coefficient(rng, density, coef)).collect();
+        let at = activity_at(&witness, &row);
+        lent.rhs.push(right_side(rng, &lent.bounds, &row, at, loose));
+        lent.coefs.extend(row);
+    }
+    lent
+}
+
+/// A point of the box.
+fn witness(rng: &mut Rng, bounds: &[i32]) -> Vec<i64> {
+    bounds.chunks(2).map(|pair| rng.between(pair[0].into(), pair[1].into())).collect()
+}
+
+fn activity_at(point: &[i64], row: &[i32]) -> i64 {
+    row.iter().zip(point).map(|(&a, x)| i64::from(a) * x).sum()
+}
+
+fn coefficient(rng: &mut Rng, density: i64, coef: i32) -> i32 {
+    if rng.chance(density) { rng.between(-i64::from(coef), coef.into()) as i32 } else { 0 }
+}
+
+/// A right side near the greatest activity (`loose` per cent), else near the activity at the witness,
+/// rarely near the least.
+fn right_side(rng: &mut Rng, bounds: &[i32], row: &[i32], at_witness: i64, loose: i64) -> i32 {
+    let largest = row.iter().map(|a| i64::from(a.abs())).max().unwrap_or(0);
+    let b = if rng.chance(loose) {
+        reference::row::max_activity(bounds, row) - rng.between(-1, largest + 1)
+    } else if rng.chance(95) {
+        at_witness + rng.between(0, largest)
+    } else {
+        reference::row::min_activity(bounds, row) + rng.between(-1, largest + 1)
+    };
+    b.clamp((-MAX_RHS).into(), MAX_RHS.into()) as i32
+}
+
+/// Numbers at the ends of their ranges, or next to them.
+fn limits(rng: &mut Rng) -> Lent {
+    let n = rng.pick(&[1, 2, 3, 8, MAX_VARIABLES]);
+    let m = rng.pick(&[1, 2, 5]);
+    let pairs = [
+        [MIN_BOUND, MAX_BOUND],
+        [MIN_BOUND, MIN_BOUND],
+        [MAX_BOUND, MAX_BOUND],
+        [MAX_BOUND - 1, MAX_BOUND],
+        [MIN_BOUND, MIN_BOUND + 1],
+        [0, MAX_BOUND],
+        [MIN_BOUND, 0],
+        [0, 1],
+        [0, 1],
+    ];
+    let coefs = [-MAX_COEF, 1 - MAX_COEF, -1, 0, 1, MAX_COEF - 1, MAX_COEF];
+    let ends = [-MAX_RHS, 1 - MAX_RHS, -1, 0, 1, MAX_RHS - 1, MAX_RHS];
+    let bounds: Vec<i32> = (0..n).flat_map(|_| rng.pick(&pairs)).collect();
+    let mut lent = Lent { n, m, bounds, ..Lent::default() };
+    for _ in 0..m {
+        let row: Vec<i32> = (0..n).map(|_| rng.pick(&coefs)).collect();
+        let near = reference::row::min_activity(&lent.bounds, &row) + rng.between(-1, 3_000_000);
+        let near = near.clamp((-MAX_RHS).into(), MAX_RHS.into()) as i32;
+        let end = rng.pick(&ends);
+        lent.rhs.push(if rng.chance(60) { near } else { end });
+        lent.coefs.extend(row);
+    }
+    lent
+}
+
+/// One row `a x + 1,000,000 y + z` over a free binary x, with y at most −1,000 and z fixed at −1, 0 or 1:
+/// the greatest activity is −1,000,000,000 + a + z, so tightening at x makes the right side
+/// −1,000,000,000 + z, which is written unless z is −1.
+fn least_rhs(rng: &mut Rng) -> Lent {
+    let a = rng.between(2, MAX_COEF.into()) as i32;
+    let z = rng.between(-1, 1) as i32;
+    let lowest_y = rng.pick(&[-1_000, -1_001, MIN_BOUND]);
+    Lent {
+        n: 3,
+        m: 1,
+        bounds: vec![0, 1, lowest_y, -1_000, z, z],
+        coefs: vec![a, MAX_COEF, 1],
+        rhs: vec![-MAX_RHS + rng.between(0, i64::from(a) - 1) as i32],
+        ..Lent::default()
+    }
+}
+
+/// How far most crawls go, in passes: more would only repeat the same step.
+const CRAWL: i64 = 1_500;
+
+/// A crawling model of a few variables; rarely over the whole range of bounds.
+fn crawling(rng: &mut Rng) -> Lent {
+    let width = if rng.chance(2) { 65_535 } else { rng.between(1, CRAWL) };
+    let ends_at_zero = rng.chance(40);
+    let low = if ends_at_zero { 0 } else { rng.between(-32_768, 32_767 - width) };
+    let high = (low + width).min(MAX_BOUND.into());
+    Ring {
+        variables: rng.between(2, 4) as usize,
+        bounds: [low as i32, high as i32],
+        ends_at_zero,
+        switched: rng.chance(50),
+        reversed: rng.chance(50),
+    }
+    .model()
+}
+
+/// A ring of variables, each at most the next, closed by a row that takes one step less: the bounds
+/// move by one in each turn, for as long as they are apart.
+pub struct Ring {
+    pub variables: usize,
+    /// l and u of each variable.
+    pub bounds: [i32; 2],
+    /// The last row says `1,000,000 x ≤ 999,999 y`, so that upper bounds go down to 0 and stay there;
+    /// else it says `x ≤ y − 1`, and the bounds close in until the box is empty.
+    pub ends_at_zero: bool,
+    /// A free binary variable loosens the last row when it is 1: only one side of its probe crawls.
+    pub switched: bool,
+    /// The rows stand in reverse: a pass carries an upper bound all the way round and a lower bound one
+    /// row further. Else it is the other way about.
+    pub reversed: bool,
+}
+
+impl Ring {
+    /// The model without table and answer.
+    pub fn model(&self) -> Lent {
+        let ring = self.variables;
+        let n = ring + usize::from(self.switched);
+        let mut bounds = self.bounds.repeat(ring);
+        let mut rows: Vec<(Vec<i32>, i32)> = (0..ring)
+            .map(|j| {
+                let mut row = vec![0; n];
+                row[j] = 1;
+                row[(j + 1) % ring] = -1;
+                (row, 0)
+            })
+            .collect();
+        let (closing, rhs) = rows.last_mut().expect("a ring has variables");
+        if self.ends_at_zero {
+            closing[ring - 1] = MAX_COEF;
+            closing[0] = 1 - MAX_COEF;
+        } else {
+            *rhs = -1;
+        }
+        if self.switched {
+            bounds.extend([0, 1]);
+            // As loose as the row can be: by its own greatest activity.
+            let loose = reference::row::max_activity(&bounds, closing) - i64::from(*rhs);
+            closing[ring] = -loose.min(MAX_COEF.into()) as i32;
+        }
+        if self.reversed {
+            rows.reverse();
+        }
+        let m = rows.len();
+        let (coefs, rhs): (Vec<Vec<i32>>, Vec<i32>) = rows.into_iter().unzip();
+        Lent { n, m, bounds, coefs: coefs.concat(), rhs, ..Lent::default() }
+    }
+}
+
+/// A feasible model of a given size and density, four in five variables binary: what a benchmark
+/// measures.
+pub fn sized(rng: &mut Rng, n: usize, m: usize, density: i64) -> Lent {
+    let bounds: Vec<i32> =
+        (0..n).flat_map(|_| if rng.chance(80) { [0, 1] } else { pair_of_width(rng, 30) }).collect();
+    let mut lent = Lent { n, m, bounds, ..Lent::default() };
+    let witness = witness(rng, &lent.bounds);
+    for _ in 0..m {
+        let row: Vec<i32> = (0..n).map(|_| coefficient(rng, density, 20)).collect();
+        lent.rhs.push(activity_at(&witness, &row) as i32 + rng.between(0, 20) as i32);
+        lent.coefs.extend(row);
+    }
+    lent
+}
+
+impl Lent {
+    /// The same model with a table all 0 and room for an answer.
+    pub fn with_table(mut self) -> Self {
+        self.table = vec![0; 4 * self.n * self.n];
+        self.answer = vec![0; 6];
+        self
+    }
+}

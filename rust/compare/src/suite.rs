@@ -1,0 +1,219 @@
+//! The comparison of two implementations, case by case.
+
+use std::env;
+use std::fmt;
+
+use crate::cases::{self, Case, Step};
+use crate::coverage::Coverage;
+use crate::lent::{Backend, Lent, Loan, Operation};
+
+/// The default seed.
+pub const SEED: u64 = 20_240_917;
+
+/// Which cases to make.
+#[derive(Clone, Copy, Debug)]
+pub struct Plan {
+    pub seed: u64,
+    pub first: u64,
+    pub cases: u64,
+}
+
+impl Plan {
+    /// `cases` cases from the default seed; `ASTROLABE_SEED` and `ASTROLABE_CASES` overrule, and
+    /// `ASTROLABE_CASE` makes one case alone.
+    pub fn from_env(cases: u64) -> Self {
+        let number = |name: &str| {
+            env::var(name).ok().map(|text| {
+                text.parse().unwrap_or_else(|_| panic!("{name}={text} is not a whole number"))
+            })
+        };
+        let seed = number("ASTROLABE_SEED").unwrap_or(SEED);
+        match number("ASTROLABE_CASE") {
+            Some(first) => Plan { seed, first, cases: 1 },
+            None => Plan { seed, first: 0, cases: number("ASTROLABE_CASES").unwrap_or(cases) },
+        }
+    }
+}
+
+/// Makes the plan's cases on both sides; the first difference ends it.
+pub fn run(
+    plan: Plan,
+    expected: &mut impl Backend,
+    actual: &mut impl Backend,
+) -> Result<Coverage, Box<Difference>> {
+    let mut coverage = Coverage::default();
+    for number in plan.first..plan.first + plan.cases {
+        let case = cases::case(plan.seed, number);
+        play(case, &mut coverage, expected, actual).map_err(|mut difference| {
+            difference.case = Some((plan.seed, number));
+            difference
+        })?;
+    }
+    Ok(coverage)
+}
+
+/// Makes the calls of a case on both sides.
+pub fn play(
+    case: Case,
+    coverage: &mut Coverage,
+    expected: &mut impl Backend,
+    actual: &mut impl Backend,
+) -> Result<(), Box<Difference>> {
+    let mut lent = case.lent.clone();
+    for Step { afresh, operation } in case.steps {
+        if afresh {
+            lent = case.lent.clone();
+        }
+        // No answer looks like this: what a call leaves unwritten is seen.
+        lent.answer.fill(0x5a5a_5a5a_5a5a_5a5a);
+        let said = compare(operation, &mut lent, expected, actual)?;
+        if let Some(check) = case.refused_by {
+            assert_eq!(said, check, "{operation:?} was made to fail check {check}: {lent:?}");
+        }
+        coverage.note(operation, said, &lent.answer);
+    }
+    Ok(())
+}
+
+/// Makes one call on both sides and compares the number returned and every buffer. The buffers are
+/// left as the call leaves them.
+pub fn compare(
+    operation: Operation,
+    lent: &mut Lent,
+    expected: &mut impl Backend,
+    actual: &mut impl Backend,
+) -> Result<u32, Box<Difference>> {
+    let (mut left, mut right) = (Guarded::new(lent), Guarded::new(lent));
+    let said = [expected.call(operation, left.lend()), actual.call(operation, right.lend())];
+    if said[0] != said[1] || left != right {
+        return Err(Box::new(Difference {
+            case: None,
+            operation,
+            before: lent.clone(),
+            said,
+            after: [left.cells, right.cells],
+        }));
+    }
+    *lent = left.into_lent();
+    Ok(said[0])
+}
+
+/// Buffers with guard cells before and after each: a write beyond a buffer is seen as a difference.
+#[derive(PartialEq)]
+struct Guarded {
+    cells: Lent,
+}
+
+/// Guard cells on each side of a buffer.
+const GUARD: usize = 4;
+
+impl Guarded {
+    fn new(lent: &Lent) -> Self {
+        fn guard<T: Copy>(buffer: &[T], mark: T) -> Vec<T> {
+            let marks = [mark; GUARD];
+            [&marks, buffer, &marks].concat()
+        }
+        let cells = Lent {
+            n: lent.n,
+            m: lent.m,
+            bounds: guard(&lent.bounds, 0x5555_5555),
+            coefs: guard(&lent.coefs, 0x5555_5555),
+            rhs: guard(&lent.rhs, 0x5555_5555),
+            table: guard(&lent.table, 0x55),
+            calls: guard(&lent.calls, 0x5555_5555),
+            book: guard(&lent.book, 0x55),
+            answer: guard(&lent.answer, 0x5555_5555_5555_5555),
+        };
+        Guarded { cells }
+    }
+
+    fn lend(&mut self) -> Loan<'_> {
+        fn inner<T>(cells: &mut [T]) -> &mut [T] {
+            let end = cells.len() - GUARD;
+            &mut cells[GUARD..end]
+        }
+        let cells = &mut self.cells;
+        Loan {
+            n: cells.n,
+            m: cells.m,
+            bounds: inner(&mut cells.bounds),
+            coefs: inner(&mut cells.coefs),
+            rhs: inner(&mut cells.rhs),
+            table: inner(&mut cells.table),
+            calls: inner(&mut cells.calls),
+            book: inner(&mut cells.book),
+            answer: inner(&mut cells.answer),
+        }
+    }
+
+    fn into_lent(mut self) -> Lent {
+        let loan = self.lend();
+        Lent {
+            n: loan.n,
+            m: loan.m,
+            bounds: loan.bounds.to_vec(),
+            coefs: loan.coefs.to_vec(),
+            rhs: loan.rhs.to_vec(),
+            table: loan.table.to_vec(),
+            calls: loan.calls.to_vec(),
+            book: loan.book.to_vec(),
+            answer: loan.answer.to_vec(),
+        }
+    }
+}
+
+/// A call on which the two sides differ.
+pub struct Difference {
+    /// The seed and the number of the case.
+    pub case: Option<(u64, u64)>,
+    pub operation: Operation,
+    pub before: Lent,
+    /// The numbers returned: expected, actual.
+    pub said: [u32; 2],
+    /// All cells after the call, guards included: expected, actual.
+    pub after: [Lent; 2],
+}
+
+impl fmt::Display for Difference {
+    fn fmt(&self, f: &mut fmt::Formatter) -> fmt::Result {
+        fn first<T: PartialEq + fmt::Debug>(
+            f: &mut fmt::Formatter,
+            name: &str,
+            [left, right]: [&[T]; 2],
+        ) -> fmt::Result {
+            match (0..left.len()).find(|&at| left[at] != right[at]) {
+                Some(at) => writeln!(
+                    f,
+                    "  {name}[{}]: expected {:?}, got {:?}",
+                    at as isize - GUARD as isize,
+                    left[at],
+                    right[at]
+                ),
+                None => Ok(()),
+            }
+        }
+        writeln!(f, "{:?}, n = {}, m = {}", self.operation, self.before.n, self.before.m)?;
+        if let Some((seed, case)) = self.case {
+            writeln!(f, "  again: ASTROLABE_SEED={seed} ASTROLABE_CASE={case}")?;
+        }
+        writeln!(f, "  returned: expected {}, got {}", self.said[0], self.said[1])?;
+        let [left, right] = &self.after;
+        first(f, "bounds", [&left.bounds, &right.bounds])?;
+        first(f, "coefs", [&left.coefs, &right.coefs])?;
+        first(f, "rhs", [&left.rhs, &right.rhs])?;
+        first(f, "table", [&left.table, &right.table])?;
+        first(f, "calls", [&left.calls, &right.calls])?;
+        first(f, "book", [&left.book, &right.book])?;
+        first(f, "answer", [&left.answer, &right.answer])?;
+        if self.before.n * self.before.m <= 64 {
+            writeln!(f, "  before: {:?}", self.before)?;
+        }
+        Ok(())
+    }
+}
+
+impl fmt::Debug for Difference {
+    fn fmt(&self, f: &mut fmt::Formatter) -> fmt::Result {
+        write!(f, "{self}")
+    }
+}

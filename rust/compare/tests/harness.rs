@@ -1,0 +1,265 @@
+//! The comparison itself, tried on the reference and on deliberately broken copies of it. No library
+//! is needed here.
+
+use compare::lent::{Backend, Loan, Operation, Reference};
+use compare::suite::{self, Plan, SEED};
+
+const PLAN: Plan = Plan { seed: SEED, first: 0, cases: 20_000 };
+
+#[test]
+fn the_reference_agrees_with_itself_and_everything_is_met() {
+    let coverage = suite::run(PLAN, &mut Reference, &mut Reference).unwrap();
+    println!("{coverage}");
+    assert_eq!(coverage.missing(), Vec::<String>::new());
+    assert!(coverage.most_passes > 40_000, "no long crawl: {}", coverage.most_passes);
+}
+
+/// The reference, with something done to what a call leaves: `spoil` has the call, what it was lent,
+/// the number that the reference returned, and the buffers to spoil. It returns the number to return.
+struct Broken<F>(F);
+
+/// What the call was lent, before it.
+struct Before {
+    bounds: Vec<i32>,
+    coefs: Vec<i32>,
+    rhs: Vec<i32>,
+    table: Vec<u8>,
+}
+
+impl<F: FnMut(Operation, &Before, u32, &mut Loan) -> u32> Backend for Broken<F> {
+    fn call(&mut self, operation: Operation, mut loan: Loan) -> u32 {
+        let before = Before {
+            bounds: loan.bounds.to_vec(),
+            coefs: loan.coefs.to_vec(),
+            rhs: loan.rhs.to_vec(),
+            table: loan.table.to_vec(),
+        };
+        let said = Reference.call(operation, reborrow(&mut loan));
+        (self.0)(operation, &before, said, &mut loan)
+    }
+}
+
+fn reborrow<'a>(loan: &'a mut Loan) -> Loan<'a> {
+    Loan {
+        n: loan.n,
+        m: loan.m,
+        bounds: loan.bounds,
+        coefs: loan.coefs,
+        rhs: loan.rhs,
+        table: loan.table,
+        calls: loan.calls,
+        book: loan.book,
+        answer: loan.answer,
+    }
+}
+
+/// The comparison must find the fault, and say how to repeat it.
+fn is_caught(spoil: impl FnMut(Operation, &Before, u32, &mut Loan) -> u32) {
+    let difference = suite::run(PLAN, &mut Reference, &mut Broken(spoil))
+        .expect_err("the broken copy was not caught");
+    let (seed, case) = difference.case.expect("a difference of the suite has its case");
+    assert!(
+        difference.to_string().contains(&format!("ASTROLABE_SEED={seed} ASTROLABE_CASE={case}"))
+    );
+}
+
+#[test]
+fn catches_an_idle_propagation() {
+    is_caught(|operation, before, said, loan| {
+        if matches!(operation, Operation::PropagateRow { .. }) && said == 0 {
+            loan.bounds.copy_from_slice(&before.bounds);
+            loan.answer[0] = 2;
+        }
+        said
+    });
+}
+
+#[test]
+fn catches_a_box_left_half_narrowed_at_none() {
+    is_caught(|operation, before, said, loan| {
+        if matches!(operation, Operation::Propagate { .. }) && said == 0 && loan.answer[0] == 0 {
+            loan.bounds.copy_from_slice(&before.bounds);
+        }
+        said
+    });
+}
+
+#[test]
+fn catches_invented_passes() {
+    is_caught(|operation, _, said, loan| {
+        if matches!(operation, Operation::Propagate { .. }) && said == 0 && loan.answer[1] > 9 {
+            loan.answer[1] += 1;
+        }
+        said
+    });
+}
+
+#[test]
+fn catches_spent_told_as_settled() {
+    is_caught(|operation, _, said, loan| {
+        if matches!(operation, Operation::Propagate { .. }) && said == 0 && loan.answer[0] == 2 {
+            loan.answer[0] = 1;
+        }
+        said
+    });
+}
+
+#[test]
+fn catches_the_spent_flag_of_one_side() {
+    is_caught(|operation, _, said, loan| {
+        if matches!(operation, Operation::Probe { .. }) && said == 0 {
+            loan.answer[5] = 0;
+        }
+        said
+    });
+}
+
+#[test]
+fn catches_division_that_truncates() {
+    // Visible where a quotient is negative and not whole: the bound is one too high.
+    is_caught(|operation, before, said, loan| {
+        let Operation::PropagateRow { row } = operation else { return said };
+        if said != 0 || loan.answer[0] != 1 {
+            return said;
+        }
+        let (n, r) = (loan.n, row as usize);
+        let coefs = &loan.coefs[r * n..][..n];
+        let room = i64::from(loan.rhs[r]) - reference::row::min_activity(&before.bounds, coefs);
+        for (j, &a) in coefs.iter().enumerate().filter(|(_, a)| **a > 0) {
+            let (l, u) = reference::bounds::pair(&before.bounds, j);
+            let limit = (room + i64::from(a) * i64::from(l)) / i64::from(a);
+            loan.bounds[2 * j + 1] = limit.min(u.into()) as i32;
+        }
+        said
+    });
+}
+
+#[test]
+fn catches_a_right_side_lowered_with_a_negative_coefficient() {
+    // The mistake that cut off lawful allocations.
+    is_caught(|operation, before, said, loan| {
+        let Operation::TightenCoefficient { row, variable } = operation else { return said };
+        let at = row as usize * loan.n + variable as usize;
+        if said == 0 && loan.answer[0] == 1 && before.coefs[at] < 0 {
+            loan.rhs[row as usize] -= 1;
+        }
+        said
+    });
+}
+
+#[test]
+fn catches_a_redundant_row_that_stays() {
+    is_caught(|operation, before, said, loan| {
+        if matches!(operation, Operation::RemoveRedundantRow { .. }) && said == 0 {
+            loan.rhs.copy_from_slice(&before.rhs);
+        }
+        said
+    });
+}
+
+#[test]
+fn catches_a_count_of_all_bytes_instead_of_new_ones() {
+    is_caught(|operation, _, said, loan| {
+        if matches!(operation, Operation::Probe { .. }) && said == 0 && loan.answer[0] == 2 {
+            loan.answer[1] = loan.table.iter().map(|&byte| u64::from(byte)).sum();
+        }
+        said
+    });
+}
+
+#[test]
+fn catches_implications_without_their_contrapositives() {
+    is_caught(|operation, before, said, loan| {
+        let Operation::Probe { variable, .. } = operation else { return said };
+        if said == 0 {
+            let literals = 2 * loan.n;
+            for at in 0..loan.table.len() {
+                if at / literals / 2 != variable as usize {
+                    loan.table[at] = before.table[at];
+                }
+            }
+        }
+        said
+    });
+}
+
+#[test]
+fn catches_a_refusal_that_writes_the_answer() {
+    is_caught(|_, _, said, loan| {
+        if said == 12 {
+            loan.answer[0] = 0;
+        }
+        said
+    });
+}
+
+#[test]
+fn catches_checks_in_another_order() {
+    // 9 before 8.
+    is_caught(|_, before, said, _| match said {
+        8 if before.rhs.iter().any(|b| b.unsigned_abs() > 1_000_000_000) => 9,
+        _ => said,
+    });
+}
+
+#[test]
+fn catches_each_check_left_out() {
+    for left_out in 1..=15 {
+        // Check 11 refuses records only: it is seen in the counts.
+        if left_out == 11 {
+            continue;
+        }
+        is_caught(|_, _, said, _| if said == left_out { 0 } else { said });
+    }
+}
+
+#[test]
+fn catches_refused_records_counted_otherwise() {
+    is_caught(|operation, _, said, loan| {
+        if operation == Operation::Run && said == 0 && loan.answer[0] > 0 {
+            loan.answer[0] -= 1;
+            loan.answer[3] += 1;
+        }
+        said
+    });
+}
+
+#[test]
+fn catches_rounds_without_the_last() {
+    is_caught(|operation, _, said, loan| {
+        if matches!(operation, Operation::Rounds { .. }) && said == 0 && loan.answer[0] == 1 {
+            loan.answer[1] -= 1;
+        }
+        said
+    });
+}
+
+#[test]
+fn catches_a_fixpoint_that_is_always_claimed() {
+    is_caught(|operation, _, said, loan| {
+        if operation == Operation::IsProbingFixpoint && said == 0 {
+            loan.answer[0] = 1;
+        }
+        said
+    });
+}
+
+#[test]
+fn catches_a_byte_of_a_book() {
+    is_caught(|operation, _, said, loan| {
+        if operation == Operation::BookWrite && said == 0 && loan.m > 0 {
+            loan.book[8 * loan.n + 3] = 0;
+        }
+        said
+    });
+}
+
+#[test]
+fn catches_a_buffer_that_the_call_does_not_own() {
+    is_caught(|operation, _, said, loan| {
+        if matches!(operation, Operation::RemoveRedundantRow { .. }) && said == 0 {
+            loan.bounds[0] = loan.bounds[0].wrapping_add(1);
+        }
+        said
+    });
+}

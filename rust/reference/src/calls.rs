@@ -1,0 +1,325 @@
+//! The eleven calls as the C interface has them.
+//!
+//! Each returns 0 or the number of the failed check, and writes its answer into six places. On a
+//! refusal nothing is written. The length of `answer` is check 5, with the other lengths.
+#![allow(clippy::too_many_arguments)] // the interface is what it is
+
+use crate::checks::{self, Check};
+use crate::list::{self, Call};
+use crate::probing::{self, Verdict};
+use crate::propagation::{self, Propagation};
+use crate::rounds::{self, Rounds};
+use crate::row::{self, Outcome, Rows};
+use crate::{State, book, bounds as boxes};
+
+/// The places of an answer.
+pub const ANSWER: usize = 6;
+
+type Answer = Result<[u64; ANSWER], u32>;
+
+/// Fills the places from the left, the others with 0.
+fn places<const N: usize>(values: [u64; N]) -> [u64; ANSWER] {
+    let mut all = [0; ANSWER];
+    all[..N].copy_from_slice(&values);
+    all
+}
+
+/// Writes the answer of an accepted call, or returns the number of the failed check.
+fn reply(result: Answer, answer: &mut [u64]) -> u32 {
+    match result {
+        Ok(values) => {
+            answer.copy_from_slice(&values);
+            0
+        }
+        Err(check) => check,
+    }
+}
+
+/// Checks 5 to 9 of a model whose size passed check 3; `others` are the lengths of further lent
+/// buffers, with the lengths that they need.
+fn check_lent(
+    n: usize,
+    m: usize,
+    bounds: &[i32],
+    coefs: &[i32],
+    rhs: &[i32],
+    others: &[(usize, usize)],
+) -> Check {
+    checks::lengths(&[(bounds.len(), 2 * n), (coefs.len(), m * n), (rhs.len(), m)])?;
+    checks::lengths(others)?;
+    checks::numbers(bounds, coefs, rhs)
+}
+
+fn outcome(outcome: Outcome) -> [u64; ANSWER] {
+    places([match outcome {
+        Outcome::Infeasible => 0,
+        Outcome::Changed => 1,
+        Outcome::Unchanged => 2,
+    }])
+}
+
+/// 01's visit.
+pub fn propagate_row(
+    n: usize,
+    m: usize,
+    bounds: &mut [i32],
+    coefs: &[i32],
+    rhs: &[i32],
+    row: u32,
+    answer: &mut [u64],
+) -> u32 {
+    let places_lent = answer.len();
+    let mut call = || -> Answer {
+        checks::size(n, m)?;
+        check_lent(n, m, bounds, coefs, rhs, &[(places_lent, ANSWER)])?;
+        checks::row(row, m)?;
+        if boxes::is_empty(bounds) {
+            return Ok(outcome(Outcome::Infeasible));
+        }
+        let r = row as usize;
+        Ok(outcome(row::propagate_row(bounds, &coefs[r * n..][..n], rhs[r])))
+    };
+    reply(call(), answer)
+}
+
+/// 01's settle.
+pub fn propagate(
+    n: usize,
+    m: usize,
+    bounds: &mut [i32],
+    coefs: &[i32],
+    rhs: &[i32],
+    budget: u32,
+    answer: &mut [u64],
+) -> u32 {
+    let places_lent = answer.len();
+    let mut call = || -> Answer {
+        checks::size(n, m)?;
+        check_lent(n, m, bounds, coefs, rhs, &[(places_lent, ANSWER)])?;
+        checks::budget(budget)?;
+        let rows = Rows::new(n, coefs, rhs);
+        Ok(match propagation::propagate(bounds, rows, budget) {
+            Propagation::Infeasible(passes) => places([0, passes.into()]),
+            Propagation::Converged(passes) => places([1, passes.into()]),
+            Propagation::BudgetSpent(passes) => places([2, passes.into()]),
+        })
+    };
+    reply(call(), answer)
+}
+
+/// 01's probe.
+pub fn probe(
+    n: usize,
+    m: usize,
+    bounds: &mut [i32],
+    coefs: &[i32],
+    rhs: &[i32],
+    table: &mut [u8],
+    variable: u32,
+    budget: u32,
+    answer: &mut [u64],
+) -> u32 {
+    let places_lent = answer.len();
+    let mut call = || -> Answer {
+        checks::size(n, m)?;
+        check_lent(n, m, bounds, coefs, rhs, &[(table.len(), 4 * n * n), (places_lent, ANSWER)])?;
+        checks::table(table)?;
+        checks::free_variable(variable, bounds)?;
+        checks::budget(budget)?;
+        let rows = Rows::new(n, coefs, rhs);
+        let probe = probing::probe(bounds, rows, table, variable as usize, budget);
+        let [side0, side1] = probe.sides;
+        let (case, value) = match probe.verdict {
+            Verdict::Infeasible => (0, 0),
+            Verdict::Fixed(v) => (1, v as u64),
+            Verdict::BothFeasible(new) => (2, new),
+        };
+        Ok([
+            case,
+            value,
+            side0.passes.into(),
+            side0.spent.into(),
+            side1.passes.into(),
+            side1.spent.into(),
+        ])
+    };
+    reply(call(), answer)
+}
+
+/// 01's sharpen.
+pub fn tighten_coefficient(
+    n: usize,
+    m: usize,
+    bounds: &[i32],
+    coefs: &mut [i32],
+    rhs: &mut [i32],
+    row: u32,
+    variable: u32,
+    answer: &mut [u64],
+) -> u32 {
+    let places_lent = answer.len();
+    let mut call = || -> Answer {
+        checks::size(n, m)?;
+        check_lent(n, m, bounds, coefs, rhs, &[(places_lent, ANSWER)])?;
+        checks::row(row, m)?;
+        checks::free_variable(variable, bounds)?;
+        let (r, k) = (row as usize, variable as usize);
+        let coefs = &mut coefs[r * n..][..n];
+        Ok(outcome(row::tighten_coefficient(bounds, coefs, &mut rhs[r], k)))
+    };
+    reply(call(), answer)
+}
+
+/// 01's drop.
+pub fn remove_redundant_row(
+    n: usize,
+    m: usize,
+    bounds: &[i32],
+    coefs: &mut [i32],
+    rhs: &mut [i32],
+    row: u32,
+    answer: &mut [u64],
+) -> u32 {
+    let places_lent = answer.len();
+    let mut call = || -> Answer {
+        checks::size(n, m)?;
+        check_lent(n, m, bounds, coefs, rhs, &[(places_lent, ANSWER)])?;
+        checks::row(row, m)?;
+        let r = row as usize;
+        let coefs = &mut coefs[r * n..][..n];
+        Ok(outcome(row::remove_redundant_row(bounds, coefs, &mut rhs[r])))
+    };
+    reply(call(), answer)
+}
+
+/// 01's rest call.
+pub fn is_probing_fixpoint(
+    n: usize,
+    m: usize,
+    bounds: &[i32],
+    coefs: &[i32],
+    rhs: &[i32],
+    answer: &mut [u64],
+) -> u32 {
+    let places_lent = answer.len();
+    let call = || -> Answer {
+        checks::size(n, m)?;
+        check_lent(n, m, bounds, coefs, rhs, &[(places_lent, ANSWER)])?;
+        let rows = Rows::new(n, coefs, rhs);
+        Ok(places([probing::is_probing_fixpoint(bounds, rows).into()]))
+    };
+    reply(call(), answer)
+}
+
+/// 01's run sheet; `calls` has four numbers a record.
+pub fn run(
+    n: usize,
+    m: usize,
+    bounds: &mut [i32],
+    coefs: &mut [i32],
+    rhs: &mut [i32],
+    table: &mut [u8],
+    calls: &[u32],
+    answer: &mut [u64],
+) -> u32 {
+    let places_lent = answer.len();
+    let mut call = || -> Answer {
+        checks::size(n, m)?;
+        check_lent(
+            n,
+            m,
+            bounds,
+            coefs,
+            rhs,
+            &[(table.len(), 4 * n * n), (calls.len() % 4, 0), (places_lent, ANSWER)],
+        )?;
+        checks::table(table)?;
+        let mut state = State { n, bounds, coefs, rhs, table };
+        let counts = list::run(&mut state, calls.chunks_exact(4).map(Call::new));
+        Ok(places([counts.refused, counts.none, counts.changed, counts.unchanged]))
+    };
+    reply(call(), answer)
+}
+
+/// The rounds of 01's program `reduce`, with a limit given.
+pub fn rounds(
+    n: usize,
+    m: usize,
+    bounds: &mut [i32],
+    coefs: &mut [i32],
+    rhs: &mut [i32],
+    table: &mut [u8],
+    limit: u32,
+    answer: &mut [u64],
+) -> u32 {
+    let places_lent = answer.len();
+    let mut call = || -> Answer {
+        checks::size(n, m)?;
+        check_lent(n, m, bounds, coefs, rhs, &[(table.len(), 4 * n * n), (places_lent, ANSWER)])?;
+        checks::table(table)?;
+        let mut state = State { n, bounds, coefs, rhs, table };
+        Ok(match rounds::rounds(&mut state, limit) {
+            Rounds::Infeasible(made) => places([0, made.into()]),
+            Rounds::Unchanged(made) => places([1, made.into()]),
+            Rounds::LimitReached(made) => places([2, made.into()]),
+        })
+    };
+    reply(call(), answer)
+}
+
+/// n and m of 16 trailer bytes.
+pub fn book_trailer(bytes: &[u8], answer: &mut [u64]) -> u32 {
+    let call = || -> Answer {
+        let (n, m) = book::trailer(bytes, answer.len() == ANSWER)?;
+        Ok(places([n as u64, m as u64]))
+    };
+    reply(call(), answer)
+}
+
+/// Reads a book into lent buffers.
+pub fn book_read(
+    book: &[u8],
+    bounds: &mut [i32],
+    coefs: &mut [i32],
+    rhs: &mut [i32],
+    answer: &mut [u64],
+) -> u32 {
+    let places_lent = answer.len();
+    let mut call = || -> Answer {
+        let (n, m) = book::size(book)?;
+        checks::lengths(&[
+            (bounds.len(), 2 * n),
+            (coefs.len(), m * n),
+            (rhs.len(), m),
+            (places_lent, ANSWER),
+        ])?;
+        let (new_bounds, new_coefs, new_rhs) = book::numbers(book, n, m);
+        checks::numbers(&new_bounds, &new_coefs, &new_rhs)?;
+        bounds.copy_from_slice(&new_bounds);
+        coefs.copy_from_slice(&new_coefs);
+        rhs.copy_from_slice(&new_rhs);
+        Ok(places([n as u64, m as u64]))
+    };
+    reply(call(), answer)
+}
+
+/// Writes the book of a model into a lent buffer of exactly its length.
+pub fn book_write(
+    n: usize,
+    m: usize,
+    bounds: &[i32],
+    coefs: &[i32],
+    rhs: &[i32],
+    book: &mut [u8],
+) -> u32 {
+    let check = || -> Check {
+        checks::size(n, m)?;
+        let needed = book::length(n, m);
+        check_lent(n, m, bounds, coefs, rhs, &[(book.len(), needed)])
+    };
+    if let Err(check) = check() {
+        return check;
+    }
+    book.copy_from_slice(&book::write(n, m, bounds, coefs, rhs));
+    0
+}

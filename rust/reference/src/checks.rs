@@ -1,0 +1,54 @@
+//! The checks, in 01's order: each runs over everything that the call is lent before the next begins.
+
+use crate::bounds;
+use crate::propagation::MAX_BUDGET;
+
+/// `Err` has the number of the failed check.
+pub type Check = Result<(), u32>;
+
+/// Passes where `holds`, else fails with number `check`.
+pub fn ensure(check: u32, holds: bool) -> Check {
+    if holds { Ok(()) } else { Err(check) }
+}
+
+/// Check 3.
+pub fn size(n: usize, m: usize) -> Check {
+    ensure(3, (1..=128).contains(&n) && m <= 120)
+}
+
+/// Check 5: pairs of a buffer's length and the length needed.
+pub fn lengths(pairs: &[(usize, usize)]) -> Check {
+    ensure(5, pairs.iter().all(|(len, needed)| len == needed))
+}
+
+/// Checks 6 to 9.
+pub fn numbers(bounds: &[i32], coefs: &[i32], rhs: &[i32]) -> Check {
+    let within = |xs: &[i32], low, high| xs.iter().all(|x| (low..=high).contains(x));
+    let ordered = || bounds.chunks_exact(2).all(|pair| pair[0] <= pair[1]);
+    ensure(6, within(bounds, -32_768, 32_767))?;
+    ensure(7, ordered() || bounds::is_empty(bounds))?;
+    ensure(8, within(coefs, -1_000_000, 1_000_000))?;
+    ensure(9, within(rhs, -1_000_000_000, 1_000_000_000))
+}
+
+/// Check 10.
+pub fn table(bytes: &[u8]) -> Check {
+    ensure(10, bytes.iter().all(|&byte| byte <= 1))
+}
+
+/// Check 12.
+pub fn row(row: u32, m: usize) -> Check {
+    ensure(12, (row as usize) < m)
+}
+
+/// Checks 13 and 14, the latter where the box is not empty.
+pub fn free_variable(variable: u32, bounds: &[i32]) -> Check {
+    let k = variable as usize;
+    ensure(13, k < bounds.len() / 2)?;
+    ensure(14, bounds::is_empty(bounds) || bounds::is_free(bounds, k))
+}
+
+/// Check 15.
+pub fn budget(budget: u32) -> Check {
+    ensure(15, (1..=MAX_BUDGET).contains(&budget))
+}

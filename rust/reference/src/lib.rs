@@ -1,0 +1,77 @@
+//! The reducer once more, in plain Rust.
+//!
+//! Written from the specification (document 01) alone, without a look at the proved code, so that a
+//! misreading would have to be made twice to stay unseen. Nothing here is clever: every call checks
+//! what it is lent, in 01's order, and then follows the text. Sums are `i64`: an activity is at most
+//! 128 · 1,000,000 · 32,768 < 2⁴³.
+//!
+//! | module | 01's section |
+//! |---|---|
+//! | [`bounds`] | The model: the box, the empty ("void") box, free binary ("free 0-1") variables |
+//! | [`row`] | Row sums; visit; sharpen and drop |
+//! | [`propagation`] | Settle |
+//! | [`probing`] | Probe, rest |
+//! | [`list`] | Run sheet |
+//! | [`rounds`] | the rounds of the program `reduce` |
+//! | [`book`] | Book |
+//! | [`checks`] | Checks in their order |
+//! | [`calls`] | the eleven calls as the C interface has them: a refusal number and six places of answer |
+//! | [`report`] | what `reduce` prints |
+
+pub mod book;
+pub mod bounds;
+pub mod calls;
+pub mod checks;
+pub mod list;
+pub mod probing;
+pub mod propagation;
+pub mod report;
+pub mod rounds;
+pub mod row;
+
+/// A model and its implication table in lent memory: what a call list and the rounds work on.
+pub struct State<'a> {
+    pub n: usize,
+    pub bounds: &'a mut [i32],
+    pub coefs: &'a mut [i32],
+    pub rhs: &'a mut [i32],
+    pub table: &'a mut [u8],
+}
+
+/// A copy of every number of a [`State`], to tell later whether one changed.
+#[derive(PartialEq)]
+pub struct Snapshot(Vec<i32>, Vec<i32>, Vec<i32>, Vec<u8>);
+
+impl State<'_> {
+    pub fn rows(&self) -> row::Rows<'_> {
+        row::Rows::new(self.n, self.coefs, self.rhs)
+    }
+
+    pub fn snapshot(&self) -> Snapshot {
+        Snapshot(self.bounds.to_vec(), self.coefs.to_vec(), self.rhs.to_vec(), self.table.to_vec())
+    }
+
+    /// Tightens the coefficient of variable `k` in row `r` (01's sharpen).
+    pub fn tighten_coefficient(&mut self, r: usize, k: usize) -> row::Outcome {
+        let coefs = &mut self.coefs[r * self.n..][..self.n];
+        row::tighten_coefficient(self.bounds, coefs, &mut self.rhs[r], k)
+    }
+
+    /// Removes row `r` where it is redundant (01's drop).
+    pub fn remove_redundant_row(&mut self, r: usize) -> row::Outcome {
+        let coefs = &mut self.coefs[r * self.n..][..self.n];
+        row::remove_redundant_row(self.bounds, coefs, &mut self.rhs[r])
+    }
+
+    /// Propagates the rows over the box (01's settle).
+    pub fn propagate(&mut self, budget: u32) -> propagation::Propagation {
+        let rows = row::Rows::new(self.n, self.coefs, self.rhs);
+        propagation::propagate(self.bounds, rows, budget)
+    }
+
+    /// Probes variable `k`.
+    pub fn probe(&mut self, k: usize, budget: u32) -> probing::Probe {
+        let rows = row::Rows::new(self.n, self.coefs, self.rhs);
+        probing::probe(self.bounds, rows, self.table, k, budget)
+    }
+}

@@ -1,0 +1,89 @@
+//! A call list (01's run sheet): many calls on one state.
+
+use crate::State;
+use crate::bounds;
+use crate::checks::{self, Check};
+use crate::probing::Verdict;
+use crate::propagation::Propagation;
+use crate::row::{self, Outcome};
+
+/// A call record: four numbers. A field that its kind lacks is ignored.
+#[derive(Clone, Copy, Debug)]
+pub struct Call {
+    pub kind: u32,
+    pub row: u32,
+    pub variable: u32,
+    pub budget: u32,
+}
+
+impl Call {
+    /// Reads a record from its four numbers.
+    pub fn new(numbers: &[u32]) -> Self {
+        let [kind, row, variable, budget] = numbers else {
+            unreachable!("a record has four numbers");
+        };
+        Call { kind: *kind, row: *row, variable: *variable, budget: *budget }
+    }
+}
+
+/// How many calls of a list ended in which way.
+#[derive(Clone, Copy, Debug, Default, PartialEq, Eq)]
+pub struct Counts {
+    pub refused: u64,
+    pub none: u64,
+    pub changed: u64,
+    pub unchanged: u64,
+}
+
+/// Makes the calls one after another; a refused one leaves the state and the run goes on.
+pub fn run(state: &mut State, calls: impl Iterator<Item = Call>) -> Counts {
+    let mut counts = Counts::default();
+    for call in calls {
+        let before = state.snapshot();
+        match apply(state, call) {
+            Err(_) => counts.refused += 1,
+            Ok(Feasible(false)) => counts.none += 1,
+            Ok(Feasible(true)) if state.snapshot() != before => counts.changed += 1,
+            Ok(Feasible(true)) => counts.unchanged += 1,
+        }
+    }
+    counts
+}
+
+/// Whether a call answered anything but None.
+struct Feasible(bool);
+
+/// Checks 11 to 15 of one call, then the call.
+fn apply(state: &mut State, call: Call) -> Result<Feasible, u32> {
+    check(state, call)?;
+    let (r, k) = (call.row as usize, call.variable as usize);
+    Ok(Feasible(match call.kind {
+        1 => propagate_row(state, r) != Outcome::Infeasible,
+        2 => !matches!(state.propagate(call.budget), Propagation::Infeasible(_)),
+        3 => state.probe(k, call.budget).verdict != Verdict::Infeasible,
+        4 => state.tighten_coefficient(r, k) != Outcome::Infeasible,
+        _ => state.remove_redundant_row(r) != Outcome::Infeasible,
+    }))
+}
+
+fn check(state: &State, call: Call) -> Check {
+    checks::ensure(11, (1..=5).contains(&call.kind))?;
+    if matches!(call.kind, 1 | 4 | 5) {
+        checks::row(call.row, state.rhs.len())?;
+    }
+    if matches!(call.kind, 3 | 4) {
+        checks::free_variable(call.variable, state.bounds)?;
+    }
+    if matches!(call.kind, 2 | 3) {
+        checks::budget(call.budget)?;
+    }
+    Ok(())
+}
+
+fn propagate_row(state: &mut State, r: usize) -> Outcome {
+    if bounds::is_empty(state.bounds) {
+        return Outcome::Infeasible;
+    }
+    let coefs = &state.coefs[r * state.n..][..state.n];
+    row::propagate_row(state.bounds, coefs, state.rhs[r])
+}

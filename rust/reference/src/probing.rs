@@ -1,0 +1,122 @@
+//! Probing of one free binary variable, and the probing fixpoint (01's rest).
+
+use crate::bounds;
+use crate::propagation::{MAX_BUDGET, Propagation, propagate};
+use crate::row::{Outcome, Rows, propagate_row};
+
+/// What a probe tells of one side.
+#[derive(Clone, Copy, Debug, Default, PartialEq, Eq)]
+pub struct Side {
+    pub passes: u32,
+    pub spent: bool,
+}
+
+#[derive(Clone, Copy, Debug, PartialEq, Eq)]
+pub enum Verdict {
+    /// 01's None: neither side is feasible.
+    Infeasible,
+    /// 01's Fixed: only this side is.
+    Fixed(usize),
+    /// 01's Both, with the number of table bytes that went from 0 to 1.
+    BothFeasible(u64),
+}
+
+#[derive(Clone, Copy, Debug, PartialEq, Eq)]
+pub struct Probe {
+    pub verdict: Verdict,
+    pub sides: [Side; 2],
+}
+
+/// One side: the box with `k` set to `v`, propagated. No box where it is infeasible.
+fn side(bounds: &[i32], rows: Rows, k: usize, v: usize, budget: u32) -> (Option<Vec<i32>>, Side) {
+    let mut reached = bounds.to_vec();
+    reached[2 * k..2 * k + 2].fill(v as i32);
+    let (feasible, passes, spent) = match propagate(&mut reached, rows, budget) {
+        Propagation::Infeasible(passes) => (false, passes, false),
+        Propagation::Converged(passes) => (true, passes, false),
+        Propagation::BudgetSpent(passes) => (true, passes, true),
+    };
+    (feasible.then_some(reached), Side { passes, spent })
+}
+
+/// Probes the free binary variable `k`. Both sides start from the box given, whatever the first gives.
+pub fn probe(bounds: &mut [i32], rows: Rows, table: &mut [u8], k: usize, budget: u32) -> Probe {
+    if bounds::is_empty(bounds) {
+        return Probe { verdict: Verdict::Infeasible, sides: [Side::default(); 2] };
+    }
+    let (box0, side0) = side(bounds, rows, k, 0, budget);
+    let (box1, side1) = side(bounds, rows, k, 1, budget);
+    let verdict = match (box0, box1) {
+        (None, None) => {
+            bounds::make_empty(bounds);
+            Verdict::Infeasible
+        }
+        (Some(only), None) => {
+            bounds.copy_from_slice(&only);
+            Verdict::Fixed(0)
+        }
+        (None, Some(only)) => {
+            bounds.copy_from_slice(&only);
+            Verdict::Fixed(1)
+        }
+        (Some(box0), Some(box1)) => {
+            let new = record(bounds, [&box0, &box1], table, k);
+            bounds.copy_from_slice(&bounds::hull(&box0, &box1));
+            Verdict::BothFeasible(new)
+        }
+    };
+    Probe { verdict, sides: [side0, side1] }
+}
+
+/// Records what each side fixes: "k is v" implies "j is w", and its contrapositive "j is 1 − w"
+/// implies "k is 1 − v", for each other variable j that is free in the box before the probe.
+/// Counts the bytes that went from 0 to 1.
+fn record(before: &[i32], sides: [&[i32]; 2], table: &mut [u8], k: usize) -> u64 {
+    let n = before.len() / 2;
+    let mut new = 0;
+    let mut imply = |p: usize, q: usize| {
+        let byte = &mut table[p * 2 * n + q];
+        new += u64::from(*byte == 0);
+        *byte = 1;
+    };
+    for j in (0..n).filter(|&j| j != k && bounds::is_free(before, j)) {
+        for (v, reached) in sides.iter().enumerate() {
+            if let Some(w) = bounds::fixed_at(reached, j) {
+                let w = w as usize;
+                imply(literal(k, v), literal(j, w));
+                imply(literal(j, 1 - w), literal(k, 1 - v));
+            }
+        }
+    }
+    new
+}
+
+/// The number of the literal "variable k is v".
+pub fn literal(k: usize, v: usize) -> usize {
+    2 * k + v
+}
+
+/// Whether the box is at rest: it is empty; or no row moves it and no probe carried to its end does.
+pub fn is_probing_fixpoint(bounds: &[i32], rows: Rows) -> bool {
+    bounds::is_empty(bounds)
+        || is_fixpoint(bounds, rows)
+            && (0..bounds.len() / 2)
+                .filter(|&k| bounds::is_free(bounds, k))
+                .all(|k| sides_leave(bounds, rows, k))
+}
+
+/// Whether no row changes the box (01's quiet).
+pub fn is_fixpoint(bounds: &[i32], rows: Rows) -> bool {
+    rows.iter()
+        .all(|(coefs, rhs)| propagate_row(&mut bounds.to_vec(), coefs, rhs) == Outcome::Unchanged)
+}
+
+/// Whether both sides of `k` are feasible and their hull is the box itself. The largest budget is
+/// never spent, so each side ends in its greatest fixpoint.
+fn sides_leave(bounds: &[i32], rows: Rows, k: usize) -> bool {
+    let reached = |v| side(bounds, rows, k, v, MAX_BUDGET).0;
+    match (reached(0), reached(1)) {
+        (Some(box0), Some(box1)) => bounds::hull(&box0, &box1) == bounds,
+        _ => false,
+    }
+}

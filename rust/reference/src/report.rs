@@ -1,0 +1,52 @@
+//! What the program `reduce` prints for what it reads.
+
+use std::fmt::Write;
+
+use crate::rounds::{Rounds, rounds};
+use crate::{State, book, checks};
+
+/// The rounds that `reduce` makes at most.
+const LIMIT: u32 = 8;
+
+/// The output for a book on standard input.
+pub fn reduce(input: &[u8]) -> String {
+    match reduced(input) {
+        Err(check) => format!("refused {check}\n"),
+        Ok(None) => "none\n".to_string(),
+        Ok(Some(text)) => text,
+    }
+}
+
+/// `None` where the model is infeasible.
+fn reduced(input: &[u8]) -> Result<Option<String>, u32> {
+    let (n, m) = book::size(input)?;
+    let (mut bounds, mut coefs, mut rhs) = book::numbers(input, n, m);
+    checks::numbers(&bounds, &coefs, &rhs)?;
+    let mut table = vec![0; 4 * n * n];
+    let mut state =
+        State { n, bounds: &mut bounds, coefs: &mut coefs, rhs: &mut rhs, table: &mut table };
+    Ok(match rounds(&mut state, LIMIT) {
+        Rounds::Infeasible(_) => None,
+        Rounds::Unchanged(made) | Rounds::LimitReached(made) => Some(print(&state, made)),
+    })
+}
+
+fn print(state: &State, rounds: u32) -> String {
+    let (n, m) = (state.n, state.rhs.len());
+    let mut out = format!("reduced {n} {m} {rounds}\n");
+    for (j, pair) in state.bounds.chunks_exact(2).enumerate() {
+        writeln!(out, "v {j} {} {}", pair[0], pair[1]).unwrap();
+    }
+    for (r, (coefs, rhs)) in state.rows().iter().enumerate() {
+        if rhs != 0 || coefs.iter().any(|&a| a != 0) {
+            write!(out, "r {r} {rhs}").unwrap();
+            coefs.iter().for_each(|a| write!(out, " {a}").unwrap());
+            out.push('\n');
+        }
+    }
+    for (at, _) in state.table.iter().enumerate().filter(|(_, byte)| **byte == 1) {
+        let (p, q) = (at / (2 * n), at % (2 * n));
+        writeln!(out, "i {} {} {} {}", p / 2, p % 2, q / 2, q % 2).unwrap();
+    }
+    out
+}

@@ -1,0 +1,313 @@
+//! Small models, enumerated point by point: what demands 2 and 3 promise, seen with a short program.
+//!
+//! Every box here is small enough to list all its points (and all its sub-boxes), so these tests know
+//! the truth without any of the reducer's reasoning.
+
+mod common;
+use common::Model;
+
+const MAX_BUDGET: u32 = 8_388_481;
+
+/// A small generator with a fixed start (splitmix64), so that a failure can be repeated.
+struct Rng(u64);
+
+impl Rng {
+    fn next(&mut self) -> u64 {
+        self.0 = self.0.wrapping_add(0x9e37_79b9_7f4a_7c15);
+        let mut z = self.0;
+        z = (z ^ (z >> 30)).wrapping_mul(0xbf58_476d_1ce4_e5b9);
+        z = (z ^ (z >> 27)).wrapping_mul(0x94d0_49bb_1331_11eb);
+        z ^ (z >> 31)
+    }
+
+    /// A number from `low` to `high`, both included.
+    fn between(&mut self, low: i32, high: i32) -> i32 {
+        low + (self.next() % (high - low + 1) as u64) as i32
+    }
+}
+
+/// A model of few variables, most of them binary, whose rows are neither all loose nor all infeasible.
+fn small_model(rng: &mut Rng, max_n: i32) -> Model {
+    let n = rng.between(1, max_n) as usize;
+    let m = rng.between(0, 4) as usize;
+    let bounds: Vec<(i32, i32)> = (0..n)
+        .map(|_| match rng.between(0, 3) {
+            0 => {
+                let l = rng.between(-3, 2);
+                (l, l + rng.between(0, 3))
+            }
+            _ => (0, 1),
+        })
+        .collect();
+    let rows: Vec<(Vec<i32>, i32)> = (0..m)
+        .map(|_| {
+            let coefs: Vec<i32> = (0..n).map(|_| rng.between(-4, 4) * rng.between(0, 1)).collect();
+            (coefs, rng.between(-4, 6))
+        })
+        .collect();
+    let rows: Vec<(&[i32], i32)> = rows.iter().map(|(coefs, b)| (&coefs[..], *b)).collect();
+    Model::new(&bounds, &rows)
+}
+
+/// All lists of whole numbers inside the box, without the rows.
+fn box_points(bounds: &[i32]) -> Vec<Vec<i32>> {
+    bounds.chunks(2).fold(vec![vec![]], |points, pair| {
+        points
+            .iter()
+            .flat_map(|point| {
+                (pair[0]..=pair[1]).map(move |x| point.iter().copied().chain([x]).collect())
+            })
+            .collect()
+    })
+}
+
+fn meets_rows(model: &Model, point: &[i32]) -> bool {
+    (0..model.m).all(|r| {
+        let (coefs, b) = model.row(r);
+        coefs.iter().zip(point).map(|(a, x)| a * x).sum::<i32>() <= b
+    })
+}
+
+/// The integer points of the model.
+fn integer_points(model: &Model) -> Vec<Vec<i32>> {
+    box_points(&model.bounds).into_iter().filter(|point| meets_rows(model, point)).collect()
+}
+
+/// Whether each recorded implication holds at each of the points.
+fn implications_hold(model: &Model, points: &[Vec<i32>]) -> bool {
+    let literals = 2 * model.n;
+    let holds = |literal: usize, point: &[i32]| point[literal / 2] == (literal % 2) as i32;
+    (0..literals * literals).filter(|&at| model.table[at] == 1).all(|at| {
+        let (p, q) = (at / literals, at % literals);
+        points.iter().all(|point| !holds(p, point) || holds(q, point))
+    })
+}
+
+/// One call of any of the five kinds, chosen at random; refused ones among them.
+fn any_call(rng: &mut Rng, model: &Model) -> [u32; 4] {
+    let row = rng.between(0, model.m as i32) as u32;
+    let variable = rng.between(0, model.n as i32) as u32;
+    [rng.between(0, 6) as u32, row, variable, rng.between(0, 4) as u32]
+}
+
+/// What the same call says when made directly.
+fn direct(model: &mut Model, [kind, row, variable, budget]: [u32; 4]) -> common::Said {
+    match kind {
+        1 => model.propagate_row(row),
+        2 => model.propagate(budget),
+        3 => model.probe(variable, budget),
+        4 => model.tighten(row, variable),
+        5 => model.remove(row),
+        _ => Err(11),
+    }
+}
+
+#[test]
+fn each_call_keeps_the_integer_points() {
+    let mut rng = Rng(1);
+    let (mut changed, mut none) = (0, 0);
+    for _ in 0..10_000 {
+        let mut model = small_model(&mut rng, 5);
+        let points = integer_points(&model);
+        for _ in 0..12 {
+            let before = model.clone();
+            let call = any_call(&mut rng, &model);
+            let said = direct(&mut model, call);
+            assert_eq!(integer_points(&model), points, "{call:?} on {before:?}");
+            assert!(implications_hold(&model, &points), "{call:?} on {before:?}");
+            match said {
+                Ok([0, ..]) => {
+                    assert!(points.is_empty() && model.is_empty(), "None on {before:?}");
+                    none += 1;
+                }
+                Ok(_) => assert!(!model.is_empty()),
+                Err(_) => assert_eq!(model, before),
+            }
+            changed += u32::from(model != before);
+        }
+    }
+    // The test would say nothing if the generator never made a call do something.
+    assert!(changed > 5_000 && none > 1_000, "{changed} calls changed the state, {none} None");
+}
+
+#[test]
+fn no_call_adds_a_fractional_point() {
+    // Points over a denominator of 4: each that meets the model after a call met it before.
+    let mut rng = Rng(2);
+    let quarters = |model: &Model| -> Vec<Vec<i32>> {
+        let bounds: Vec<i32> = model.bounds.iter().map(|x| 4 * x).collect();
+        let mut scaled = model.clone();
+        scaled.rhs.iter_mut().for_each(|b| *b *= 4);
+        box_points(&bounds).into_iter().filter(|point| meets_rows(&scaled, point)).collect()
+    };
+    for _ in 0..400 {
+        let mut model = small_model(&mut rng, 3);
+        for _ in 0..6 {
+            let before = model.clone();
+            let call = any_call(&mut rng, &model);
+            let _ = direct(&mut model, call);
+            if model != before {
+                let old = quarters(&before);
+                let added = quarters(&model).into_iter().find(|p| old.binary_search(p).is_err());
+                assert_eq!(added, None, "{call:?} on {before:?}");
+            }
+        }
+    }
+}
+
+#[test]
+fn a_call_list_does_what_its_calls_do() {
+    let mut rng = Rng(3);
+    for _ in 0..2_000 {
+        let model = small_model(&mut rng, 5);
+        let calls: Vec<[u32; 4]> =
+            (0..rng.between(0, 10)).map(|_| any_call(&mut rng, &model)).collect();
+        let (mut one, mut all) = (model.clone(), model);
+        let mut counts = [0; 6];
+        for &call in &calls {
+            let before = one.clone();
+            let place = match direct(&mut one, call) {
+                Err(_) => 0,
+                Ok([0, ..]) => 1,
+                Ok(_) if one != before => 2,
+                Ok(_) => 3,
+            };
+            counts[place] += 1;
+        }
+        assert_eq!(all.run(calls.as_flattened()), Ok(counts));
+        assert_eq!(all, one);
+    }
+}
+
+/// Every non-empty box inside this one.
+fn boxes_inside(bounds: &[i32]) -> Vec<Vec<i32>> {
+    bounds.chunks(2).fold(vec![vec![]], |boxes, pair| {
+        let pairs = || (pair[0]..=pair[1]).flat_map(move |l| (l..=pair[1]).map(move |u| [l, u]));
+        boxes
+            .iter()
+            .flat_map(|inner| pairs().map(move |p| inner.iter().copied().chain(p).collect()))
+            .collect()
+    })
+}
+
+fn contains(outer: &[i32], inner: &[i32]) -> bool {
+    outer.chunks(2).zip(inner.chunks(2)).all(|(o, i)| o[0] <= i[0] && i[1] <= o[1])
+}
+
+/// Whether no row's propagation changes the box (01's quiet), one row at a time.
+fn is_quiet(model: &Model, bounds: &[i32]) -> bool {
+    let at = Model { bounds: bounds.to_vec(), ..model.clone() };
+    (0..model.m as u32).all(|row| at.clone().propagate_row(row).unwrap()[0] == 2)
+}
+
+/// 01's largest quiet box inside a box, by looking at all of them; `None` where there is none.
+fn largest_quiet(model: &Model, bounds: &[i32]) -> Option<Vec<i32>> {
+    let quiet: Vec<Vec<i32>> =
+        boxes_inside(bounds).into_iter().filter(|inner| is_quiet(model, inner)).collect();
+    let largest = quiet.iter().find(|outer| quiet.iter().all(|inner| contains(outer, inner)));
+    assert_eq!(largest.is_none(), quiet.is_empty(), "one of the quiet boxes contains all others");
+    largest.cloned()
+}
+
+/// 01's "at rest" word by word.
+fn at_rest_by_definition(model: &Model) -> bool {
+    let bounds = &model.bounds;
+    let free = |k: usize| bounds[2 * k..2 * k + 2] == [0, 1];
+    let side = |k: usize, v: i32| {
+        let mut fixed = bounds.clone();
+        fixed[2 * k..2 * k + 2].fill(v);
+        largest_quiet(model, &fixed)
+    };
+    let leaves = |k: usize| match (side(k, 0), side(k, 1)) {
+        (Some(zero), Some(one)) => reference::bounds::hull(&zero, &one) == *bounds,
+        _ => false,
+    };
+    model.is_empty() || is_quiet(model, bounds) && (0..model.n).filter(|&k| free(k)).all(leaves)
+}
+
+#[test]
+fn propagation_ends_in_the_largest_quiet_box() {
+    let mut rng = Rng(4);
+    for _ in 0..400 {
+        let mut model = small_model(&mut rng, 3);
+        let largest = largest_quiet(&model, &model.bounds);
+        let case = model.propagate(MAX_BUDGET).unwrap()[0];
+        match largest {
+            None => assert_eq!((case, model.is_empty()), (0, true)),
+            Some(largest) => assert_eq!((case, &model.bounds), (1, &largest)),
+        }
+    }
+}
+
+#[test]
+fn the_rest_call_agrees_with_the_definition() {
+    let mut rng = Rng(5);
+    let mut seen = [0; 2];
+    for round in 0..600 {
+        let mut model = small_model(&mut rng, 3);
+        // Half of them are carried to a fixpoint first: else almost all would be at unrest.
+        if round % 2 == 0 {
+            model.propagate(MAX_BUDGET).unwrap();
+        }
+        let said = model.at_rest().unwrap()[0];
+        assert_eq!(said == 1, at_rest_by_definition(&model), "{model:?}");
+        seen[said as usize] += 1;
+    }
+    assert!(seen[0] > 50 && seen[1] > 50, "{seen:?}");
+}
+
+/// Makes random visits, settles and probes until the box is at rest.
+fn carry_to_rest(rng: &mut Rng, model: &mut Model) {
+    while model.at_rest().unwrap()[0] == 0 {
+        let row = rng.between(0, model.m as i32) as u32;
+        let variable = rng.between(0, model.n as i32) as u32;
+        let _ = match rng.between(1, 3) {
+            1 => model.propagate_row(row),
+            2 => model.propagate(rng.between(0, 3) as u32),
+            _ => model.probe(variable, rng.between(0, 3) as u32),
+        };
+    }
+}
+
+#[test]
+fn two_runs_at_rest_end_in_equal_boxes() {
+    // Demand 3: any calls first, then two runs part, each with its own order and budgets.
+    let mut rng = Rng(6);
+    for _ in 0..1_500 {
+        let mut model = small_model(&mut rng, 5);
+        let points = integer_points(&model);
+        for _ in 0..rng.between(0, 6) {
+            let call = any_call(&mut rng, &model);
+            let _ = direct(&mut model, call);
+        }
+        let (mut left, mut right) = (model.clone(), model);
+        carry_to_rest(&mut rng, &mut left);
+        carry_to_rest(&mut rng, &mut right);
+        assert_eq!(left.bounds, right.bounds);
+        for end in [&left, &right] {
+            assert_eq!(integer_points(end), points);
+            assert!(implications_hold(end, &points));
+        }
+    }
+}
+
+#[test]
+fn books_come_back() {
+    let mut rng = Rng(7);
+    for _ in 0..1_000 {
+        let model = small_model(&mut rng, 6);
+        let book = model.book();
+        let mut read = Model {
+            bounds: vec![0; 2 * model.n],
+            coefs: vec![0; model.m * model.n],
+            rhs: vec![0; model.m],
+            ..model.clone()
+        };
+        let mut answer = [0; 6];
+        let (bounds, coefs, rhs) = (&mut read.bounds, &mut read.coefs, &mut read.rhs);
+        assert_eq!(reference::calls::book_read(&book, bounds, coefs, rhs, &mut answer), 0);
+        assert_eq!(answer, [model.n as u64, model.m as u64, 0, 0, 0, 0]);
+        assert_eq!(read, model);
+        assert_eq!(read.book(), book);
+    }
+}

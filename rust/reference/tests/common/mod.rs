@@ -1,0 +1,125 @@
+//! A model in owned buffers, so that a test reads like a line of 01.
+#![allow(dead_code)] // each test file uses its own part
+
+use reference::calls;
+
+/// A refusal's number, or the six places of the answer.
+pub type Said = Result<[u64; 6], u32>;
+
+#[derive(Clone, Debug, PartialEq)]
+pub struct Model {
+    pub n: usize,
+    pub m: usize,
+    pub bounds: Vec<i32>,
+    pub coefs: Vec<i32>,
+    pub rhs: Vec<i32>,
+    pub table: Vec<u8>,
+}
+
+/// The answer of an accepted call, its unused places filled with 0.
+pub fn ok(values: &[u64]) -> Said {
+    let mut all = [0; 6];
+    all[..values.len()].copy_from_slice(values);
+    Ok(all)
+}
+
+impl Model {
+    /// A model from the bounds of each variable and the rows, each with its right side.
+    pub fn new(bounds: &[(i32, i32)], rows: &[(&[i32], i32)]) -> Self {
+        Model {
+            n: bounds.len(),
+            m: rows.len(),
+            bounds: bounds.iter().flat_map(|&(l, u)| [l, u]).collect(),
+            coefs: rows.iter().flat_map(|(coefs, _)| coefs.iter().copied()).collect(),
+            rhs: rows.iter().map(|&(_, b)| b).collect(),
+            table: vec![0; 4 * bounds.len() * bounds.len()],
+        }
+    }
+
+    /// A model in free binary variables.
+    pub fn binary(n: usize, rows: &[(&[i32], i32)]) -> Self {
+        Model::new(&vec![(0, 1); n], rows)
+    }
+
+    pub fn row(&self, r: usize) -> (&[i32], i32) {
+        (&self.coefs[r * self.n..(r + 1) * self.n], self.rhs[r])
+    }
+
+    pub fn is_empty(&self) -> bool {
+        self.bounds.chunks(2).all(|pair| pair == [1, 0])
+    }
+
+    /// Makes a call with a full answer, and sees that a refusal changes nothing.
+    fn call(&mut self, call: impl FnOnce(&mut Model, &mut [u64]) -> u32) -> Said {
+        let before = self.clone();
+        let mut answer = [77; 6];
+        match call(self, &mut answer) {
+            0 => Ok(answer),
+            check => {
+                assert_eq!((&*self, answer), (&before, [77; 6]), "a refusal writes nothing");
+                Err(check)
+            }
+        }
+    }
+
+    pub fn propagate_row(&mut self, row: u32) -> Said {
+        self.call(|s, answer| {
+            calls::propagate_row(s.n, s.m, &mut s.bounds, &s.coefs, &s.rhs, row, answer)
+        })
+    }
+
+    pub fn propagate(&mut self, budget: u32) -> Said {
+        self.call(|s, answer| {
+            calls::propagate(s.n, s.m, &mut s.bounds, &s.coefs, &s.rhs, budget, answer)
+        })
+    }
+
+    pub fn probe(&mut self, variable: u32, budget: u32) -> Said {
+        self.call(|s, answer| {
+            let (bounds, table) = (&mut s.bounds, &mut s.table);
+            calls::probe(s.n, s.m, bounds, &s.coefs, &s.rhs, table, variable, budget, answer)
+        })
+    }
+
+    pub fn tighten(&mut self, row: u32, variable: u32) -> Said {
+        self.call(|s, answer| {
+            let (coefs, rhs) = (&mut s.coefs, &mut s.rhs);
+            calls::tighten_coefficient(s.n, s.m, &s.bounds, coefs, rhs, row, variable, answer)
+        })
+    }
+
+    pub fn remove(&mut self, row: u32) -> Said {
+        self.call(|s, answer| {
+            let (coefs, rhs) = (&mut s.coefs, &mut s.rhs);
+            calls::remove_redundant_row(s.n, s.m, &s.bounds, coefs, rhs, row, answer)
+        })
+    }
+
+    pub fn at_rest(&mut self) -> Said {
+        self.call(|s, answer| {
+            calls::is_probing_fixpoint(s.n, s.m, &s.bounds, &s.coefs, &s.rhs, answer)
+        })
+    }
+
+    pub fn run(&mut self, calls: &[u32]) -> Said {
+        self.call(|s, answer| {
+            let (bounds, coefs, rhs) = (&mut s.bounds, &mut s.coefs, &mut s.rhs);
+            calls::run(s.n, s.m, bounds, coefs, rhs, &mut s.table, calls, answer)
+        })
+    }
+
+    pub fn rounds(&mut self, limit: u32) -> Said {
+        self.call(|s, answer| {
+            let (bounds, coefs, rhs) = (&mut s.bounds, &mut s.coefs, &mut s.rhs);
+            calls::rounds(s.n, s.m, bounds, coefs, rhs, &mut s.table, limit, answer)
+        })
+    }
+
+    pub fn book(&self) -> Vec<u8> {
+        let mut book = vec![0; 8 * self.n + self.m * (4 + 4 * self.n) + 16];
+        let said =
+            calls::book_write(self.n, self.m, &self.bounds, &self.coefs, &self.rhs, &mut book);
+        assert_eq!(said, 0);
+        book
+    }
+}

@@ -1,0 +1,285 @@
+//! Corner cases: what docs/DECISIONS.md decides where 01 leaves a point open (D-1 and following), and
+//! what the issue fixes for the C interface.
+
+mod common;
+use common::{Model, ok};
+use reference::calls;
+
+const MAX_BUDGET: u32 = 8_388_481;
+
+/// The empty box over one row.
+fn empty_box() -> Model {
+    Model::new(&[(1, 0), (1, 0)], &[(&[1, 1], 1)])
+}
+
+#[test]
+fn checks_run_strictly_by_number() {
+    // D-1: everything is wrong; repairing one check after another shows the next number.
+    let mut model = Model::new(&[(0, 40_000), (1, 0)], &[(&[1_000_001, 0], 1_000_000_001)]);
+    model.table[0] = 2;
+    assert_eq!(model.probe(9, 0), Err(6));
+    model.bounds[1] = 1;
+    assert_eq!(model.probe(9, 0), Err(7));
+    model.bounds[3] = 2;
+    assert_eq!(model.probe(9, 0), Err(8));
+    model.coefs[0] = 1_000_000;
+    assert_eq!(model.probe(9, 0), Err(9));
+    model.rhs[0] = 1_000_000_000;
+    assert_eq!(model.probe(9, 0), Err(10));
+    model.table[0] = 1;
+    assert_eq!(model.probe(2, 0), Err(13));
+    assert_eq!(model.probe(1, 0), Err(14));
+    assert_eq!(model.probe(0, 0), Err(15));
+    assert_eq!(model.probe(0, MAX_BUDGET + 1), Err(15));
+    assert_eq!(model.probe(0, MAX_BUDGET), ok(&[2, 0, 1, 0, 1, 0]));
+}
+
+#[test]
+fn lengths_come_after_the_size_and_before_the_numbers() {
+    let mut answer = [7; 6];
+    let mut bounds = [0, 40_000, 0];
+    let said = |n, m, bounds: &mut [i32], answer: &mut [u64]| {
+        calls::propagate_row(n, m, bounds, &[1], &[1], 0, answer)
+    };
+    assert_eq!(said(0, 1, &mut bounds, &mut answer), 3);
+    assert_eq!(said(129, 1, &mut bounds, &mut answer), 3);
+    assert_eq!(said(usize::MAX, usize::MAX, &mut bounds, &mut answer), 3);
+    assert_eq!(said(1, 121, &mut bounds, &mut answer), 3);
+    assert_eq!(said(1, 1, &mut bounds, &mut answer), 5);
+    assert_eq!(said(1, 1, &mut bounds[..2], &mut answer[..5]), 5);
+    assert_eq!(said(1, 1, &mut bounds[..2], &mut answer), 6);
+    assert_eq!(answer, [7; 6]);
+}
+
+#[test]
+fn a_box_that_is_nearly_empty_is_refused() {
+    // 7: one variable with l above u is not the empty box unless all are (1, 0).
+    let mut model = Model::new(&[(1, 0), (0, 0)], &[]);
+    assert_eq!(model.propagate(1), Err(7));
+    model.bounds = vec![1, 0, 1, 0];
+    assert_eq!(model.propagate(1), ok(&[0, 1]));
+    model.bounds = vec![1, 0, 2, 1];
+    assert_eq!(model.propagate(1), Err(7));
+}
+
+#[test]
+fn the_trailer_call_has_its_own_order() {
+    // D-3: 1, then 5, then 3, then 4.
+    let book = Model::binary(2, &[(&[3, 2], 4)]).book();
+    let trailer = &book[28..];
+    let mut answer = [7; 6];
+    assert_eq!(calls::book_trailer(trailer, &mut answer), 0);
+    assert_eq!(answer, [2, 1, 0, 0, 0, 0]);
+    assert_eq!(calls::book_trailer(&trailer[..15], &mut answer[..5]), 1);
+    assert_eq!(calls::book_trailer(trailer, &mut answer[..5]), 5);
+    assert_eq!(calls::book_trailer(&book[27..], &mut answer), 5);
+    let mut bad = trailer.to_vec();
+    bad[12] += 1;
+    assert_eq!(calls::book_trailer(&bad, &mut answer), 4);
+    bad[8] = 0;
+    assert_eq!(calls::book_trailer(&bad, &mut answer), 3);
+    bad.push(0);
+    assert_eq!(calls::book_trailer(&bad, &mut answer), 5);
+}
+
+#[test]
+fn a_book_is_checked_in_order() {
+    let model = Model::binary(2, &[(&[3, 2], 4)]);
+    let good = model.book();
+    let read = |book: &[u8], lent: usize| {
+        let (mut bounds, mut coefs, mut rhs) = (vec![9; lent], vec![9; 2], vec![9; 1]);
+        let mut answer = [7; 6];
+        let said = calls::book_read(book, &mut bounds, &mut coefs, &mut rhs, &mut answer);
+        let written = bounds != vec![9; lent] || coefs != [9; 2] || rhs != [9] || answer != [7; 6];
+        assert_eq!(said == 0, written, "a refusal writes nothing");
+        said
+    };
+    let with = |at: usize, byte: u8| {
+        let mut book = good.clone();
+        book[at] = byte;
+        book
+    };
+    assert_eq!(read(&good, 4), 0);
+    assert_eq!(read(&good[29..], 4), 1);
+    assert_eq!(read(&[], 4), 1);
+    assert_eq!(read(&good[1..], 4), 2);
+    assert_eq!(read(&with(40, 45), 4), 2);
+    assert_eq!(read(&with(36, 0), 4), 3);
+    assert_eq!(read(&with(37, 1), 4), 3);
+    assert_eq!(read(&with(28, 1), 4), 4);
+    assert_eq!(read(&with(32, 17), 4), 4);
+    assert_eq!(read(&with(36, 3), 4), 4);
+    assert_eq!(read(&good, 3), 5);
+    assert_eq!(read(&with(6, 1), 4), 6);
+    assert_eq!(read(&with(0, 2), 4), 7);
+    assert_eq!(read(&with(23, 1), 4), 8);
+    assert_eq!(read(&with(19, 0x7f), 4), 9);
+}
+
+#[test]
+fn on_the_empty_box_rows_variables_and_budgets_are_still_checked() {
+    // D-4
+    let mut model = empty_box();
+    assert_eq!(model.propagate_row(1), Err(12));
+    assert_eq!(model.remove(1), Err(12));
+    assert_eq!(model.tighten(1, 2), Err(12));
+    assert_eq!(model.tighten(0, 2), Err(13));
+    assert_eq!(model.probe(2, 0), Err(13));
+    assert_eq!(model.probe(0, 0), Err(15));
+    assert_eq!(model.propagate(0), Err(15));
+    let before = model.clone();
+    assert_eq!(model.propagate_row(0), ok(&[0]));
+    assert_eq!(model.propagate(3), ok(&[0, 1]));
+    assert_eq!(model.probe(0, 3), ok(&[0]));
+    assert_eq!(model.tighten(0, 0), ok(&[0]));
+    assert_eq!(model.remove(0), ok(&[0]));
+    assert_eq!(model.at_rest(), ok(&[1]));
+    assert_eq!(model, before);
+    model.coefs[0] = -1_000_001;
+    assert_eq!(model.at_rest(), Err(8));
+}
+
+#[test]
+fn without_rows_a_box_converges_after_one_pass() {
+    // D-6
+    assert_eq!(Model::new(&[(-3, 3)], &[]).propagate(1), ok(&[1, 1]));
+    assert_eq!(Model::new(&[(1, 0)], &[]).propagate(1), ok(&[0, 1]));
+}
+
+#[test]
+fn both_sides_are_propagated_and_reported() {
+    // D-7: side 0 is infeasible in its first pass, and side 1's passes are told all the same.
+    let mut model = Model::new(&[(0, 1), (0, 5)], &[(&[-1, 0], -1), (&[0, 2], 5)]);
+    assert_eq!(model.probe(0, 9), ok(&[1, 1, 1, 0, 2, 0]));
+    assert_eq!(model.bounds, [1, 1, 0, 2]);
+    // Both infeasible: the passes are the real ones. With x = 0 rows 1 and 2 put y and z at 1, which
+    // row 0 finds in the second pass; with x = 1 row 3 is infeasible in the first.
+    let rows: &[(&[i32], i32)] =
+        &[(&[0, 1, 1], 1), (&[-1, -1, 0], -1), (&[-1, 0, -1], -1), (&[1, 0, 0], 0)];
+    let mut model = Model::binary(3, rows);
+    assert_eq!(model.probe(0, 9), ok(&[0, 0, 2, 0, 1, 0]));
+    assert!(model.is_empty());
+    assert!(model.table.iter().all(|&byte| byte == 0));
+}
+
+#[test]
+fn a_spent_side_is_used_and_told() {
+    // Side 1 is spent at budget 1: it fixes nothing yet it narrows.
+    let mut model = Model::new(&[(0, 1), (0, 5)], &[(&[5, 2], 10)]);
+    assert_eq!(model.probe(0, 1), ok(&[2, 0, 1, 0, 1, 1]));
+    assert_eq!(model.bounds, [0, 1, 0, 5]);
+    // Both sides spent, and both narrow: the hull does too.
+    let mut model = Model::new(&[(0, 1), (0, 5)], &[(&[1, 2], 5)]);
+    assert_eq!(model.probe(0, 1), ok(&[2, 0, 1, 1, 1, 1]));
+    assert_eq!(model.bounds, [0, 1, 0, 2]);
+}
+
+#[test]
+fn implications_are_of_variables_free_before_the_call() {
+    // D-8 and D-9: y is fixed at 0 by both sides; both implications are recorded, z (0..2) none.
+    let rows: &[(&[i32], i32)] = &[(&[0, 1, 0], 0), (&[0, 0, 1], 0)];
+    let mut model = Model::new(&[(0, 1), (0, 1), (0, 2)], rows);
+    assert_eq!(model.probe(0, 9), ok(&[2, 4, 2, 0, 2, 0]));
+    let at: Vec<usize> = (0..36).filter(|&at| model.table[at] == 1).collect();
+    assert_eq!(at, [2, 6 + 2, 3 * 6, 3 * 6 + 1]);
+    assert_eq!(model.bounds, [0, 1, 0, 0, 0, 0]);
+    // The same again counts nothing: y is no longer free.
+    assert_eq!(model.probe(0, 9), ok(&[2, 0, 1, 0, 1, 0]));
+    // A byte that is 1 already does not count.
+    let mut model = Model::new(&[(0, 1), (0, 1), (0, 2)], rows);
+    model.table[2] = 1;
+    assert_eq!(model.probe(0, 9), ok(&[2, 3, 2, 0, 2, 0]));
+}
+
+#[test]
+fn tightening_at_the_limits() {
+    // D-10: refused where the variable is not free, also with a zero coefficient.
+    let mut model = Model::new(&[(0, 1), (0, 0)], &[(&[1, 0], 0)]);
+    assert_eq!(model.tighten(0, 1), Err(14));
+    assert_eq!(Model::binary(2, &[(&[1, 0], 0)]).tighten(0, 1), ok(&[2]));
+    // With y = −1,000 and z = −1 the row 3x + 1,000,000y + cz has Lmax = 3 − 1,000,000,000 − c, and
+    // the new right side is Lmax − 3: −1,000,000,000 (c = 0) is written, one less (c = 1) is not.
+    let model = |c: i32| {
+        let bounds = [(0, 1), (-1_000, -1_000), (-1, -1)];
+        Model::new(&bounds, &[(&[3, 1_000_000, c], -999_999_999)])
+    };
+    let mut exact = model(0);
+    assert_eq!(exact.tighten(0, 0), ok(&[1]));
+    assert_eq!(exact.row(0), (&[2, 1_000_000, 0][..], -1_000_000_000));
+    let mut below = model(1);
+    assert_eq!(below.tighten(0, 0), ok(&[2]));
+    assert_eq!(below.row(0), (&[3, 1_000_000, 1][..], -999_999_999));
+}
+
+#[test]
+fn removing_all_zero_rows() {
+    // D-11
+    let mut model = Model::binary(1, &[(&[0], 3)]);
+    assert_eq!(model.remove(0), ok(&[1]));
+    assert_eq!(model.row(0), (&[0][..], 0));
+    assert_eq!(model.remove(0), ok(&[2]));
+    let mut model = Model::binary(1, &[(&[0], -3)]);
+    assert_eq!(model.remove(0), ok(&[2]));
+    assert_eq!(model.row(0), (&[0][..], -3));
+}
+
+#[test]
+fn a_call_list_counts_each_call_once() {
+    // D-12: refused by 11 to 15, None, changed, unchanged; fields that a kind lacks hold anything.
+    let mut model = Model::new(&[(0, 1), (0, 5)], &[(&[0, 2], 5), (&[1, 0], 0)]);
+    let any = u32::MAX;
+    #[rustfmt::skip]
+    let calls = [
+        0, 0, 0, 1,         // 11
+        6, 0, 0, 1,         // 11
+        1, 2, any, any,     // 12
+        3, any, 2, 1,       // 13
+        4, 0, 1, any,       // 14
+        2, any, any, 0,     // 15
+        1, 0, any, any,     // y to 0..2
+        1, 0, any, any,     // nothing more
+        5, 0, any, any,     // 2y ≤ 5 is redundant now
+        3, any, 0, 2,       // x fixed at 0
+        2, any, any, MAX_BUDGET, // nothing
+    ];
+    assert_eq!(model.run(&calls), ok(&[6, 0, 3, 2]));
+    assert_eq!(model.bounds, [0, 0, 0, 2]);
+    assert_eq!(model.coefs, [0, 0, 1, 0]);
+    assert_eq!(model.run(&[]), ok(&[]));
+    assert_eq!(model.run(&calls[..43]), Err(5));
+    // None counts as None only, also where it empties the box, and the run goes on.
+    model.rhs[1] = -1;
+    assert_eq!(model.run(&[1, 1, 0, 0, 2, 0, 0, 1, 4, 1, 0, 0, 9, 9, 9, 9]), ok(&[1, 3]));
+    assert!(model.is_empty());
+}
+
+#[test]
+fn rounds_and_their_limit() {
+    let model = Model::binary(2, &[(&[3, 2], 4)]);
+    assert_eq!(model.clone().rounds(8), ok(&[1, 2]));
+    assert_eq!(model.clone().rounds(2), ok(&[1, 2]));
+    assert_eq!(model.clone().rounds(1), ok(&[2, 1]));
+    assert_eq!(model.clone().rounds(0), ok(&[2, 0]));
+    assert_eq!(model.clone().rounds(u32::MAX), ok(&[1, 2]));
+    let mut none = Model::binary(1, &[(&[1], -1)]);
+    assert_eq!(none.rounds(1), ok(&[0, 1]));
+    assert_eq!(none.rounds(0), ok(&[2, 0]));
+    assert_eq!(none.rounds(1), ok(&[0, 1]));
+    // A table that is lent with bytes in it is kept and extended; a byte above 1 is refused.
+    let mut model = Model::binary(2, &[(&[3, 2], 4)]);
+    model.table[0] = 1;
+    assert_eq!(model.rounds(8), ok(&[1, 2]));
+    assert_eq!(model.table.iter().map(|&byte| u32::from(byte)).sum::<u32>(), 3);
+    model.table[0] = 2;
+    assert_eq!(model.rounds(0), Err(10));
+}
+
+#[test]
+fn reduce_prints_none_and_refusals() {
+    use reference::report::reduce;
+    assert_eq!(reduce(&[]), "refused 1\n");
+    assert_eq!(reduce(&[0; 16]), "refused 2\n");
+    assert_eq!(reduce(&Model::binary(1, &[(&[1], -1)]).book()), "none\n");
+    assert_eq!(reduce(&empty_box().book()), "none\n");
+    assert_eq!(reduce(&Model::new(&[(-2, 7)], &[(&[0], 5)]).book()), "reduced 1 1 2\nv 0 -2 7\n");
+}

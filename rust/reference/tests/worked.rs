@@ -1,0 +1,148 @@
+//! 01's worked books, line by line, and 000's clique example.
+
+mod common;
+use common::{Model, ok};
+
+/// Case numbers of the answers: 01's None, a change (Narrowed, Sharpened, Dropped), and Same.
+const NONE: u64 = 0;
+const CHANGED: u64 = 1;
+const SAME: u64 = 2;
+const SETTLED: u64 = 1;
+const SPENT: u64 = 2;
+
+#[test]
+fn two_x_at_most_five() {
+    let mut model = Model::new(&[(0, 5)], &[(&[2], 5)]);
+    assert_eq!(model.propagate_row(0), ok(&[CHANGED]));
+    assert_eq!(model.bounds, [0, 2]);
+    assert_eq!(model.propagate_row(0), ok(&[SAME]));
+}
+
+#[test]
+fn a_negative_coefficient_raises_the_lower_bound() {
+    let mut model = Model::new(&[(0, 5)], &[(&[-2], -3)]);
+    assert_eq!(model.propagate_row(0), ok(&[CHANGED]));
+    assert_eq!(model.bounds, [2, 5]);
+}
+
+#[test]
+fn floor_goes_towards_minus_infinity() {
+    let mut model = Model::new(&[(-5, 5)], &[(&[2], -3)]);
+    assert_eq!(model.propagate_row(0), ok(&[CHANGED]));
+    assert_eq!(model.bounds, [-5, -2]);
+}
+
+#[test]
+fn all_zero_rows() {
+    let mut infeasible = Model::binary(2, &[(&[0, 0], -1)]);
+    assert_eq!(infeasible.propagate_row(0), ok(&[NONE]));
+    assert!(infeasible.is_empty());
+    let mut trivial = Model::binary(2, &[(&[0, 0], 0)]);
+    assert_eq!(trivial.propagate_row(0), ok(&[SAME]));
+}
+
+#[test]
+fn both_must_be_one() {
+    let mut model = Model::binary(2, &[(&[-1, -1], -2)]);
+    assert_eq!(model.propagate_row(0), ok(&[CHANGED]));
+    assert_eq!(model.bounds, [1, 1, 1, 1]);
+    let mut model = Model::binary(2, &[(&[-1, -1], -3)]);
+    assert_eq!(model.propagate_row(0), ok(&[NONE]));
+    assert!(model.is_empty());
+}
+
+#[test]
+fn tightening_with_a_positive_coefficient() {
+    let mut model = Model::binary(2, &[(&[3, 2], 4)]);
+    assert_eq!(model.tighten(0, 0), ok(&[CHANGED]));
+    assert_eq!(model.row(0), (&[1, 2][..], 2));
+}
+
+#[test]
+fn tightening_with_a_negative_coefficient_leaves_the_right_side() {
+    // x is variable 0, y is variable 1: 2y − 5x ≤ 1.
+    let mut model = Model::binary(2, &[(&[-5, 2], 1)]);
+    assert_eq!(model.tighten(0, 0), ok(&[CHANGED]));
+    assert_eq!(model.row(0), (&[-1, 2][..], 1));
+}
+
+#[test]
+fn a_redundant_row_is_removed_and_not_tightened() {
+    let mut model = Model::binary(2, &[(&[3, 2], 5)]);
+    assert_eq!(model.tighten(0, 0), ok(&[SAME]));
+    assert_eq!(model.tighten(0, 1), ok(&[SAME]));
+    assert_eq!(model.remove(0), ok(&[CHANGED]));
+    assert_eq!(model.row(0), (&[0, 0][..], 0));
+    let mut model = Model::binary(2, &[(&[1, 1], 1)]);
+    assert_eq!(model.tighten(0, 0), ok(&[SAME]));
+    assert_eq!(model.remove(0), ok(&[SAME]));
+}
+
+#[test]
+fn passes_and_budget() {
+    let model = Model::new(&[(0, 5)], &[(&[2], 5)]);
+    assert_eq!(model.clone().propagate(1), ok(&[SPENT, 1]));
+    assert_eq!(model.clone().propagate(2), ok(&[SETTLED, 2]));
+}
+
+#[test]
+fn a_propagation_fixpoint_need_not_be_at_rest() {
+    let mut model = Model::binary(2, &[(&[1, -1], 0), (&[1, 1], 1)]);
+    assert_eq!(model.propagate_row(0), ok(&[SAME]));
+    assert_eq!(model.propagate_row(1), ok(&[SAME]));
+    assert_eq!(model.at_rest(), ok(&[0]));
+    // Side 0 moves nothing. Side 1: row 0 puts y at 1, row 1 finds 2 > 1 in the same pass.
+    assert_eq!(model.probe(0, 1_000), ok(&[1, 0, 1, 0, 1, 0]));
+    assert_eq!(model.bounds, [0, 0, 0, 1]);
+    assert_eq!(model.at_rest(), ok(&[1]));
+}
+
+#[test]
+fn two_orders_end_alike_once_at_rest() {
+    let model = Model::new(&[(0, 5), (0, 5)], &[(&[2, 0], 5), (&[-1, 1], 0)]);
+    let visits = |rows: &[u32]| {
+        let mut model = model.clone();
+        for &row in rows {
+            model.propagate_row(row).unwrap();
+        }
+        (model.at_rest().unwrap()[0] == 1, model.bounds)
+    };
+    assert_eq!(visits(&[0, 1]), (true, vec![0, 2, 0, 2]));
+    assert_eq!(visits(&[1, 0, 1]), (true, vec![0, 2, 0, 2]));
+    assert_eq!(visits(&[1, 0]), (false, vec![0, 2, 0, 5]));
+}
+
+#[test]
+fn the_clique_example_gives_eight_table_bytes() {
+    let mut model = Model::binary(
+        4,
+        &[(&[4, 1, 0, -3], 2), (&[2, 3, 0, 3], 7), (&[1, 4, 2, 0], 5), (&[3, 1, 5, 0], 6)],
+    );
+    let new: u64 = (0..4)
+        .map(|k| {
+            let answer = model.probe(k, 1_000).unwrap();
+            assert_eq!(answer[0], 2);
+            answer[1]
+        })
+        .sum();
+    assert_eq!(new, 8);
+    assert_eq!(model.table.iter().filter(|&&byte| byte == 1).count(), 8);
+    let implies = |k: usize, v: usize, j: usize, w: usize| {
+        model.table[reference::probing::literal(k, v) * 8 + reference::probing::literal(j, w)] == 1
+    };
+    // 000's list, its variables counted from 1: x1 = 1 gives x4 = 1, x2 = 0, x3 = 0; and so on.
+    assert!(implies(0, 1, 3, 1) && implies(0, 1, 1, 0) && implies(0, 1, 2, 0));
+    assert!(implies(1, 1, 2, 0) && implies(1, 1, 0, 0));
+    assert!(implies(2, 1, 1, 0) && implies(2, 1, 0, 0));
+    assert!(implies(3, 0, 0, 0));
+}
+
+#[test]
+fn the_book_of_44_bytes() {
+    let model = Model::binary(2, &[(&[3, 2], 4)]);
+    let book = model.book();
+    assert_eq!(book.len(), 44);
+    assert_eq!(book[28..], [0, 0, 0, 0, 16, 0, 0, 0, 2, 0, 1, 0, 44, 0, 0, 0]);
+    let expected = "reduced 2 1 2\nv 0 0 1\nv 1 0 1\nr 0 1 1 1\ni 0 1 1 0\ni 1 1 0 0\n";
+    assert_eq!(reference::report::reduce(&book), expected);
+}

@@ -1,0 +1,134 @@
+//! What the calls answer, taken from the six places of the C interface.
+
+/// The six places.
+pub(crate) type Places = [u64; 6];
+
+/// What a call on one row did.
+#[derive(Clone, Copy, Debug, PartialEq, Eq, Hash)]
+pub enum Outcome {
+    /// The model has no integer point; the box is empty (document 01's None).
+    Infeasible,
+    /// A number changed (01's Narrowed, Sharpened or Dropped).
+    Changed,
+    /// Nothing changed (01's Same).
+    Unchanged,
+}
+
+/// How a propagation ended (01's settle).
+#[derive(Clone, Copy, Debug, PartialEq, Eq, Hash)]
+pub enum Propagation {
+    /// The model has no integer point; the box is empty (01's None).
+    Infeasible { passes: u32 },
+    /// The last pass moved nothing (01's Settled).
+    Converged { passes: u32 },
+    /// The budget's passes are made and the last one moved a bound (01's Spent).
+    BudgetSpent { passes: u32 },
+}
+
+/// What a probe tells of one side.
+#[derive(Clone, Copy, Debug, PartialEq, Eq, Hash)]
+pub struct Side {
+    /// The passes that its propagation made.
+    pub passes: u32,
+    /// Whether its budget was spent; its box was used as it was reached.
+    pub spent: bool,
+}
+
+/// What a probe found.
+#[derive(Clone, Copy, Debug, PartialEq, Eq, Hash)]
+pub enum Probe {
+    /// Neither side is feasible: the box is empty (01's None).
+    Infeasible { sides: [Side; 2] },
+    /// Only the side of this value is feasible, and its box is the new one (01's Fixed).
+    Fixed { value: u8, sides: [Side; 2] },
+    /// Both are: the new box is their hull, and this many table bytes went from 0 to 1 (01's Both).
+    BothFeasible { new_implications: u64, sides: [Side; 2] },
+}
+
+/// How many calls of a list ended in which way. The four add up to the list's length.
+#[derive(Clone, Copy, Debug, Default, PartialEq, Eq, Hash)]
+pub struct Counts {
+    /// Refused; they changed nothing.
+    pub refused: u64,
+    /// Answered infeasible (01's None).
+    pub infeasible: u64,
+    /// Changed a bound, a row or a table byte.
+    pub changed: u64,
+    /// Changed nothing.
+    pub unchanged: u64,
+}
+
+/// How the rounds ended.
+#[derive(Clone, Copy, Debug, PartialEq, Eq, Hash)]
+pub enum Rounds {
+    /// The model has no integer point; found in the last of these rounds (01's None).
+    Infeasible { rounds: u32 },
+    /// The last of these rounds changed nothing.
+    Unchanged { rounds: u32 },
+    /// The limit's rounds are made, and the last one changed something; or the limit is 0.
+    LimitReached { rounds: u32 },
+}
+
+/// The library's contract has no other case.
+fn no_such_case(case: u64) -> ! {
+    unreachable!("the library answered case {case}, which its contract rules out")
+}
+
+/// Passes and rounds are at most a budget or a limit, which are `u32`.
+fn count(value: u64) -> u32 {
+    u32::try_from(value).expect("a count is at most the limit given")
+}
+
+impl From<Places> for Outcome {
+    fn from(places: Places) -> Self {
+        match places[0] {
+            0 => Outcome::Infeasible,
+            1 => Outcome::Changed,
+            2 => Outcome::Unchanged,
+            case => no_such_case(case),
+        }
+    }
+}
+
+impl From<Places> for Propagation {
+    fn from(places: Places) -> Self {
+        let passes = count(places[1]);
+        match places[0] {
+            0 => Propagation::Infeasible { passes },
+            1 => Propagation::Converged { passes },
+            2 => Propagation::BudgetSpent { passes },
+            case => no_such_case(case),
+        }
+    }
+}
+
+impl From<Places> for Probe {
+    fn from([case, value, passes0, spent0, passes1, spent1]: Places) -> Self {
+        let side = |passes, spent| Side { passes: count(passes), spent: spent == 1 };
+        let sides = [side(passes0, spent0), side(passes1, spent1)];
+        match case {
+            0 => Probe::Infeasible { sides },
+            1 => Probe::Fixed { value: u8::from(value == 1), sides },
+            2 => Probe::BothFeasible { new_implications: value, sides },
+            case => no_such_case(case),
+        }
+    }
+}
+
+impl From<Places> for Counts {
+    fn from([refused, infeasible, changed, unchanged, ..]: Places) -> Self {
+        Counts { refused, infeasible, changed, unchanged }
+    }
+}
+
+impl From<Places> for Rounds {
+    fn from(places: Places) -> Self {
+        let rounds = count(places[1]);
+        match places[0] {
+            0 => Rounds::Infeasible { rounds },
+            1 => Rounds::Unchanged { rounds },
+            2 => Rounds::LimitReached { rounds },
+            case => no_such_case(case),
+        }
+    }
+}

@@ -1,0 +1,177 @@
+//! The C interface as it is: `include/astrolabe.h` in Rust.
+//!
+//! Every slice is a pointer and a count, never a Rust slice. Each function returns 0 or the number of
+//! the failed check, and checks everything that it is lent; what it cannot check is for the caller.
+//!
+//! # Safety
+//!
+//! Of every function here: a pointer points to as many elements as its count says, properly aligned,
+//! initialised, and not written by others meanwhile; no two buffers overlap. With a count of 0 a
+//! pointer may be null.
+
+unsafe extern "C" {
+    /// Answer: case (0 infeasible, 1 tightened, 2 unchanged).
+    pub fn astrolabe_propagate_row(
+        n: usize,
+        m: usize,
+        bounds: *mut i32,
+        bounds_len: usize,
+        coefs: *const i32,
+        coefs_len: usize,
+        rhs: *const i32,
+        rhs_len: usize,
+        row: u32,
+        answer: *mut u64,
+        answer_len: usize,
+    ) -> u32;
+
+    /// Answer: case (0 infeasible, 1 converged, 2 budget spent), passes.
+    pub fn astrolabe_propagate(
+        n: usize,
+        m: usize,
+        bounds: *mut i32,
+        bounds_len: usize,
+        coefs: *const i32,
+        coefs_len: usize,
+        rhs: *const i32,
+        rhs_len: usize,
+        budget: u32,
+        answer: *mut u64,
+        answer_len: usize,
+    ) -> u32;
+
+    /// Answer: case (0 infeasible, 1 fixed, 2 both feasible), value or new table bytes, passes and
+    /// spent of side 0, passes and spent of side 1.
+    pub fn astrolabe_probe(
+        n: usize,
+        m: usize,
+        bounds: *mut i32,
+        bounds_len: usize,
+        coefs: *const i32,
+        coefs_len: usize,
+        rhs: *const i32,
+        rhs_len: usize,
+        table: *mut u8,
+        table_len: usize,
+        variable: u32,
+        budget: u32,
+        answer: *mut u64,
+        answer_len: usize,
+    ) -> u32;
+
+    /// Answer: case (0 infeasible, 1 tightened, 2 unchanged).
+    pub fn astrolabe_tighten_coefficient(
+        n: usize,
+        m: usize,
+        bounds: *const i32,
+        bounds_len: usize,
+        coefs: *mut i32,
+        coefs_len: usize,
+        rhs: *mut i32,
+        rhs_len: usize,
+        row: u32,
+        variable: u32,
+        answer: *mut u64,
+        answer_len: usize,
+    ) -> u32;
+
+    /// Answer: case (0 infeasible, 1 removed, 2 unchanged).
+    pub fn astrolabe_remove_redundant_row(
+        n: usize,
+        m: usize,
+        bounds: *const i32,
+        bounds_len: usize,
+        coefs: *mut i32,
+        coefs_len: usize,
+        rhs: *mut i32,
+        rhs_len: usize,
+        row: u32,
+        answer: *mut u64,
+        answer_len: usize,
+    ) -> u32;
+
+    /// Answer: 0 no, 1 yes.
+    pub fn astrolabe_is_probing_fixpoint(
+        n: usize,
+        m: usize,
+        bounds: *const i32,
+        bounds_len: usize,
+        coefs: *const i32,
+        coefs_len: usize,
+        rhs: *const i32,
+        rhs_len: usize,
+        answer: *mut u64,
+        answer_len: usize,
+    ) -> u32;
+
+    /// Answer: calls refused, infeasible, changed, unchanged. `calls_len` counts numbers, four a record.
+    pub fn astrolabe_run(
+        n: usize,
+        m: usize,
+        bounds: *mut i32,
+        bounds_len: usize,
+        coefs: *mut i32,
+        coefs_len: usize,
+        rhs: *mut i32,
+        rhs_len: usize,
+        table: *mut u8,
+        table_len: usize,
+        calls: *const u32,
+        calls_len: usize,
+        answer: *mut u64,
+        answer_len: usize,
+    ) -> u32;
+
+    /// Answer: case (0 infeasible, 1 nothing changed, 2 limit reached), rounds.
+    pub fn astrolabe_rounds(
+        n: usize,
+        m: usize,
+        bounds: *mut i32,
+        bounds_len: usize,
+        coefs: *mut i32,
+        coefs_len: usize,
+        rhs: *mut i32,
+        rhs_len: usize,
+        table: *mut u8,
+        table_len: usize,
+        limit: u32,
+        answer: *mut u64,
+        answer_len: usize,
+    ) -> u32;
+
+    /// Answer: n, m.
+    pub fn astrolabe_book_trailer(
+        bytes: *const u8,
+        bytes_len: usize,
+        answer: *mut u64,
+        answer_len: usize,
+    ) -> u32;
+
+    /// Answer: n, m.
+    pub fn astrolabe_book_read(
+        book: *const u8,
+        book_len: usize,
+        bounds: *mut i32,
+        bounds_len: usize,
+        coefs: *mut i32,
+        coefs_len: usize,
+        rhs: *mut i32,
+        rhs_len: usize,
+        answer: *mut u64,
+        answer_len: usize,
+    ) -> u32;
+
+    /// No answer: the number says all.
+    pub fn astrolabe_book_write(
+        n: usize,
+        m: usize,
+        bounds: *const i32,
+        bounds_len: usize,
+        coefs: *const i32,
+        coefs_len: usize,
+        rhs: *const i32,
+        rhs_len: usize,
+        book: *mut u8,
+        book_len: usize,
+    ) -> u32;
+}

@@ -1,0 +1,504 @@
+//! The model, in owned buffers, with a method for each call.
+
+use crate::answer::{Counts, Outcome, Places, Probe, Propagation, Rounds};
+use crate::ffi;
+use crate::refusal::Refusal;
+
+/// The trailer's length in bytes.
+const TRAILER: usize = 16;
+
+/// A model and its implication table.
+///
+/// The library checks all numbers at every call, so the bounds may be changed freely between calls; a
+/// number out of range is refused then. The lengths are right by construction.
+#[derive(Clone, Debug, PartialEq, Eq, Hash)]
+pub struct Model {
+    n: usize,
+    m: usize,
+    bounds: Vec<i32>,
+    coefs: Vec<i32>,
+    rhs: Vec<i32>,
+    table: Vec<u8>,
+}
+
+/// One call of a list, for [`Model::run`]. A field that its kind lacks may hold anything.
+#[derive(Clone, Copy, Debug, PartialEq, Eq, Hash)]
+#[repr(C)] // four numbers of 32 bits in this order: the library reads a list of them as one of numbers
+pub struct Call {
+    /// 1 to 5, as in the constructors; any other is refused.
+    pub kind: u32,
+    pub row: u32,
+    pub variable: u32,
+    pub budget: u32,
+}
+
+impl Call {
+    const NOTHING: Call = Call { kind: 0, row: 0, variable: 0, budget: 0 };
+
+    /// Kind 1, [`Model::propagate_row`] (01's visit).
+    pub const fn propagate_row(row: u32) -> Self {
+        Call { kind: 1, row, ..Call::NOTHING }
+    }
+
+    /// Kind 2, [`Model::propagate`] (01's settle).
+    pub const fn propagate(budget: u32) -> Self {
+        Call { kind: 2, budget, ..Call::NOTHING }
+    }
+
+    /// Kind 3, [`Model::probe`].
+    pub const fn probe(variable: u32, budget: u32) -> Self {
+        Call { kind: 3, variable, budget, ..Call::NOTHING }
+    }
+
+    /// Kind 4, [`Model::tighten_coefficient`] (01's sharpen).
+    pub const fn tighten_coefficient(row: u32, variable: u32) -> Self {
+        Call { kind: 4, row, variable, ..Call::NOTHING }
+    }
+
+    /// Kind 5, [`Model::remove_redundant_row`] (01's drop).
+    pub const fn remove_redundant_row(row: u32) -> Self {
+        Call { kind: 5, row, ..Call::NOTHING }
+    }
+}
+
+/// Makes a call with a full answer.
+fn answered<T: From<Places>>(call: impl FnOnce(*mut u64, usize) -> u32) -> Result<T, Refusal> {
+    let mut answer: Places = [0; 6];
+    let returned = call(answer.as_mut_ptr(), answer.len());
+    Refusal::from_returned(returned)?;
+    Ok(T::from(answer))
+}
+
+/// n and m of a book, from the 16 bytes of its trailer: what a reader of files needs first.
+///
+/// ```
+/// let book = astrolabe::Model::new(vec![0, 1, 0, 1], vec![3, 2], vec![4])?.to_book()?;
+/// assert_eq!(astrolabe::book_size(&book[book.len() - 16..]), Ok((2, 1)));
+/// assert_eq!(astrolabe::book_size(&book[..15]), Err(astrolabe::Refusal::BookTooShort));
+/// # Ok::<(), astrolabe::Refusal>(())
+/// ```
+pub fn book_size(trailer: &[u8]) -> Result<(usize, usize), Refusal> {
+    let [n, m, ..]: Places = answered(|answer, answer_len| {
+        // SAFETY: the pointers and counts are those of a slice and an array.
+        unsafe { ffi::astrolabe_book_trailer(trailer.as_ptr(), trailer.len(), answer, answer_len) }
+    })?;
+    // At most 128 and 120 by the library's contract.
+    Ok((n as usize, m as usize))
+}
+
+impl Model {
+    /// A model from its flat buffers: `l0 u0 l1 u1 …` for n variables, the coefficients row after row,
+    /// and m right-hand sides. The implication table starts with all 0.
+    ///
+    /// ```
+    /// use astrolabe::{Model, Refusal};
+    ///
+    /// let model = Model::new(vec![0, 1, 0, 1], vec![3, 2], vec![4])?;
+    /// assert_eq!((model.n(), model.m()), (2, 1));
+    /// assert_eq!(Model::new(vec![0, 1, 0, 1], vec![3], vec![4]), Err(Refusal::BufferLength));
+    /// # Ok::<(), Refusal>(())
+    /// ```
+    pub fn new(bounds: Vec<i32>, coefs: Vec<i32>, rhs: Vec<i32>) -> Result<Self, Refusal> {
+        let (n, m) = (bounds.len() / 2, rhs.len());
+        let mut model = Model { n, m, bounds, coefs, rhs, table: vec![] };
+        // Row u32::MAX does not exist, and check 12 is the last of this call: it is the answer exactly
+        // where the model passes all its own checks.
+        match model.propagate_row(u32::MAX) {
+            Err(Refusal::NoSuchRow) => {
+                model.table = vec![0; 4 * n * n];
+                Ok(model)
+            }
+            Err(refusal) => Err(refusal),
+            Ok(_) => unreachable!("no model has row u32::MAX"),
+        }
+    }
+
+    /// Reads a book. The implication table starts with all 0: a book does not hold it.
+    ///
+    /// ```
+    /// use astrolabe::{Model, Refusal};
+    ///
+    /// let model = Model::new(vec![0, 1, 0, 1], vec![3, 2], vec![4])?;
+    /// let book = model.to_book()?;
+    /// assert_eq!(book.len(), 44);
+    /// assert_eq!(Model::from_book(&book)?, model);
+    /// assert_eq!(Model::from_book(&book[1..]), Err(Refusal::BookLengthMismatch));
+    /// # Ok::<(), Refusal>(())
+    /// ```
+    pub fn from_book(book: &[u8]) -> Result<Self, Refusal> {
+        // Where the trailer is bad, reading into empty buffers says by which check of the book's own
+        // order: 1 to 4 come before the lengths.
+        let trailer = &book[book.len().saturating_sub(TRAILER)..];
+        let (n, m) = book_size(trailer).unwrap_or((0, 0));
+        let (mut bounds, mut coefs, mut rhs) = (vec![0; 2 * n], vec![0; m * n], vec![0; m]);
+        let _: Places = answered(|answer, answer_len| {
+            // SAFETY: the pointers and counts are those of slices, no two of which overlap.
+            unsafe {
+                ffi::astrolabe_book_read(
+                    book.as_ptr(),
+                    book.len(),
+                    bounds.as_mut_ptr(),
+                    bounds.len(),
+                    coefs.as_mut_ptr(),
+                    coefs.len(),
+                    rhs.as_mut_ptr(),
+                    rhs.len(),
+                    answer,
+                    answer_len,
+                )
+            }
+        })?;
+        Ok(Model { n, m, bounds, coefs, rhs, table: vec![0; 4 * n * n] })
+    }
+
+    /// Writes the model into a book. Reading it gives back the model, but for the table.
+    pub fn to_book(&self) -> Result<Vec<u8>, Refusal> {
+        let (n, m) = (self.n, self.m);
+        let mut book = vec![0; 8 * n + m * (4 + 4 * n) + TRAILER];
+        // SAFETY: the pointers and counts are those of slices, no two of which overlap.
+        let returned = unsafe {
+            ffi::astrolabe_book_write(
+                n,
+                m,
+                self.bounds.as_ptr(),
+                self.bounds.len(),
+                self.coefs.as_ptr(),
+                self.coefs.len(),
+                self.rhs.as_ptr(),
+                self.rhs.len(),
+                book.as_mut_ptr(),
+                book.len(),
+            )
+        };
+        Refusal::from_returned(returned)?;
+        Ok(book)
+    }
+
+    /// The number of variables.
+    pub fn n(&self) -> usize {
+        self.n
+    }
+
+    /// The number of rows. A removed row keeps its place.
+    pub fn m(&self) -> usize {
+        self.m
+    }
+
+    /// The bounds: `l0 u0 l1 u1 …`.
+    pub fn bounds(&self) -> &[i32] {
+        &self.bounds
+    }
+
+    /// The bounds, to be changed: at a branch, or back to those of the node above.
+    pub fn bounds_mut(&mut self) -> &mut [i32] {
+        &mut self.bounds
+    }
+
+    /// Sets the bounds of one variable. Panics where there is no such variable.
+    pub fn set_bounds(&mut self, variable: usize, lower: i32, upper: i32) {
+        self.bounds[2 * variable..][..2].copy_from_slice(&[lower, upper]);
+    }
+
+    /// The coefficients, row after row.
+    pub fn coefs(&self) -> &[i32] {
+        &self.coefs
+    }
+
+    /// The right-hand sides.
+    pub fn rhs(&self) -> &[i32] {
+        &self.rhs
+    }
+
+    /// The coefficients and the right-hand side of each row.
+    pub fn rows(&self) -> impl Iterator<Item = (&[i32], i32)> {
+        self.coefs.chunks_exact(self.n).zip(self.rhs.iter().copied())
+    }
+
+    /// The implication table: byte `p · 2n + q` is 1 when literal p implies literal q.
+    pub fn table(&self) -> &[u8] {
+        &self.table
+    }
+
+    /// Whether "variable k is v" is recorded to imply "variable j is w". Panics where there is no such
+    /// variable.
+    pub fn implies(&self, k: usize, v: bool, j: usize, w: bool) -> bool {
+        let literal = |k: usize, v: bool| 2 * k + usize::from(v);
+        self.table[literal(k, v) * 2 * self.n..][..2 * self.n][literal(j, w)] == 1
+    }
+
+    /// Whether the box is the empty one (01's void box): every lower bound 1, every upper bound 0.
+    pub fn is_empty_box(&self) -> bool {
+        self.bounds.chunks_exact(2).all(|pair| pair == [1, 0])
+    }
+
+    /// Propagates one row over the box once (01's visit).
+    ///
+    /// ```
+    /// use astrolabe::{Model, Outcome};
+    ///
+    /// let mut model = Model::new(vec![-5, 5], vec![2], vec![-3])?; // 2x ≤ −3
+    /// assert_eq!(model.propagate_row(0)?, Outcome::Changed);
+    /// assert_eq!(model.bounds(), [-5, -2]);
+    /// assert_eq!(model.propagate_row(0)?, Outcome::Unchanged);
+    /// # Ok::<(), astrolabe::Refusal>(())
+    /// ```
+    pub fn propagate_row(&mut self, row: u32) -> Result<Outcome, Refusal> {
+        answered(|answer, answer_len| {
+            // SAFETY: the pointers and counts are those of slices, no two of which overlap.
+            unsafe {
+                ffi::astrolabe_propagate_row(
+                    self.n,
+                    self.m,
+                    self.bounds.as_mut_ptr(),
+                    self.bounds.len(),
+                    self.coefs.as_ptr(),
+                    self.coefs.len(),
+                    self.rhs.as_ptr(),
+                    self.rhs.len(),
+                    row,
+                    answer,
+                    answer_len,
+                )
+            }
+        })
+    }
+
+    /// Propagates all rows, pass after pass, until nothing moves or the budget is spent (01's settle).
+    ///
+    /// ```
+    /// use astrolabe::{Model, Propagation};
+    ///
+    /// let mut model = Model::new(vec![0, 1, 0, 1], vec![-1, -1], vec![-3])?; // x + y ≥ 3
+    /// assert_eq!(model.propagate(1_000)?, Propagation::Infeasible { passes: 1 });
+    /// assert!(model.is_empty_box());
+    /// # Ok::<(), astrolabe::Refusal>(())
+    /// ```
+    pub fn propagate(&mut self, budget: u32) -> Result<Propagation, Refusal> {
+        answered(|answer, answer_len| {
+            // SAFETY: the pointers and counts are those of slices, no two of which overlap.
+            unsafe {
+                ffi::astrolabe_propagate(
+                    self.n,
+                    self.m,
+                    self.bounds.as_mut_ptr(),
+                    self.bounds.len(),
+                    self.coefs.as_ptr(),
+                    self.coefs.len(),
+                    self.rhs.as_ptr(),
+                    self.rhs.len(),
+                    budget,
+                    answer,
+                    answer_len,
+                )
+            }
+        })
+    }
+
+    /// Probes a free binary variable: sets it to 0 and to 1, propagates each side, keeps what both have
+    /// in common and records what each implies.
+    ///
+    /// ```
+    /// use astrolabe::{Model, Probe};
+    ///
+    /// // x ≤ y and x + y ≤ 1: x cannot be 1.
+    /// let mut model = Model::new(vec![0, 1, 0, 1], vec![1, -1, 1, 1], vec![0, 1])?;
+    /// assert!(matches!(model.probe(0, 1_000)?, Probe::Fixed { value: 0, .. }));
+    /// assert_eq!(model.bounds(), [0, 0, 0, 1]);
+    ///
+    /// // x + y ≤ 1: x = 1 implies y = 0, and y = 1 implies x = 0.
+    /// let mut model = Model::new(vec![0, 1, 0, 1], vec![1, 1], vec![1])?;
+    /// assert!(matches!(model.probe(0, 1_000)?, Probe::BothFeasible { new_implications: 2, .. }));
+    /// assert!(model.implies(0, true, 1, false) && model.implies(1, true, 0, false));
+    /// # Ok::<(), astrolabe::Refusal>(())
+    /// ```
+    pub fn probe(&mut self, variable: u32, budget: u32) -> Result<Probe, Refusal> {
+        answered(|answer, answer_len| {
+            // SAFETY: the pointers and counts are those of slices, no two of which overlap.
+            unsafe {
+                ffi::astrolabe_probe(
+                    self.n,
+                    self.m,
+                    self.bounds.as_mut_ptr(),
+                    self.bounds.len(),
+                    self.coefs.as_ptr(),
+                    self.coefs.len(),
+                    self.rhs.as_ptr(),
+                    self.rhs.len(),
+                    self.table.as_mut_ptr(),
+                    self.table.len(),
+                    variable,
+                    budget,
+                    answer,
+                    answer_len,
+                )
+            }
+        })
+    }
+
+    /// Tightens the coefficient of a free binary variable in a row (01's sharpen). The row then holds
+    /// for this box and those inside it only: do not carry it over to another branch.
+    ///
+    /// ```
+    /// use astrolabe::{Model, Outcome};
+    ///
+    /// let mut model = Model::new(vec![0, 1, 0, 1], vec![3, 2], vec![4])?; // 3x + 2y ≤ 4
+    /// assert_eq!(model.tighten_coefficient(0, 0)?, Outcome::Changed);
+    /// assert_eq!((model.coefs(), model.rhs()), (&[1, 2][..], &[2][..])); // x + 2y ≤ 2
+    /// # Ok::<(), astrolabe::Refusal>(())
+    /// ```
+    pub fn tighten_coefficient(&mut self, row: u32, variable: u32) -> Result<Outcome, Refusal> {
+        answered(|answer, answer_len| {
+            // SAFETY: the pointers and counts are those of slices, no two of which overlap.
+            unsafe {
+                ffi::astrolabe_tighten_coefficient(
+                    self.n,
+                    self.m,
+                    self.bounds.as_ptr(),
+                    self.bounds.len(),
+                    self.coefs.as_mut_ptr(),
+                    self.coefs.len(),
+                    self.rhs.as_mut_ptr(),
+                    self.rhs.len(),
+                    row,
+                    variable,
+                    answer,
+                    answer_len,
+                )
+            }
+        })
+    }
+
+    /// Zeroes a row that the box alone implies (01's drop). It is gone for this box and those inside it
+    /// only: do not carry that over to another branch.
+    ///
+    /// ```
+    /// use astrolabe::{Model, Outcome};
+    ///
+    /// let mut model = Model::new(vec![0, 1, 0, 1], vec![3, 2], vec![5])?; // 3x + 2y ≤ 5
+    /// assert_eq!(model.remove_redundant_row(0)?, Outcome::Changed);
+    /// assert_eq!((model.coefs(), model.rhs()), (&[0, 0][..], &[0][..]));
+    /// # Ok::<(), astrolabe::Refusal>(())
+    /// ```
+    pub fn remove_redundant_row(&mut self, row: u32) -> Result<Outcome, Refusal> {
+        answered(|answer, answer_len| {
+            // SAFETY: the pointers and counts are those of slices, no two of which overlap.
+            unsafe {
+                ffi::astrolabe_remove_redundant_row(
+                    self.n,
+                    self.m,
+                    self.bounds.as_ptr(),
+                    self.bounds.len(),
+                    self.coefs.as_mut_ptr(),
+                    self.coefs.len(),
+                    self.rhs.as_mut_ptr(),
+                    self.rhs.len(),
+                    row,
+                    answer,
+                    answer_len,
+                )
+            }
+        })
+    }
+
+    /// Whether the box is a probing fixpoint (01's at rest): it is empty, or no row and no probe carried
+    /// to its end narrows or fixes anything. Two searches that end in a probing fixpoint of the same
+    /// model end in the same box, whatever their orders and budgets.
+    ///
+    /// ```
+    /// // x ≤ y and x + y ≤ 1: no row moves a bound, but probing x would fix it.
+    /// let model = astrolabe::Model::new(vec![0, 1, 0, 1], vec![1, -1, 1, 1], vec![0, 1])?;
+    /// assert!(!model.is_probing_fixpoint()?);
+    /// # Ok::<(), astrolabe::Refusal>(())
+    /// ```
+    pub fn is_probing_fixpoint(&self) -> Result<bool, Refusal> {
+        let places: Places = answered(|answer, answer_len| {
+            // SAFETY: the pointers and counts are those of slices, no two of which overlap.
+            unsafe {
+                ffi::astrolabe_is_probing_fixpoint(
+                    self.n,
+                    self.m,
+                    self.bounds.as_ptr(),
+                    self.bounds.len(),
+                    self.coefs.as_ptr(),
+                    self.coefs.len(),
+                    self.rhs.as_ptr(),
+                    self.rhs.len(),
+                    answer,
+                    answer_len,
+                )
+            }
+        })?;
+        Ok(places[0] == 1)
+    }
+
+    /// Makes the calls of a list one after another (01's run sheet). A refused one changes nothing, and
+    /// the run goes on.
+    ///
+    /// ```
+    /// use astrolabe::{Call, Counts, Model};
+    ///
+    /// let mut model = Model::new(vec![0, 5, 0, 5], vec![2, 0, -1, 1], vec![5, 0])?;
+    /// let calls = [Call::propagate_row(1), Call::propagate_row(0), Call::propagate_row(7)];
+    /// let counts = Counts { refused: 1, infeasible: 0, changed: 1, unchanged: 1 };
+    /// assert_eq!(model.run(&calls)?, counts);
+    /// # Ok::<(), astrolabe::Refusal>(())
+    /// ```
+    pub fn run(&mut self, calls: &[Call]) -> Result<Counts, Refusal> {
+        answered(|answer, answer_len| {
+            // SAFETY: the pointers and counts are those of slices, no two of which overlap; a Call is
+            // four u32 in a row, so n of them are 4n numbers.
+            unsafe {
+                ffi::astrolabe_run(
+                    self.n,
+                    self.m,
+                    self.bounds.as_mut_ptr(),
+                    self.bounds.len(),
+                    self.coefs.as_mut_ptr(),
+                    self.coefs.len(),
+                    self.rhs.as_mut_ptr(),
+                    self.rhs.len(),
+                    self.table.as_mut_ptr(),
+                    self.table.len(),
+                    calls.as_ptr().cast(),
+                    4 * calls.len(),
+                    answer,
+                    answer_len,
+                )
+            }
+        })
+    }
+
+    /// Makes the rounds of the program `reduce`: propagate, remove redundant rows, tighten, probe; until
+    /// a round changes nothing, `limit` rounds are made, or the model is infeasible.
+    ///
+    /// ```
+    /// use astrolabe::{Model, Rounds};
+    ///
+    /// let mut model = Model::new(vec![0, 1, 0, 1], vec![3, 2], vec![4])?; // 3x + 2y ≤ 4
+    /// assert_eq!(model.rounds(8)?, Rounds::Unchanged { rounds: 2 });
+    /// assert_eq!((model.coefs(), model.rhs()), (&[1, 1][..], &[1][..])); // x + y ≤ 1
+    /// # Ok::<(), astrolabe::Refusal>(())
+    /// ```
+    pub fn rounds(&mut self, limit: u32) -> Result<Rounds, Refusal> {
+        answered(|answer, answer_len| {
+            // SAFETY: the pointers and counts are those of slices, no two of which overlap.
+            unsafe {
+                ffi::astrolabe_rounds(
+                    self.n,
+                    self.m,
+                    self.bounds.as_mut_ptr(),
+                    self.bounds.len(),
+                    self.coefs.as_mut_ptr(),
+                    self.coefs.len(),
+                    self.rhs.as_mut_ptr(),
+                    self.rhs.len(),
+                    self.table.as_mut_ptr(),
+                    self.table.len(),
+                    limit,
+                    answer,
+                    answer_len,
+                )
+            }
+        })
+    }
+}

@@ -1,0 +1,68 @@
+//! `include/astrolabe.h` and `src/ffi.rs` declare the same functions: nothing else compares the two.
+
+const HEADER: &str = include_str!("../../include/astrolabe.h");
+const FFI: &str = include_str!("../src/ffi.rs");
+
+/// A function's name, and the name and type of each parameter as Rust writes them.
+type Declaration = (String, Vec<String>);
+
+/// The text before the first `close`.
+fn until<'a>(text: &'a str, close: &str) -> &'a str {
+    &text[..text.find(close).expect("a declaration ends")]
+}
+
+/// `const int32_t *coefs` as `coefs: *const i32`.
+fn parameter_from_c(text: &str) -> String {
+    let name_at = text.rfind([' ', '*']).expect("a parameter has a type") + 1;
+    let (spelled, name) = text.split_at(name_at);
+    let rust = match spelled.trim() {
+        "size_t" => "usize",
+        "uint32_t" => "u32",
+        "int32_t *" => "*mut i32",
+        "const int32_t *" => "*const i32",
+        "const uint32_t *" => "*const u32",
+        "uint8_t *" => "*mut u8",
+        "const uint8_t *" => "*const u8",
+        "uint64_t *" => "*mut u64",
+        other => panic!("{other} is no type of the interface"),
+    };
+    format!("{name}: {rust}")
+}
+
+fn declarations(
+    text: &str,
+    start: &str,
+    close: &str,
+    parameter: impl Fn(&str) -> String,
+) -> Vec<Declaration> {
+    text.split(start)
+        .skip(1)
+        .map(|rest| {
+            let (name, parameters) = until(rest, close).split_once('(').expect("parameters");
+            let parameters = parameters.split(',').map(str::trim).filter(|text| !text.is_empty());
+            (name.to_string(), parameters.map(&parameter).collect())
+        })
+        .collect()
+}
+
+#[test]
+fn the_header_and_the_rust_declarations_agree() {
+    let mut c = declarations(HEADER, "\nuint32_t astrolabe_", ");", parameter_from_c);
+    let mut rust = declarations(FFI, "pub fn astrolabe_", ") -> u32;", str::to_string);
+    c.sort();
+    rust.sort();
+    assert_eq!(c.len(), 11);
+    assert_eq!(c, rust);
+}
+
+#[test]
+fn every_pointer_is_followed_by_its_count() {
+    for (function, parameters) in
+        declarations(FFI, "pub fn astrolabe_", ") -> u32;", str::to_string)
+    {
+        for pair in parameters.windows(2).filter(|pair| pair[0].contains('*')) {
+            let name = until(&pair[0], ":");
+            assert_eq!(pair[1], format!("{name}_len: usize"), "{function}");
+        }
+    }
+}

@@ -1,0 +1,79 @@
+//! The proved library behind the trait that the comparison and the benchmark use.
+
+use std::ptr;
+
+use astrolabe::ffi;
+use compare::lent::{Backend, Loan, Operation};
+
+/// The C interface, called as C does: pointer and count, null where the count is 0.
+pub struct Native;
+
+/// The pointer and the count of a buffer.
+///
+/// Always from a mutable slice, also for a buffer that the call takes as const: if it were written all
+/// the same, the comparison would see it.
+fn raw<T>(buffer: &mut [T]) -> (*mut T, usize) {
+    let pointer = if buffer.is_empty() { ptr::null_mut() } else { buffer.as_mut_ptr() };
+    (pointer, buffer.len())
+}
+
+impl Backend for Native {
+    fn call(&mut self, operation: Operation, loan: Loan) -> u32 {
+        let (n, m) = (loan.n, loan.m);
+        let (bounds, bounds_len) = raw(loan.bounds);
+        let (coefs, coefs_len) = raw(loan.coefs);
+        let (rhs, rhs_len) = raw(loan.rhs);
+        let (table, table_len) = raw(loan.table);
+        let (calls, calls_len) = raw(loan.calls);
+        let (book, book_len) = raw(loan.book);
+        let (answer, answer_len) = raw(loan.answer);
+        // SAFETY: each pointer and count is that of a slice of its own, or null and 0.
+        unsafe {
+            match operation {
+                Operation::PropagateRow { row } => ffi::astrolabe_propagate_row(
+                    n, m, bounds, bounds_len, coefs, coefs_len, rhs, rhs_len, row, answer,
+                    answer_len,
+                ),
+                Operation::Propagate { budget } => ffi::astrolabe_propagate(
+                    n, m, bounds, bounds_len, coefs, coefs_len, rhs, rhs_len, budget, answer,
+                    answer_len,
+                ),
+                Operation::Probe { variable, budget } => ffi::astrolabe_probe(
+                    n, m, bounds, bounds_len, coefs, coefs_len, rhs, rhs_len, table, table_len,
+                    variable, budget, answer, answer_len,
+                ),
+                Operation::TightenCoefficient { row, variable } => {
+                    ffi::astrolabe_tighten_coefficient(
+                        n, m, bounds, bounds_len, coefs, coefs_len, rhs, rhs_len, row, variable,
+                        answer, answer_len,
+                    )
+                }
+                Operation::RemoveRedundantRow { row } => ffi::astrolabe_remove_redundant_row(
+                    n, m, bounds, bounds_len, coefs, coefs_len, rhs, rhs_len, row, answer,
+                    answer_len,
+                ),
+                Operation::IsProbingFixpoint => ffi::astrolabe_is_probing_fixpoint(
+                    n, m, bounds, bounds_len, coefs, coefs_len, rhs, rhs_len, answer, answer_len,
+                ),
+                Operation::Run => ffi::astrolabe_run(
+                    n, m, bounds, bounds_len, coefs, coefs_len, rhs, rhs_len, table, table_len,
+                    calls, calls_len, answer, answer_len,
+                ),
+                Operation::Rounds { limit } => ffi::astrolabe_rounds(
+                    n, m, bounds, bounds_len, coefs, coefs_len, rhs, rhs_len, table, table_len,
+                    limit, answer, answer_len,
+                ),
+                Operation::BookTrailer => {
+                    ffi::astrolabe_book_trailer(book, book_len, answer, answer_len)
+                }
+                Operation::BookRead => ffi::astrolabe_book_read(
+                    book, book_len, bounds, bounds_len, coefs, coefs_len, rhs, rhs_len, answer,
+                    answer_len,
+                ),
+                Operation::BookWrite => ffi::astrolabe_book_write(
+                    n, m, bounds, bounds_len, coefs, coefs_len, rhs, rhs_len, book, book_len,
+                ),
+            }
+        }
+    }
+}

@@ -1,0 +1,174 @@
+//! The safe wrapper: its methods say what the calls say, and its refusals are the checks' numbers.
+
+use astrolabe::{Call, Model, Outcome, Probe, Propagation, Refusal, Rounds, Side};
+use compare::lent::{Backend, Lent, Operation, Reference};
+use compare::models::{self, Family};
+use compare::rng::Rng;
+use compare::suite::SEED;
+
+/// What a method says, as the C interface has it.
+type Said = Result<[u64; 6], u32>;
+
+fn said<T>(result: Result<T, Refusal>, places: impl FnOnce(T) -> [u64; 6]) -> Said {
+    result.map(places).map_err(Refusal::check)
+}
+
+fn outcome(outcome: Outcome) -> [u64; 6] {
+    [outcome as u64, 0, 0, 0, 0, 0]
+}
+
+fn propagation(answer: Propagation) -> [u64; 6] {
+    let (case, passes) = match answer {
+        Propagation::Infeasible { passes } => (0, passes),
+        Propagation::Converged { passes } => (1, passes),
+        Propagation::BudgetSpent { passes } => (2, passes),
+    };
+    [case, passes.into(), 0, 0, 0, 0]
+}
+
+fn probe(answer: Probe) -> [u64; 6] {
+    let (case, value, sides) = match answer {
+        Probe::Infeasible { sides } => (0, 0, sides),
+        Probe::Fixed { value, sides } => (1, value.into(), sides),
+        Probe::BothFeasible { new_implications, sides } => (2, new_implications, sides),
+    };
+    let [(passes0, spent0), (passes1, spent1)] =
+        sides.map(|Side { passes, spent }| (passes.into(), spent.into()));
+    [case, value, passes0, spent0, passes1, spent1]
+}
+
+fn rounds(answer: Rounds) -> [u64; 6] {
+    let (case, rounds) = match answer {
+        Rounds::Infeasible { rounds } => (0, rounds),
+        Rounds::Unchanged { rounds } => (1, rounds),
+        Rounds::LimitReached { rounds } => (2, rounds),
+    };
+    [case, rounds.into(), 0, 0, 0, 0]
+}
+
+fn call(model: &mut Model, operation: Operation, list: &[Call]) -> Said {
+    match operation {
+        Operation::PropagateRow { row } => said(model.propagate_row(row), outcome),
+        Operation::Propagate { budget } => said(model.propagate(budget), propagation),
+        Operation::Probe { variable, budget } => said(model.probe(variable, budget), probe),
+        Operation::TightenCoefficient { row, variable } => {
+            said(model.tighten_coefficient(row, variable), outcome)
+        }
+        Operation::RemoveRedundantRow { row } => said(model.remove_redundant_row(row), outcome),
+        Operation::IsProbingFixpoint => {
+            said(model.is_probing_fixpoint(), |yes| [yes.into(), 0, 0, 0, 0, 0])
+        }
+        Operation::Run => said(model.run(list), |counts| {
+            [counts.refused, counts.infeasible, counts.changed, counts.unchanged, 0, 0]
+        }),
+        Operation::Rounds { limit } => said(model.rounds(limit), rounds),
+        Operation::BookTrailer | Operation::BookRead | Operation::BookWrite => {
+            unreachable!("books have their own test")
+        }
+    }
+}
+
+/// What the reference says on the same buffers.
+fn expected(lent: &mut Lent, operation: Operation) -> Said {
+    match Reference.call(operation, lent.lend()) {
+        0 => Ok(lent.answer[..].try_into().expect("an answer has six places")),
+        check => Err(check),
+    }
+}
+
+/// A model of the generator, in the wrapper.
+fn wrapped(lent: &Lent) -> Model {
+    Model::new(lent.bounds.clone(), lent.coefs.clone(), lent.rhs.clone())
+        .expect("an accepted model")
+}
+
+#[test]
+fn methods_say_what_the_calls_say() {
+    let mut rng = Rng::new(SEED);
+    for _ in 0..3_000 {
+        let family = rng.pick(&[Family::Tiny, Family::Binary, Family::Empty]);
+        let mut lent = models::model(&mut rng, family).with_table();
+        let mut model = wrapped(&lent);
+        for _ in 0..6 {
+            let (row, variable) = (rng.index(lent.m + 1) as u32, rng.index(lent.n + 1) as u32);
+            let budget = rng.between(0, 20) as u32;
+            let list = [
+                Call::propagate_row(row),
+                Call::probe(variable, budget),
+                Call::tighten_coefficient(row, variable),
+                Call::remove_redundant_row(row),
+                Call::propagate(budget),
+                Call { kind: 6, row, variable, budget },
+            ];
+            lent.calls = list.iter().flat_map(|c| [c.kind, c.row, c.variable, c.budget]).collect();
+            let operation = rng.pick(&[
+                Operation::PropagateRow { row },
+                Operation::Propagate { budget },
+                Operation::Probe { variable, budget },
+                Operation::TightenCoefficient { row, variable },
+                Operation::RemoveRedundantRow { row },
+                Operation::IsProbingFixpoint,
+                Operation::Run,
+                Operation::Rounds { limit: budget },
+            ]);
+            assert_eq!(
+                call(&mut model, operation, &list),
+                expected(&mut lent, operation),
+                "{operation:?}"
+            );
+            assert_eq!(model.bounds(), lent.bounds);
+            assert_eq!(model.coefs(), lent.coefs);
+            assert_eq!(model.rhs(), lent.rhs);
+            assert_eq!(model.table(), lent.table);
+        }
+    }
+}
+
+#[test]
+fn books_come_back() {
+    let mut rng = Rng::new(SEED);
+    for _ in 0..500 {
+        let family = rng.pick(&[Family::Tiny, Family::Mixed, Family::Limits, Family::Empty]);
+        let model = wrapped(&models::model(&mut rng, family));
+        let book = model.to_book().unwrap();
+        assert_eq!(Model::from_book(&book), Ok(model));
+    }
+}
+
+#[test]
+fn bad_books_are_refused_in_the_books_own_order() {
+    let good = Model::new(vec![0, 1, 0, 1], vec![3, 2], vec![4]).unwrap().to_book().unwrap();
+    let with = |at: usize, byte: u8| {
+        let mut book = good.clone();
+        book[at] = byte;
+        Model::from_book(&book)
+    };
+    assert_eq!(Model::from_book(&[]), Err(Refusal::BookTooShort));
+    assert_eq!(Model::from_book(&good[29..]), Err(Refusal::BookTooShort));
+    assert_eq!(Model::from_book(&good[1..]), Err(Refusal::BookLengthMismatch));
+    assert_eq!(with(40, 45), Err(Refusal::BookLengthMismatch));
+    assert_eq!(with(36, 0), Err(Refusal::SizeOutOfRange));
+    assert_eq!(with(28, 1), Err(Refusal::BookLayout));
+    assert_eq!(with(6, 1), Err(Refusal::BoundOutOfRange));
+    assert_eq!(with(0, 2), Err(Refusal::BoundsCrossed));
+    assert_eq!(with(23, 1), Err(Refusal::CoefficientOutOfRange));
+    assert_eq!(with(19, 0x7f), Err(Refusal::RightHandSideOutOfRange));
+}
+
+#[test]
+fn a_model_is_checked_when_it_is_made() {
+    let new = |bounds: &[i32], coefs: &[i32], rhs: &[i32]| {
+        Model::new(bounds.to_vec(), coefs.to_vec(), rhs.to_vec()).map(|_| ())
+    };
+    assert_eq!(new(&[], &[], &[]), Err(Refusal::SizeOutOfRange));
+    assert_eq!(new(&[0; 2 * 129], &[], &[]), Err(Refusal::SizeOutOfRange));
+    assert_eq!(new(&[0; 2 * 128], &[], &[]), Ok(()));
+    assert_eq!(new(&[0, 1], &[0; 121], &[0; 121]), Err(Refusal::SizeOutOfRange));
+    assert_eq!(new(&[0, 1, 0], &[], &[]), Err(Refusal::BufferLength));
+    assert_eq!(new(&[0, 1], &[1, 2], &[3]), Err(Refusal::BufferLength));
+    assert_eq!(new(&[-32_769, 1], &[], &[]), Err(Refusal::BoundOutOfRange));
+    assert_eq!(new(&[2, 1], &[], &[]), Err(Refusal::BoundsCrossed));
+    assert_eq!(new(&[1, 0], &[], &[]), Ok(()));
+    assert_eq!(new(&[0, 1], &[1_000_001], &[3]), Err(Refusal::CoefficientOutOfRange));
+    assert_eq!(new(&[0, 1], &[1], &[1_000_000_001]), Err(Refusal::RightHandSideOutOfRange));
+}
