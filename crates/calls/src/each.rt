@@ -1,0 +1,216 @@
+// Each open call on its own copy of a model: its answer, and the numbers that changed in the buffers that it may change, each as
+// place = value. No place behind an answer means that every number stayed.
+use console::count;
+use console::line;
+use console::number;
+use console::text;
+use reducer::calls::is_probing_fixpoint;
+use reducer::calls::probe;
+use reducer::calls::propagate;
+use reducer::calls::propagate_row;
+use reducer::calls::remove_redundant_row;
+use reducer::calls::tighten_coefficient;
+ghost use Prim.Native.Nat.{_≤_};
+ghost use lib.ListN.{length};
+
+// The numbers of a call record that follow its kind.
+pub struct Numbers {
+    pub row: u32,
+    pub variable: u32,
+    pub budget: u32,
+}
+
+pub fn lesser(x: usize, y: usize) -> usize
+    ensures { λ r. ⌜ (r ≤ x) × (r ≤ y) ⌝ }
+{
+    if x < y { x } else { y }
+}
+
+fn front(s: &mut [i32], k: usize) -> &mut [i32]
+    requires { ⌜ k ≤ length (now s) ⌝ }
+{
+    &mut s[..k]
+}
+
+fn front_bytes(s: &mut [u8], k: usize) -> &mut [u8]
+    requires { ⌜ k ≤ length (now s) ⌝ }
+{
+    &mut s[..k]
+}
+
+fn copy(from: &[i32], to: &mut [i32]) {
+    let len = lesser(from.len(), to.len());
+    let mut i = 0;
+    while i < len {
+        to[i] = from[i];
+        i += 1;
+    }
+}
+
+fn copy_bytes(from: &[u8], to: &mut [u8]) {
+    let len = lesser(from.len(), to.len());
+    let mut i = 0;
+    while i < len {
+        to[i] = from[i];
+        i += 1;
+    }
+}
+
+// A copy, in room that is lent for it.
+fn copied<'a>(from: &[i32], room: &'a mut [i32]) -> &'a mut [i32] {
+    copy(from, room);
+    let len = lesser(from.len(), room.len());
+    front(room, len)
+}
+
+fn copied_bytes<'a>(from: &[u8], room: &'a mut [u8]) -> &'a mut [u8] {
+    copy_bytes(from, room);
+    let len = lesser(from.len(), room.len());
+    front_bytes(room, len)
+}
+
+fn change(word: &[u8], place: usize, value: i32) {
+    text(word);
+    count(place);
+    text(b" =");
+    number(value);
+}
+
+fn byte_change(word: &[u8], place: usize, value: u8) {
+    text(word);
+    count(place);
+    text(b" =");
+    count(value as usize);
+}
+
+// The places where a list differs from what it was.
+fn changes(word: &[u8], before: &[i32], after: &[i32]) {
+    let len = lesser(before.len(), after.len());
+    let mut i = 0;
+    while i < len {
+        let x = after[i];
+        if x != before[i] {
+            change(word, i, x);
+        }
+        i += 1;
+    }
+}
+
+fn byte_changes(word: &[u8], before: &[u8], after: &[u8]) {
+    let len = lesser(before.len(), after.len());
+    let mut i = 0;
+    while i < len {
+        let x = after[i];
+        if x != before[i] {
+            byte_change(word, i, x);
+        }
+        i += 1;
+    }
+}
+
+pub fn visit(n: usize, m: usize, bounds: &[i32], coefs: &[i32], rhs: &[i32], row: u32) {
+    let mut room = [0i32; 256];
+    let moved = copied(bounds, &mut room);
+    text(b"  visit  ");
+    answers::row_answer(propagate_row(n, m, moved, coefs, rhs, row));
+    changes(b", bounds", bounds, moved);
+    line();
+}
+
+pub fn settle(n: usize, m: usize, bounds: &[i32], coefs: &[i32], rhs: &[i32], budget: u32) {
+    let mut room = [0i32; 256];
+    let moved = copied(bounds, &mut room);
+    text(b"  settle ");
+    answers::propagate_answer(propagate(n, m, moved, coefs, rhs, budget));
+    changes(b", bounds", bounds, moved);
+    line();
+}
+
+pub fn probed(
+    n: usize,
+    m: usize,
+    bounds: &[i32],
+    coefs: &[i32],
+    rhs: &[i32],
+    table: &[u8],
+    variable: u32,
+    budget: u32,
+) {
+    let mut room = [0i32; 256];
+    let mut bytes = [0u8; 65_536];
+    let moved = copied(bounds, &mut room);
+    let set = copied_bytes(table, &mut bytes);
+    text(b"  probe  ");
+    answers::probe_answer(probe(n, m, moved, coefs, rhs, set, variable, budget));
+    changes(b", bounds", bounds, moved);
+    byte_changes(b", table", table, set);
+    line();
+}
+
+pub fn sharpen(
+    n: usize,
+    m: usize,
+    bounds: &[i32],
+    coefs: &[i32],
+    rhs: &[i32],
+    row: u32,
+    variable: u32,
+) {
+    let mut room = [0i32; 15_360];
+    let mut side_room = [0i32; 120];
+    let row_coefs = copied(coefs, &mut room);
+    let sides = copied(rhs, &mut side_room);
+    text(b"  sharpen");
+    answers::tighten_answer(tighten_coefficient(n, m, bounds, row_coefs, sides, row, variable));
+    changes(b", coefs", coefs, row_coefs);
+    changes(b", rhs", rhs, sides);
+    line();
+}
+
+pub fn drop(n: usize, m: usize, bounds: &[i32], coefs: &[i32], rhs: &[i32], row: u32) {
+    let mut room = [0i32; 15_360];
+    let mut side_room = [0i32; 120];
+    let row_coefs = copied(coefs, &mut room);
+    let sides = copied(rhs, &mut side_room);
+    text(b"  drop   ");
+    answers::remove_answer(remove_redundant_row(n, m, bounds, row_coefs, sides, row));
+    changes(b", coefs", coefs, row_coefs);
+    changes(b", rhs", rhs, sides);
+    line();
+}
+
+pub fn rest(n: usize, m: usize, bounds: &[i32], coefs: &[i32], rhs: &[i32]) {
+    text(b"  rest   ");
+    answers::rest_answer(is_probing_fixpoint(n, m, bounds, coefs, rhs));
+    line();
+}
+
+// All six, behind a line that names the model.
+pub fn all(
+    word: &[u8],
+    n: usize,
+    m: usize,
+    bounds: &[i32],
+    coefs: &[i32],
+    rhs: &[i32],
+    table: &[u8],
+    numbers: Numbers,
+) {
+    text(word);
+    line();
+    visit(n, m, bounds, coefs, rhs, numbers.row);
+    settle(n, m, bounds, coefs, rhs, numbers.budget);
+    probed(
+        n,
+        m,
+        bounds,
+        coefs,
+        rhs,
+        table,
+        numbers.variable,
+        numbers.budget,
+    );
+    sharpen(n, m, bounds, coefs, rhs, numbers.row, numbers.variable);
+    drop(n, m, bounds, coefs, rhs, numbers.row);
+    rest(n, m, bounds, coefs, rhs);
+}

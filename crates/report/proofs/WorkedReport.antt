@@ -1,0 +1,35 @@
+-- 01's example: the report on the book with bounds 0, 1, 0, 1 and the row 4, 3, 2, byte for byte. Computed from the definitions.
+use lib.IntN.{negsuc, pos}
+use mathlib.Core.List.{List, [], _++_, _∷_}
+use mathlib.Core.Path.{_≡_, refl}
+use Prim.Native.Nat.{ℕ}
+use Rattle.report.specs.Decimal.{decimal, digits, signed}
+use Rattle.report.specs.Report.{byteLine, field, fields, implicationAt, implicationLine, isZeroRow, reducedLine, report, rowAt, rowLine, variableAt, variableLine}
+use Rattle.report.specs.Text.{texts}
+use Rattle.integer.specs.Index.{all}
+use Rattle.integer.specs.Order.{eqZ}
+use Rattle.model.specs.Point.{rowOf}
+
+-- x0 = 1 implies x1 = 0, and x1 = 1 implies x0 = 0: bytes 6 and 12 of 16
+table : List ℕ
+table = 0 ∷ 0 ∷ 0 ∷ 0 ∷ 0 ∷ 0 ∷ 1 ∷ 0 ∷ 0 ∷ 0 ∷ 0 ∷ 0 ∷ 1 ∷ 0 ∷ 0 ∷ 0 ∷ []
+
+example : report 2 1 2 (pos 0 ∷ pos 1 ∷ pos 0 ∷ pos 1 ∷ []) (pos 1 ∷ pos 1 ∷ []) (pos 1 ∷ []) table ≡
+    -- reduced 2 1 2
+    114 ∷ 101 ∷ 100 ∷ 117 ∷ 99 ∷ 101 ∷ 100 ∷ 32 ∷ 50 ∷ 32 ∷ 49 ∷ 32 ∷ 50 ∷ 10
+    -- v 0 0 1, v 1 0 1
+    ∷ 118 ∷ 32 ∷ 48 ∷ 32 ∷ 48 ∷ 32 ∷ 49 ∷ 10
+    ∷ 118 ∷ 32 ∷ 49 ∷ 32 ∷ 48 ∷ 32 ∷ 49 ∷ 10
+    -- r 0 1 1 1
+    ∷ 114 ∷ 32 ∷ 48 ∷ 32 ∷ 49 ∷ 32 ∷ 49 ∷ 32 ∷ 49 ∷ 10
+    -- i 0 1 1 0, i 1 1 0 0
+    ∷ 105 ∷ 32 ∷ 48 ∷ 32 ∷ 49 ∷ 32 ∷ 49 ∷ 32 ∷ 48 ∷ 10
+    ∷ 105 ∷ 32 ∷ 49 ∷ 32 ∷ 49 ∷ 32 ∷ 48 ∷ 32 ∷ 48 ∷ 10
+    ∷ []
+unfolding table report reducedLine variableAt variableLine rowAt rowLine rowOf implicationAt implicationLine byteLine isZeroRow all eqZ texts field fields signed decimal digits
+example = refl
+
+-- −1000000, and 0
+minus : signed (negsuc 999_999) ++ decimal 0 ≡ 45 ∷ 49 ∷ 48 ∷ 48 ∷ 48 ∷ 48 ∷ 48 ∷ 48 ∷ 48 ∷ []
+unfolding signed decimal digits
+minus = refl
