@@ -147,6 +147,10 @@ fn one_row() {
         &wrong,
     );
     let empties = [
+        5,
+        0,
+        77,
+        77,
         1,
         0,
         77,
@@ -169,7 +173,7 @@ fn one_row() {
         77,
     ];
     pair(
-        b"emptied by the first call, -x - y <= -3",
+        b"emptied in the middle, -x - y <= -3",
         binary,
         [-1, -1],
         -3,
