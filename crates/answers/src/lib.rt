@@ -1,13 +1,13 @@
 // The answers of the open calls in words, for the programs that show what the calls give.
 use console::count;
 use console::text;
+use reducer::Side;
 use reducer::calls::ProbeAnswer;
 use reducer::calls::PropagateAnswer;
 use reducer::calls::PropagateRowAnswer;
 use reducer::calls::RemoveAnswer;
 use reducer::calls::RestAnswer;
 use reducer::calls::TightenAnswer;
-use reducer::probing::Side;
 
 fn refused(number: u32) {
     text(b" refused");

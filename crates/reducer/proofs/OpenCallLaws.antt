@@ -1,15 +1,13 @@
 -- What the open calls share: which number refuses one, what it performs then and otherwise, the row that it is lent a part of, and
 -- what its answer means.
-use Prim.Native.Nat.{_*_, _+_, _-_, _<_, ℕ}
+use Prim.Native.Nat.{_<_, ℕ}
 use lib.Dec.{T, eqb}
 use lib.IntN.{ℤ}
-use lib.ListN.{drop, length, set, take}
-use lib.Seq.{drop-drop}
+use lib.ListN.{length, set}
 use mathlib.Core.Bool.{Bool, cond, false, not, true}
-use mathlib.Core.List.{List, [], _++_}
+use mathlib.Core.List.{List, []}
 use mathlib.Core.Logic.{_↔_, ⊎-elim}
 use mathlib.Core.Path.{_∙_, _≡_, ap, refl, subst, sym}
-use native.Mathlib.Omega.{arith}
 use Rattle.integer.proofs.Tests.{T→false, decide, eqb-test, test-false, test-true}
 use Rattle.model.specs.Box.{at}
 use Rattle.model.specs.Checks.{first, none}
@@ -28,25 +26,16 @@ use Rattle.semantics.specs.Probe.{Probed, probe}
 use Rattle.semantics.specs.Propagate.{Propagation, propagate}
 use Rattle.semantics.specs.RestTest.{isProbingFixpoint, restFault}
 use Rattle.semantics.specs.Run.{answersNone, isRefused, step}
-use Rattle.semantics.specs.State.{Call, Kind, State, hasRow, hasTable, kindOf, other, splice, withBox, withRow}
+use Rattle.semantics.specs.State.{Call, Kind, State, callOf, hasRow, hasTable, kindOf, stateOf, withBox, withRow}
 use Rattle.semantics.proofs.Accepted.{accepted, fault-of-own, modelFaultOf}
 use Rattle.semantics.proofs.CallLaws.{perform-accepted}
 use Rattle.semantics.proofs.Convergence.{rest-test}
 use Rattle.semantics.proofs.Demand2.{demand-2}
 use Rattle.semantics.proofs.Preserved.{Preserves, step-preserves}
-use Rattle.reducer.specs.OpenCalls.{Ends, Means, RestVerdict, atRest, callOf, notAtRest, performed, refusedRest, rest, stateOf}
+use Rattle.step.proofs.StepLaws.{part-spliced, withPart}
+use Rattle.reducer.specs.OpenCalls.{Ends, Means, RestVerdict, atRest, notAtRest, performed, refusedRest, rest}
 
 -- ---- the number that refuses
-
-pub kind-other : (k : ℕ) → (k ≡ 1 → ⊥) → (k ≡ 2 → ⊥) → (k ≡ 3 → ⊥) → (k ≡ 4 → ⊥) → (k ≡ 5 → ⊥) → kindOf k ≡ other
-unfolding kindOf
-kind-other k a b c d e = rw (
-  test-false (eqb k 1) (eqb-test k 1) a,
-  test-false (eqb k 2) (eqb-test k 2) b,
-  test-false (eqb k 3) (eqb-test k 3) c,
-  test-false (eqb k 4) (eqb-test k 4) d,
-  test-false (eqb k 5) (eqb-test k 5) e,
-)
 
 -- of a call on s that is lent all of it; f is what the checks of the model (and table) come to
 module _ (s : State) (kind row variable budget : ℕ) {f : ℕ} (h : f ≡ modelFaultOf (kindOf kind) s) where
@@ -88,14 +77,6 @@ module _ (n m : ℕ) (B C R : List ℤ) (row : ℕ) {x : Answer} {o : Outcome} {
   unfolding stateOf callOf performed act kindOf withBox
   row-propagated f e h =
       let s = stateOf n m B C R [] in sym (perform-accepted s (callOf s 1 row 0 0) f ∙ rw (e, h .0, h .1))
-
--- the matrix with the numbers A in the part that the code lent of row r
-abbrev pub withPart : List ℤ → ℕ → ℕ → List ℤ → List ℤ
-withPart C r n A = take (r * n) C ++ (A ++ drop (r * n + n - r * n) (drop (r * n) C))
-
-pub part-spliced : (C A : List ℤ) (r n : ℕ) → length A ≡ n → withPart C r n A ≡ splice C A (r * n)
-unfolding splice
-part-spliced C A r n e = let k : r * n + n - r * n ≡ n = omega arith in rw (k, drop-drop n (r * n) C, e)
 
 -- the same of a call c that may change its row: p is what its rule says of the row
 module _ (n m : ℕ) (B C R : List ℤ) (row : ℕ) (p : NewRow) (F : Outcome → Answer) (c : Call) {x : Answer} {o : Outcome} {A : List ℤ} {b : ℤ} where

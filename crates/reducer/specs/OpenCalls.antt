@@ -1,24 +1,21 @@
--- What an open call is, in the semantics: the state and the call that its arguments make, 01's answers behind the enums that the
--- code returns, and what an answer means. Each reading of an enum is injective (`open-answers-injective`).
+-- What an open call is, in the semantics: 01's answers behind the enums that the code returns, and what an answer means. Each reading of an enum is injective (`open-answers-injective`).
 use Prim.Native.Nat.{_≤_, ℕ}
-use lib.Dec.{T, eqb, leb, ltb}
+use lib.Dec.{T, eqb}
 use lib.IntN.{ℤ}
-use mathlib.Core.Bool.{_&&_, _||_, cond}
-use mathlib.Core.List.{List, [], _∷_}
+use mathlib.Core.Bool.{cond}
+use mathlib.Core.List.{List}
 use mathlib.Core.Logic.{_↔_, _≢_}
 use mathlib.Core.Path.{_≡_}
-use Rattle.model.specs.Box.{emptyBox, isEmpty, isFree}
-use Rattle.model.specs.Checks.{Check, must}
+use Rattle.model.specs.Box.{emptyBox}
 use Rattle.row.specs.Outcome.{changed, infeasible, unchanged}
-use Rattle.semantics.specs.CallChecks.{maxBudget}
 use Rattle.semantics.specs.Perform.{Answer, Performed, probed, propagated, propagatedRow, refused, removed, tightened}
 use Rattle.semantics.specs.Points.{FractionalPointOf, PointOf}
 use Rattle.semantics.specs.Probe as semantic
 use Rattle.semantics.specs.Propagate as ended
 use Rattle.semantics.specs.RestTest.{isProbingFixpoint, restFault}
 use Rattle.semantics.specs.Run.{answersNone}
-use Rattle.semantics.specs.State.{Call, State, lengthsOf}
-use Rattle.reducer.specs.Results.{reportOf}
+use Rattle.semantics.specs.State.{State}
+use Rattle.probing.specs.Results.{reportOf}
 use Rattle.reducer.specs.declared.calls.PropagateRowAnswer.{PropagateRowAnswer}
 use Rattle.reducer.specs.declared.calls.PropagateRowAnswer.the-variants as row
 use Rattle.reducer.specs.declared.calls.PropagateAnswer.{PropagateAnswer}
@@ -31,17 +28,6 @@ use Rattle.reducer.specs.declared.calls.RemoveAnswer.{RemoveAnswer}
 use Rattle.reducer.specs.declared.calls.RemoveAnswer.the-variants as removes
 use Rattle.reducer.specs.declared.calls.RestAnswer.{RestAnswer}
 use Rattle.reducer.specs.declared.calls.RestAnswer.the-variants as rests
-
--- ---- the state and the call that the arguments make
-
--- n, m and the lists that the buffers hold; a call that is lent no table has the empty list there, and its checks never look at it
-unfoldable pub stateOf : ℕ → ℕ → List ℤ → List ℤ → List ℤ → List ℕ → State
-stateOf n m B C R t = record { n = n; m = m; box = B; coefs = C; rhs = R; table = t }
-
--- a call with the very n, m and buffer lengths of s; a field that the kind lacks is 0
-unfoldable pub callOf : State → ℕ → ℕ → ℕ → ℕ → Call
-callOf s kind row variable budget =
-    record { kind = kind; row = row; variable = variable; budget = budget; n = s .n; m = s .m; lengths = lengthsOf s }
 
 unfoldable pub performed : Answer → State → Performed
 performed a s = record { answer = a; state = s }
@@ -114,14 +100,3 @@ pub record Ends (budget : ℕ) (s : State) (a : Answer) : Type 0 where
   pub passes : (e : ended.Ending) (p : ℕ) → a ≡ propagated e p → (1 ≤ p) × (p ≤ budget)
   pub sides : (e : semantic.ProbeEnding) (s0 s1 : semantic.Side) → a ≡ probed e s0 s1 → s .box ≢ emptyBox (s .n)
       → ((1 ≤ s0 .passes) × (s0 .passes ≤ budget)) × ((1 ≤ s1 .passes) × (s1 .passes ≤ budget))
-
--- ---- the checks of one field, as the code makes them
-
-unfoldable pub rowChecks : ℕ → ℕ → List Check
-rowChecks m row = must (ltb row m) 12 ∷ []
-
-unfoldable pub variableChecks : ℕ → List ℤ → ℕ → List Check
-variableChecks n B variable = must (ltb variable n) 13 ∷ must (isEmpty n B || isFree B variable) 14 ∷ []
-
-unfoldable pub budgetChecks : ℕ → List Check
-budgetChecks budget = must (leb 1 budget && leb budget maxBudget) 15 ∷ []

@@ -4,9 +4,9 @@
 // for the points, and that the call ended within its budget.
 use crate::checks::call_fault;
 use crate::checks::probe_fault;
-use crate::probing::Probing;
-use crate::probing::Side;
-use crate::propagation::Propagation;
+use probing::sides::Probing;
+use probing::sides::Side;
+use propagation::Propagation;
 use row::propagation::RowPropagation;
 use row::redundancy::RowRemoval;
 use row::tightening::CoefficientTightening;
@@ -16,7 +16,8 @@ ghost use mathlib.Core.Path.{_≡_};
 ghost use Rattle.semantics.specs.Perform.{perform};
 ghost use Rattle.semantics.specs.Points.{AtRest};
 ghost use Rattle.semantics.specs.RestTest.{restFault};
-ghost use Rattle.reducer.specs.OpenCalls.{Ends, Means, atRest, callOf, performed, probeAnswer, propagateAnswer, removeAnswer, rest, restVerdict, rowAnswer, stateOf, tightenAnswer};
+ghost use Rattle.semantics.specs.State.{callOf, stateOf};
+ghost use Rattle.reducer.specs.OpenCalls.{Ends, Means, atRest, performed, probeAnswer, propagateAnswer, removeAnswer, rest, restVerdict, rowAnswer, tightenAnswer};
 
 // 01's visit: refused N, None, Narrowed, Same.
 pub enum PropagateRowAnswer {
@@ -109,7 +110,7 @@ pub fn propagate(
     if fault != 0 {
         return PropagateAnswer::Refused(fault);
     }
-    match crate::propagation::propagate(n, m, bounds, coefs, rhs, budget) {
+    match propagation::propagate(n, m, bounds, coefs, rhs, budget) {
         Propagation::Infeasible(passes) => PropagateAnswer::Infeasible(passes),
         Propagation::Converged(passes) => PropagateAnswer::Converged(passes),
         Propagation::BudgetSpent(passes) => PropagateAnswer::BudgetSpent(passes),
@@ -135,7 +136,7 @@ pub fn probe(
     if fault != 0 {
         return ProbeAnswer::Refused(fault);
     }
-    match crate::probing::probe(n, m, bounds, coefs, rhs, table, variable as usize, budget) {
+    match probing::sides::probe(n, m, bounds, coefs, rhs, table, variable as usize, budget) {
         Probing::Infeasible(side0, side1) => ProbeAnswer::Infeasible(side0, side1),
         Probing::Fixed(value, side0, side1) => ProbeAnswer::Fixed(value, side0, side1),
         Probing::BothFeasible(added, side0, side1) => ProbeAnswer::BothFeasible(
@@ -219,7 +220,7 @@ pub fn is_probing_fixpoint(
     if fault != 0 {
         return RestAnswer::Refused(fault);
     }
-    if crate::rest::is_probing_fixpoint(n, m, bounds, coefs, rhs) {
+    if probing::rest::is_probing_fixpoint(n, m, bounds, coefs, rhs) {
         return RestAnswer::Yes;
     }
     RestAnswer::No

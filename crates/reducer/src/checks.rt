@@ -1,95 +1,11 @@
-// The checks of a call, in 01's order: those of the model that it is lent, then its own (11 to 15).
-use crate::implications::is_free;
+// The checks of an open call, in 01's order: those of the model that it is lent, then its own (11 to 15).
+use step::checks::record_fault;
 ghost use mathlib.Core.Bool.{not};
 ghost use mathlib.Core.List.{[]};
 ghost use mathlib.Core.Path.{_≡_};
-ghost use Prim.Native.Nat.{_<_};
 ghost use lib.Dec.{T};
-ghost use Rattle.model.specs.Checks.{first};
-ghost use Rattle.model.specs.Valid.{ValidBox};
-ghost use Rattle.semantics.specs.CallChecks.{callFault, recordChecks};
-ghost use Rattle.semantics.specs.State.{hasTable, kindOf};
-ghost use Rattle.reducer.specs.OpenCalls.{budgetChecks, callOf, rowChecks, stateOf, variableChecks};
-
-// The largest budget: one more than any box is wide, so it is never spent.
-pub const MAX_BUDGET: u32 = 8_388_481;
-
-// 12: the row is not below m.
-fn row_fault(m: usize, row: u32) -> u32
-    ensures { λ r. ⌜ r ≡ first (rowChecks m row) ⌝ }
-{
-    if m <= row as usize {
-        return 12;
-    }
-    0
-}
-
-// 13: the variable is not below n; 14: in a box that is not empty, it is not free binary.
-fn variable_fault(n: usize, bounds: &[i32], variable: u32) -> u32
-    requires { ⌜ ValidBox n (now bounds) ⌝ }
-    ensures { λ r. ⌜ r ≡ first (variableChecks n (now (bounds .entry)) variable) ⌝ }
-{
-    let k = variable as usize;
-    if n <= k {
-        return 13;
-    }
-    if model::is_empty(bounds) {
-        return 0;
-    }
-    if !is_free(bounds, k) {
-        return 14;
-    }
-    0
-}
-
-// 15: the budget is not 1 to 8,388,481.
-fn budget_fault(budget: u32) -> u32
-    ensures { λ r. ⌜ r ≡ first (budgetChecks budget) ⌝ }
-{
-    if budget < 1 {
-        return 15;
-    }
-    if MAX_BUDGET < budget {
-        return 15;
-    }
-    0
-}
-
-// The call's own checks by its kind: 1 visit, 2 settle, 3 probe, 4 sharpen, 5 drop; 11 for any other. A field that the kind lacks
-// is not looked at.
-pub fn record_fault(
-    n: usize,
-    m: usize,
-    bounds: &[i32],
-    kind: u32,
-    row: u32,
-    variable: u32,
-    budget: u32,
-) -> u32
-    requires { ⌜ ValidBox n (now bounds) ⌝ }
-    requires { ⌜ 0 < n ⌝ }
-    ensures { λ r. ⌜ r ≡ first (recordChecks (kindOf kind) (stateOf n m (now (bounds .entry)) [] [] []) (callOf (stateOf n m (now (bounds .entry)) [] [] []) kind row variable budget)) ⌝ }
-{
-    match kind {
-        1 | 5 => row_fault(m, row),
-        2 => budget_fault(budget),
-        3 => {
-            let fault = variable_fault(n, bounds, variable);
-            if fault != 0 {
-                return fault;
-            }
-            budget_fault(budget)
-        }
-        4 => {
-            let fault = row_fault(m, row);
-            if fault != 0 {
-                return fault;
-            }
-            variable_fault(n, bounds, variable)
-        }
-        _ => 11,
-    }
-}
+ghost use Rattle.semantics.specs.CallChecks.{callFault};
+ghost use Rattle.semantics.specs.State.{callOf, hasTable, kindOf, stateOf};
 
 // The number by which a call that is lent no table is refused, 0 where it is accepted.
 pub fn call_fault(

@@ -1,9 +1,7 @@
-// The reducer (01's upper crate): propagation over many rows, probing, the probing fixpoint, the open calls and call lists. It knows
-// of a row only what crate `row` states: no coefficient is looked at here.
+// The reducer (01's upper crate): the six open calls and call lists. An open call finds the first fault of what it is lent, or hands
+// a model that passed the checks to the crates below; no function here that another crate can call requires anything.
 pub mod calls;
 mod checks;
-pub mod implications;
 pub mod list;
-pub mod probing;
-mod propagation;
-mod rest;
+
+pub use probing::sides::Side;

@@ -1,37 +1,15 @@
 // Call lists (01's run sheet): many calls on one model. The model and the table are checked once, before the first record; each
 // call leaves them valid, so only a record's own checks are made after that.
-use crate::checks::record_fault;
-use crate::probing::Probing;
-use crate::probing::copy;
-use crate::probing::probe;
-use crate::propagation::Propagation;
-use crate::propagation::propagate;
-use row::propagation::RowPropagation;
-use row::propagation::propagate_row;
-use row::redundancy::RowRemoval;
-use row::redundancy::remove_redundant_row;
-use row::tightening::CoefficientTightening;
-use row::tightening::tighten_coefficient;
+use step::CallClass;
+use step::run_record;
 ghost use mathlib.Core.Path.{_≡_};
 ghost use Prim.Native.Nat.{_+_, _<_, _^_};
-ghost use lib.ListN.{length};
-ghost use Rattle.model.specs.Box.{sameList};
-ghost use Rattle.row.specs.Answers.{propagationOutcome, removalOutcome, tighteningOutcome};
-ghost use Rattle.semantics.specs.CallChecks.{callFault};
 ghost use Rattle.semantics.specs.CallList.{listFault, runList};
-ghost use Rattle.semantics.specs.Points.{ValidState};
-ghost use Rattle.semantics.specs.Run.{classOf, countCall, step};
+ghost use Rattle.semantics.specs.Run.{countCall};
+ghost use Rattle.semantics.specs.State.{stateOf};
 ghost use Rattle.semantics.specs.TwoLists.{CountsAddUp, Demand3Lists};
-ghost use Rattle.reducer.specs.CallLists.{classIs, countsOf, listRun, outcomeClass, propagationClass};
-ghost use Rattle.reducer.specs.OpenCalls.{callOf, stateOf};
-
-// How a call counts: 01's refused, None, changed (a bound, row or table byte), unchanged.
-pub enum CallClass {
-    Refused,
-    Infeasible,
-    Changed,
-    Unchanged,
-}
+ghost use Rattle.step.specs.Classes.{classIs};
+ghost use Rattle.reducer.specs.CallLists.{countsOf, listRun};
 
 // The four counts of a call list; their sum is the number of its records.
 pub struct Counts {
@@ -45,172 +23,6 @@ pub struct Counts {
 pub enum RunAnswer {
     Refused(u32),
     Ran(Counts),
-}
-
-fn class_of_row(p: RowPropagation) -> CallClass
-    ensures { λ r. ⌜ classIs r ≡ outcomeClass (propagationOutcome p) ⌝ }
-{
-    match p {
-        RowPropagation::Infeasible => CallClass::Infeasible,
-        RowPropagation::Tightened => CallClass::Changed,
-        RowPropagation::Unchanged => CallClass::Unchanged,
-    }
-}
-
-fn class_of_tightening(t: CoefficientTightening) -> CallClass
-    ensures { λ r. ⌜ classIs r ≡ outcomeClass (tighteningOutcome t) ⌝ }
-{
-    match t {
-        CoefficientTightening::Infeasible => CallClass::Infeasible,
-        CoefficientTightening::Tightened => CallClass::Changed,
-        CoefficientTightening::Unchanged => CallClass::Unchanged,
-    }
-}
-
-fn class_of_removal(t: RowRemoval) -> CallClass
-    ensures { λ r. ⌜ classIs r ≡ outcomeClass (removalOutcome t) ⌝ }
-{
-    match t {
-        RowRemoval::Infeasible => CallClass::Infeasible,
-        RowRemoval::Removed => CallClass::Changed,
-        RowRemoval::Unchanged => CallClass::Unchanged,
-    }
-}
-
-// A propagation changed a bound unless its first pass moved nothing.
-fn class_of_propagation(p: Propagation) -> CallClass
-    ensures { λ r. ⌜ classIs r ≡ propagationClass p ⌝ }
-{
-    match p {
-        Propagation::Infeasible(_) => CallClass::Infeasible,
-        Propagation::Converged(passes) => {
-            if passes == 1 {
-                CallClass::Unchanged
-            } else {
-                CallClass::Changed
-            }
-        }
-        Propagation::BudgetSpent(_) => CallClass::Changed,
-    }
-}
-
-// Whether two boxes have the same bounds.
-fn same_box(xs: &[i32], ys: &[i32]) -> bool
-    requires { ⌜ length (now xs) ≡ length (now ys) ⌝ }
-    ensures { λ r. ⌜ r ≡ sameList (now (xs .entry)) (now (ys .entry)) ⌝ }
-{
-    let mut i = 0;
-    while i < xs.len() {
-        if xs[i] != ys[i] {
-            return false;
-        }
-        i += 1;
-    }
-    true
-}
-
-// An accepted probe. Where both sides are feasible it changed something if a table byte became 1 or the hull is smaller than the
-// box before, of which a copy is kept.
-fn run_probe(
-    n: usize,
-    m: usize,
-    bounds: &mut [i32],
-    coefs: &[i32],
-    rhs: &[i32],
-    table: &mut [u8],
-    variable: u32,
-    budget: u32,
-) -> CallClass
-    requires { ⌜ ValidState (stateOf n m (now bounds) (now coefs) (now rhs) (now table)) ⌝ }
-    requires { ⌜ callFault (stateOf n m (now bounds) (now coefs) (now rhs) (now table)) (callOf (stateOf n m (now bounds) (now coefs) (now rhs) (now table)) 3 0 variable budget) ≡ 0 ⌝ }
-    ensures class { λ r. ⌜ classIs r ≡ classOf (stateOf n m (now (bounds .entry)) (now (coefs .entry)) (now (rhs .entry)) (now (table .entry))) (callOf (stateOf n m (now (bounds .entry)) (now (coefs .entry)) (now (rhs .entry)) (now (table .entry))) 3 0 variable budget) ⌝ }
-    ensures left { λ r. ⌜ stateOf n m (now (bounds .exit)) (now (coefs .entry)) (now (rhs .entry)) (now (table .exit)) ≡ step (stateOf n m (now (bounds .entry)) (now (coefs .entry)) (now (rhs .entry)) (now (table .entry))) (callOf (stateOf n m (now (bounds .entry)) (now (coefs .entry)) (now (rhs .entry)) (now (table .entry))) 3 0 variable budget) ⌝ }
-{
-    let len = bounds.len();
-    let mut before = [0i32; 256];
-    copy(bounds, &mut before[..len]);
-    match probe(n, m, bounds, coefs, rhs, table, variable as usize, budget) {
-        Probing::Infeasible(_, _) => CallClass::Infeasible,
-        Probing::Fixed(_, _, _) => CallClass::Changed,
-        Probing::BothFeasible(added, _, _) => {
-            if added != 0 {
-                return CallClass::Changed;
-            }
-            if same_box(&before[..len], bounds) {
-                return CallClass::Unchanged;
-            }
-            CallClass::Changed
-        }
-    }
-}
-
-// An accepted call of any kind.
-fn run_accepted(
-    n: usize,
-    m: usize,
-    bounds: &mut [i32],
-    coefs: &mut [i32],
-    rhs: &mut [i32],
-    table: &mut [u8],
-    kind: u32,
-    row: u32,
-    variable: u32,
-    budget: u32,
-) -> CallClass
-    requires { ⌜ ValidState (stateOf n m (now bounds) (now coefs) (now rhs) (now table)) ⌝ }
-    requires { ⌜ callFault (stateOf n m (now bounds) (now coefs) (now rhs) (now table)) (callOf (stateOf n m (now bounds) (now coefs) (now rhs) (now table)) kind row variable budget) ≡ 0 ⌝ }
-    ensures class { λ r. ⌜ classIs r ≡ classOf (stateOf n m (now (bounds .entry)) (now (coefs .entry)) (now (rhs .entry)) (now (table .entry))) (callOf (stateOf n m (now (bounds .entry)) (now (coefs .entry)) (now (rhs .entry)) (now (table .entry))) kind row variable budget) ⌝ }
-    ensures left { λ r. ⌜ stateOf n m (now (bounds .exit)) (now (coefs .exit)) (now (rhs .exit)) (now (table .exit)) ≡ step (stateOf n m (now (bounds .entry)) (now (coefs .entry)) (now (rhs .entry)) (now (table .entry))) (callOf (stateOf n m (now (bounds .entry)) (now (coefs .entry)) (now (rhs .entry)) (now (table .entry))) kind row variable budget) ⌝ }
-{
-    let r = row as usize;
-    match kind {
-        1 => {
-            let start = r * n;
-            let end = start + n;
-            class_of_row(propagate_row(&coefs[start..end], rhs[r], bounds))
-        }
-        2 => class_of_propagation(propagate(n, m, bounds, coefs, rhs, budget)),
-        3 => run_probe(n, m, bounds, coefs, rhs, table, variable, budget),
-        4 => {
-            let start = r * n;
-            let end = start + n;
-            class_of_tightening(tighten_coefficient(
-                &mut coefs[start..end],
-                &mut rhs[r],
-                bounds,
-                variable as usize,
-            ))
-        }
-        _ => {
-            let start = r * n;
-            let end = start + n;
-            class_of_removal(remove_redundant_row(&mut coefs[start..end], &mut rhs[r], bounds))
-        }
-    }
-}
-
-// One record: refused by its own checks, or run.
-pub fn run_record(
-    n: usize,
-    m: usize,
-    bounds: &mut [i32],
-    coefs: &mut [i32],
-    rhs: &mut [i32],
-    table: &mut [u8],
-    kind: u32,
-    row: u32,
-    variable: u32,
-    budget: u32,
-) -> CallClass
-    requires { ⌜ ValidState (stateOf n m (now bounds) (now coefs) (now rhs) (now table)) ⌝ }
-    ensures class { λ r. ⌜ classIs r ≡ classOf (stateOf n m (now (bounds .entry)) (now (coefs .entry)) (now (rhs .entry)) (now (table .entry))) (callOf (stateOf n m (now (bounds .entry)) (now (coefs .entry)) (now (rhs .entry)) (now (table .entry))) kind row variable budget) ⌝ }
-    ensures left { λ r. ⌜ stateOf n m (now (bounds .exit)) (now (coefs .exit)) (now (rhs .exit)) (now (table .exit)) ≡ step (stateOf n m (now (bounds .entry)) (now (coefs .entry)) (now (rhs .entry)) (now (table .entry))) (callOf (stateOf n m (now (bounds .entry)) (now (coefs .entry)) (now (rhs .entry)) (now (table .entry))) kind row variable budget) ⌝ }
-{
-    let fault = record_fault(n, m, bounds, kind, row, variable, budget);
-    if fault != 0 {
-        return CallClass::Refused;
-    }
-    run_accepted(n, m, bounds, coefs, rhs, table, kind, row, variable, budget)
 }
 
 // The counts with one call more.

@@ -1,14 +1,14 @@
 // The rounds of `reduce`: propagate, remove redundant rows, tighten coefficients and probe, again until a round changes nothing.
 // The model and the table are checked once; each call leaves them valid.
-use reducer::implications::is_free;
-use reducer::list::CallClass;
-use reducer::list::run_record;
+use probing::is_free;
+use step::CallClass;
+use step::run_record;
 ghost use mathlib.Core.Path.{_≡_};
 ghost use Prim.Native.Nat.{_<_};
 ghost use Rattle.semantics.specs.Points.{PointOf, ValidState};
 ghost use Rattle.semantics.specs.Run.{run as ran};
-ghost use Rattle.reducer.specs.CallLists.{classIs};
-ghost use Rattle.reducer.specs.OpenCalls.{stateOf};
+ghost use Rattle.step.specs.Classes.{classIs};
+ghost use Rattle.semantics.specs.State.{stateOf};
 ghost use Rattle.rounds.specs.Answers.{roundsAnswer};
 ghost use Rattle.rounds.specs.Rounds.{SamePoints, anyChange, drops, isChange, probes, round as roundOf, runRounds, sharpenRow, sharpens};
 

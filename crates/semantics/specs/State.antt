@@ -85,6 +85,17 @@ isOther tightens = false
 isOther removes = false
 isOther other = true
 
+-- ---- the state and the call that the arguments of an open call make
+
+-- n, m and the lists that the buffers hold; a call that is lent no table has the empty list there, and its checks never look at it
+unfoldable pub stateOf : ℕ → ℕ → List ℤ → List ℤ → List ℤ → List ℕ → State
+stateOf n m B C R t = record { n = n; m = m; box = B; coefs = C; rhs = R; table = t }
+
+-- a call with the very n, m and buffer lengths of s; a field that the kind lacks is 0
+unfoldable pub callOf : State → ℕ → ℕ → ℕ → ℕ → Call
+callOf s kind row variable budget =
+    record { kind = kind; row = row; variable = variable; budget = budget; n = s .n; m = s .m; lengths = lengthsOf s }
+
 -- ---- what a call can change of a state
 
 unfoldable pub withBox : State → List ℤ → List ℕ → State

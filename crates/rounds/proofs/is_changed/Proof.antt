@@ -8,10 +8,10 @@ use mathlib.Core.Logic.{⊎-elim}
 use mathlib.Core.Path.{_≡_, refl}
 use native.Mathlib.Omega.{arith}
 use types.Run.{OneOf}
-use Rattle.reducer.specs.CallLists.{classIs}
-use Rattle.reducer.specs.declared.list.CallClass.{CallClass}
-use Rattle.reducer.specs.declared.list.CallClass.the-variants.{Changed, Infeasible, Refused, Unchanged}
-use Rattle.reducer.proofs.list.CallClass.{the-type}
+use Rattle.step.specs.Classes.{classIs}
+use Rattle.step.specs.declared.CallClass.{CallClass}
+use Rattle.step.specs.declared.CallClass.the-variants.{Changed, Infeasible, Refused, Unchanged}
+use Rattle.step.proofs.CallClass.{the-type}
 use Rattle.rounds.specs.Rounds.{isChange}
 use Rattle.rounds.proofs.is_changed.Statement.{statement}
 use Rattle.rounds.proofs.is_changed.Tie as tie

@@ -3,8 +3,7 @@
 use mathlib.Core.Bool.{Bool, _||_}
 use mathlib.Core.Logic.{⊎-elim}
 use mathlib.Core.Path.{_≡_, refl}
-use Rattle.semantics.specs.State.{State}
-use Rattle.reducer.specs.OpenCalls.{callOf, stateOf}
+use Rattle.semantics.specs.State.{callOf, State, stateOf}
 use Rattle.rounds.specs.Rounds.{andThen, callOn, drops, probes, round, settleCall, sharpens}
 use Rattle.rounds.proofs.RoundsLaws.{Leads, SameLengths, flag-kept, flag-raised, in-order, leads-then, leads-valid, one-call, same-lengths}
 use Rattle.rounds.proofs.round.Statement.{statement}

@@ -6,9 +6,8 @@ use mathlib.Core.Path.{_∙_, _≡_, refl, sym}
 use native.Mathlib.Omega.{arith}
 use Rattle.model.specs.Box.{isEmpty}
 use Rattle.semantics.specs.Points.{ValidState}
-use Rattle.semantics.specs.State.{State}
+use Rattle.semantics.specs.State.{State, stateOf}
 use Rattle.semantics.proofs.Accepted.{accepted-valid}
-use Rattle.reducer.specs.OpenCalls.{stateOf}
 use Rattle.rounds.specs.Answers.{roundsAnswer}
 use Rattle.rounds.specs.Rounds.{round, roundsFault}
 use Rattle.rounds.proofs.RoundsLaws.{Leads, Rest, SameLengths, at-limit, ends-empty, ends-unchanged, finished, goes-on, leads-valid, no-round, refuses, valid-lengths}

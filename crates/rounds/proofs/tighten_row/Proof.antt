@@ -5,7 +5,7 @@ use mathlib.Core.Logic.{⊎-elim}
 use mathlib.Core.Path.{_∙_, refl, sym}
 use native.Mathlib.Omega.{arith}
 use Rattle.model.specs.Box.{isFree}
-use Rattle.reducer.specs.OpenCalls.{callOf, stateOf}
+use Rattle.semantics.specs.State.{callOf, stateOf}
 use Rattle.rounds.specs.Rounds.{callOn, sharpenCall, sharpenRow}
 use Rattle.rounds.proofs.RoundsLaws.{Turns, all-turns, call-turn, flag-kept, flag-raised, no-turn, skip-turn, turns-lengths, turns-valid}
 use Rattle.rounds.proofs.tighten_row.Statement.{statement}

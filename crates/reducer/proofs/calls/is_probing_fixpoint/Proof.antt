@@ -7,8 +7,8 @@ use mathlib.Core.Path.{_∙_, _≡_, sym}
 use Rattle.model.proofs.CheckLaws.{fault-none}
 use Rattle.semantics.specs.Points.{AtRest}
 use Rattle.semantics.specs.RestTest.{restFault}
-use Rattle.semantics.specs.State.{State}
-use Rattle.reducer.specs.OpenCalls.{atRest, notAtRest, rest, restVerdict, stateOf}
+use Rattle.semantics.specs.State.{State, stateOf}
+use Rattle.reducer.specs.OpenCalls.{atRest, notAtRest, rest, restVerdict}
 use Rattle.reducer.proofs.OpenCallLaws.{rest-promised, rest-refused, rest-tested}
 use Rattle.reducer.proofs.calls.is_probing_fixpoint.Statement.{statement}
 use Rattle.reducer.proofs.calls.is_probing_fixpoint.Tie as tie

@@ -6,11 +6,11 @@ use mathlib.Core.List.{List}
 use mathlib.Core.Path.{_∙_, _≡_, ap, sym}
 use Rattle.semantics.specs.CallChecks.{callFault}
 use Rattle.semantics.specs.Perform.{perform, probed}
-use Rattle.semantics.specs.State.{Call, State, hasTable, hasVariable, kindOf}
+use Rattle.semantics.specs.State.{Call, callOf, hasTable, hasVariable, kindOf, State, stateOf}
 use Rattle.semantics.proofs.Accepted.{accepted}
-use Rattle.reducer.specs.OpenCalls.{callOf, performed, probeAnswer, stateOf}
-use Rattle.reducer.specs.Results.{probingOf}
-use Rattle.reducer.specs.declared.probing.Probing.{Probing}
+use Rattle.reducer.specs.OpenCalls.{performed, probeAnswer}
+use Rattle.probing.specs.Results.{probingOf}
+use Rattle.probing.specs.declared.sides.Probing.{Probing}
 use Rattle.reducer.proofs.OpenCallLaws.{perform-refused, promised-ends, variable-probed}
 use Rattle.reducer.proofs.calls.probe.Statement.{statement}
 use Rattle.reducer.proofs.calls.probe.Tie as tie

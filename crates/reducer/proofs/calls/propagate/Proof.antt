@@ -6,11 +6,11 @@ use mathlib.Core.List.{List, []}
 use mathlib.Core.Path.{_∙_, _≡_, ap, sym}
 use Rattle.semantics.specs.CallChecks.{callFault}
 use Rattle.semantics.specs.Perform.{perform, propagated}
-use Rattle.semantics.specs.State.{Call, State, hasTable, kindOf}
+use Rattle.semantics.specs.State.{Call, callOf, hasTable, kindOf, State, stateOf}
 use Rattle.semantics.proofs.Accepted.{accepted}
-use Rattle.reducer.specs.OpenCalls.{callOf, performed, propagateAnswer, stateOf}
-use Rattle.reducer.specs.Results.{propagationOf}
-use Rattle.reducer.specs.declared.propagation.Propagation.{Propagation}
+use Rattle.reducer.specs.OpenCalls.{performed, propagateAnswer}
+use Rattle.propagation.specs.Results.{propagationOf}
+use Rattle.propagation.specs.declared.Propagation.{Propagation}
 use Rattle.reducer.proofs.OpenCallLaws.{perform-refused, promised-ends, rows-propagated}
 use Rattle.reducer.proofs.calls.propagate.Statement.{statement}
 use Rattle.reducer.proofs.calls.propagate.Tie as tie

@@ -13,10 +13,10 @@ use Rattle.row.specs.Answers.{propagationOutcome}
 use Rattle.row.specs.Propagation.{propagateRow}
 use Rattle.semantics.specs.CallChecks.{callFault}
 use Rattle.semantics.specs.Perform.{Answer, perform, propagatedRow}
-use Rattle.semantics.specs.State.{Call, State, hasRow, hasTable, kindOf}
-use Rattle.reducer.specs.OpenCalls.{callOf, performed, rowAnswer, stateOf}
+use Rattle.semantics.specs.State.{Call, callOf, hasRow, hasTable, kindOf, State, stateOf}
+use Rattle.reducer.specs.OpenCalls.{performed, rowAnswer}
 use Rattle.reducer.proofs.OpenCallLaws.{on-row, perform-refused, promised, row-propagated}
-use Rattle.reducer.proofs.PropagationLoops.{part-is, row-fits, row-length, row-rhs, valid-row}
+use Rattle.propagation.proofs.PropagationLoops.{part-is, row-fits, row-length, row-rhs, valid-row}
 use Rattle.reducer.proofs.calls.propagate_row.Statement.{statement}
 use Rattle.reducer.proofs.calls.propagate_row.Tie as tie
 

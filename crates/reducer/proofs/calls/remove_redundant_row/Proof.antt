@@ -14,10 +14,11 @@ use Rattle.row.specs.Answers.{removalOutcome}
 use Rattle.row.specs.Redundancy.{removeRedundantRow}
 use Rattle.semantics.specs.CallChecks.{callFault}
 use Rattle.semantics.specs.Perform.{Answer, act, perform, removed}
-use Rattle.semantics.specs.State.{Call, State, hasRow, hasTable, kindOf}
-use Rattle.reducer.specs.OpenCalls.{callOf, performed, removeAnswer, stateOf}
-use Rattle.reducer.proofs.OpenCallLaws.{on-row, perform-refused, promised, row-changed, withPart}
-use Rattle.reducer.proofs.PropagationLoops.{part-is, row-fits, row-length, valid-row}
+use Rattle.semantics.specs.State.{Call, callOf, hasRow, hasTable, kindOf, State, stateOf}
+use Rattle.reducer.specs.OpenCalls.{performed, removeAnswer}
+use Rattle.reducer.proofs.OpenCallLaws.{on-row, perform-refused, promised, row-changed}
+use Rattle.step.proofs.StepLaws.{withPart}
+use Rattle.propagation.proofs.PropagationLoops.{part-is, row-fits, row-length, valid-row}
 use Rattle.reducer.proofs.calls.remove_redundant_row.Statement.{statement}
 use Rattle.reducer.proofs.calls.remove_redundant_row.Tie as tie
 

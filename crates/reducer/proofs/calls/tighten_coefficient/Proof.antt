@@ -14,11 +14,12 @@ use Rattle.row.specs.Answers.{tighteningOutcome}
 use Rattle.row.specs.Tightening.{tightenCoefficient}
 use Rattle.semantics.specs.CallChecks.{callFault}
 use Rattle.semantics.specs.Perform.{Answer, act, perform, tightened}
-use Rattle.semantics.specs.State.{Call, State, hasRow, hasTable, hasVariable, kindOf}
+use Rattle.semantics.specs.State.{Call, callOf, hasRow, hasTable, hasVariable, kindOf, State, stateOf}
 use Rattle.semantics.proofs.Accepted.{accepted}
-use Rattle.reducer.specs.OpenCalls.{callOf, performed, tightenAnswer, stateOf}
-use Rattle.reducer.proofs.OpenCallLaws.{on-row, perform-refused, promised, row-changed, withPart}
-use Rattle.reducer.proofs.PropagationLoops.{part-is, row-fits, row-length, valid-row}
+use Rattle.reducer.specs.OpenCalls.{performed, tightenAnswer}
+use Rattle.reducer.proofs.OpenCallLaws.{on-row, perform-refused, promised, row-changed}
+use Rattle.step.proofs.StepLaws.{withPart}
+use Rattle.propagation.proofs.PropagationLoops.{part-is, row-fits, row-length, valid-row}
 use Rattle.reducer.proofs.calls.tighten_coefficient.Statement.{statement}
 use Rattle.reducer.proofs.calls.tighten_coefficient.Tie as tie
 

@@ -6,9 +6,8 @@ use Rattle.model.specs.Checks.{modelFault}
 use Rattle.model.specs.Valid.{ValidModel}
 use Rattle.model.proofs.CheckLaws.{fault-none}
 use Rattle.semantics.specs.CallChecks.{recordChecks}
-use Rattle.semantics.specs.State.{State, kindOf}
+use Rattle.semantics.specs.State.{callOf, kindOf, State, stateOf}
 use Rattle.semantics.proofs.Accepted.{modelFaultOf}
-use Rattle.reducer.specs.OpenCalls.{callOf, stateOf}
 use Rattle.reducer.proofs.OpenCallLaws.{model-refuses, no-table, own-fault}
 use Rattle.reducer.proofs.checks.call_fault.Statement.{statement}
 use Rattle.reducer.proofs.checks.call_fault.Tie as tie

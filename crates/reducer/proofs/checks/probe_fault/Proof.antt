@@ -5,9 +5,8 @@ use mathlib.Core.Path.{_∙_, _≡_, sym}
 use Rattle.model.specs.Valid.{ValidModel}
 use Rattle.model.proofs.CheckLaws.{table-fault-none}
 use Rattle.semantics.specs.CallChecks.{lentTable, recordChecks}
-use Rattle.semantics.specs.State.{State, hasTable, kindOf}
+use Rattle.semantics.specs.State.{callOf, hasTable, kindOf, State, stateOf}
 use Rattle.semantics.proofs.Accepted.{modelFaultOf}
-use Rattle.reducer.specs.OpenCalls.{callOf, stateOf}
 use Rattle.reducer.proofs.OpenCallLaws.{model-refuses, own-fault}
 use Rattle.reducer.proofs.checks.probe_fault.Statement.{statement}
 use Rattle.reducer.proofs.checks.probe_fault.Tie as tie

@@ -1,7 +1,8 @@
 -- `reducer::list::count`: the class names the count that grows. Assumes nothing.
 use borrow.Author.Needs.{needs}
 use Rattle.semantics.specs.Run.{countCall}
-use Rattle.reducer.specs.CallLists.{classIs, countsOf}
+use Rattle.step.specs.Classes.{classIs}
+use Rattle.reducer.specs.CallLists.{countsOf}
 use Rattle.reducer.proofs.list.count.Statement.{statement}
 use Rattle.reducer.proofs.list.count.Tie as tie
 

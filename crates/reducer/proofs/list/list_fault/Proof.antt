@@ -10,7 +10,7 @@ use Rattle.integer.proofs.Tests.{eqb-test, test-false, test-true, told-false, t
 use Rattle.model.specs.Checks.{Check, first, lengthChecks, must, numberChecks, sizeChecks, table, tableByteChecks, tableLengthChecks}
 use Rattle.model.proofs.CheckLaws.{ends, fails, goes, past, stops}
 use Rattle.semantics.specs.CallList.{listChecks, listFault}
-use Rattle.reducer.specs.OpenCalls.{stateOf}
+use Rattle.semantics.specs.State.{stateOf}
 use Rattle.reducer.proofs.list.list_fault.Statement.{statement}
 use Rattle.reducer.proofs.list.list_fault.Tie as tie
 

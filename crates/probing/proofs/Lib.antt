@@ -1,0 +1,4 @@
+pub mod LocalBox
+pub mod ImplicationLoops
+pub mod ProbingLoops
+pub mod RestLaws

@@ -1,0 +1,165 @@
+-- What the functions of a probe need of the definitions: tests of two numbers as the machine has them, a side made by two
+-- stores, what a side's answer says, and what two sides come to.
+use Prim.Native.Nat.{_*_, _+_, _<_, ℕ}
+use borrow.Author.Tests.{eq-eqb, ne-eqb}
+use denote.Enum.Declared.{tagOf}
+use lib.Dec.{T, eqb, eqb→eq}
+use lib.IntN.{pos, ℤ}
+use lib.ListN.{length}
+use lib.Signed.{leZ}
+use mathlib.Core.Bool.{Bool, cond, false, true}
+use mathlib.Core.List.{List, [], _∷_}
+use mathlib.Core.Logic.{_⊎_, inl, inr, ⊎-elim}
+use mathlib.Core.Path.{_∙_, _≡_, ap, ap₂, refl, subst⁻¹, sym}
+use mir.Facts.{toZ-ofZ}
+use mir.Syntax.{Width}
+use mir.Val.{SFits, ofZ, toZ}
+use native.Mathlib.Decide.{ℕ-discrete}
+use native.Mathlib.Omega.{arith}
+use types.Run.{OneOf}
+use Rattle.integer.specs.Order.{eqZ}
+use Rattle.integer.proofs.Parts.{zarith}
+use Rattle.integer.proofs.Reading.{eq-read}
+use Rattle.integer.proofs.Tests.{bool-ext, eqZ→eq, eqb-test, eq→eqZ, true→T}
+use Rattle.model.specs.Box.{NonEmpty, emptyBox, isEmpty, isFree, lower, upper, withBounds}
+use Rattle.model.specs.Valid.{ValidBox, ValidModel}
+use Rattle.model.proofs.BoxLaws.{box-ext, empty-is, free-lower, isEmpty→eq, length-boxOf, lower-boxOf, upper-boxOf}
+use Rattle.model.proofs.BoxLoops.{length-withBounds, lower-withBounds, upper-withBounds, withBounds-other}
+use Rattle.row.proofs.RowLoops.{eqZ-no, eqZ-yes}
+use Rattle.semantics.specs.Probe as semantic
+use Rattle.semantics.specs.Probe.{fix, hull, joinSides, recordTo, sideOf}
+use Rattle.semantics.specs.Propagate.{isNone, propagate}
+use Rattle.semantics.proofs.ProbeLaws.{fix-valid}
+use Rattle.semantics.proofs.PropagateLaws.{propagate-infeasible-iff, propagate-valid}
+use Rattle.probing.specs.Results.{probingOf, reportOf}
+use Rattle.propagation.specs.Results.{propagationOf}
+use Rattle.probing.specs.declared.sides.Probing.the-variants as probing
+use Rattle.probing.specs.declared.sides.Side.{Side}
+use Rattle.propagation.specs.declared.Propagation.{Propagation}
+use Rattle.propagation.specs.declared.Propagation.the-variants.{BudgetSpent, Converged, Infeasible}
+use Rattle.propagation.proofs.Propagation.{the-type}
+
+-- ---- tests of two numbers, from their bits
+
+pub other-bits : (w : Width) (x y : ℤ) → (ofZ w x ≡ ofZ w y → ⊥) → eqZ x y ≡ false
+other-bits w x y h = eqZ-no x y (λ e. h (ap (ofZ w) e))
+
+module _ (w : Width) {x y : ℤ} (f : SFits w x) (g : SFits w y) where
+  pub le-bits : {b : Bool} → leZ (toZ w (ofZ w x)) (toZ w (ofZ w y)) ≡ b → leZ x y ≡ b
+  le-bits t = sym (ap₂ leZ (toZ-ofZ {w = w} f) (toZ-ofZ {w = w} g)) ∙ t
+
+  pub same-bits : ofZ w x ≡ ofZ w y → eqZ x y ≡ true
+  same-bits e = eqZ-yes x y (eq-read w f g e)
+
+  pub eq-bits : eqb (ofZ w x) (ofZ w y) ≡ eqZ x y
+  eq-bits = bool-ext (eqb (ofZ w x) (ofZ w y)) (eqZ x y)
+      (λ t. eq→eqZ x y (eq-read w f g (eqb→eq (ofZ w x) (ofZ w y) t)))
+      (λ t. eqb-test (ofZ w x) (ofZ w y) .1 (ap (ofZ w) (eqZ→eq x y t)))
+
+-- ---- a side, made by two stores
+
+pub fix-stores : (n : ℕ) (B : List ℤ) (k v : ℕ) → length B ≡ 2 * n → k < n → withBounds B k (pos v) (pos v) ≡ fix n B k v
+unfolding fix
+fix-stores n B k v l h =
+    box-ext n _ _ (length-withBounds B k (pos v) (pos v) ∙ l) (length-boxOf n _ _)
+    (λ j q. low j (ℕ-discrete j k) ∙ sym (lower-boxOf n _ _ j q)) (λ j q. high j (ℕ-discrete j k) ∙ sym (upper-boxOf n _ _ j q))
+  where
+    low : (j : ℕ) → Dec (j ≡ k) → lower (withBounds B k (pos v) (pos v)) j ≡ cond (eqb j k) (pos v) (lower B j)
+    low j (yes e) = rw (e, eq-eqb k k refl) (lower-withBounds B k (pos v) (pos v) (omega arith))
+    low j (no e) = rw (ne-eqb j k e) (withBounds-other B k (pos v) (pos v) (2 * j) (omega arith) (omega arith))
+
+    high : (j : ℕ) → Dec (j ≡ k) → upper (withBounds B k (pos v) (pos v)) j ≡ cond (eqb j k) (pos v) (upper B j)
+    high j (yes e) = rw (e, eq-eqb k k refl) (upper-withBounds B k (pos v) (pos v) (omega arith))
+    high j (no e) = rw (ne-eqb j k e) (withBounds-other B k (pos v) (pos v) (2 * j + 1) (omega arith) (omega arith))
+
+-- a box with a free variable is not empty
+free-nonEmpty : (k : ℕ) {n : ℕ} {B : List ℤ} → k < n → T (isFree B k) → (B ≡ emptyBox n) ⊎ NonEmpty n B → NonEmpty n B
+unfolding emptyBox
+free-nonEmpty k {n} {B} h f (inl e) =
+    let l : lower B k ≡ pos 1 = rw e (lower-boxOf n (λ _. pos 1) (λ _. pos 0) k h) in
+    let z : ⊥ = omega (zarith, l, free-lower B k f) in absurd z
+free-nonEmpty k h f (inr p) = p
+
+pub fix-model : (k v : ℕ) {n m : ℕ} {B C R : List ℤ} → ValidModel n m B C R → T (isFree B k) → k < n → v < 2 → ValidModel n m (fix n B k v) C R
+fix-model k v p f h b = record {
+  some = p .some;
+  few = p .few;
+  fewRows = p .fewRows;
+  box = fix-valid k v f b (p .box) (free-nonEmpty k h f (p .box .shape));
+  coefsLen = p .coefsLen;
+  coefs = p .coefs;
+  rhsLen = p .rhsLen;
+  rhs = p .rhs;
+}
+
+-- ---- a side's answer
+
+box-is : (s : Propagation) (S : List ℤ) → propagationOf s S .box ≡ S
+unfolding propagationOf
+box-is (Infeasible p) S = refl
+box-is (Converged p) S = refl
+box-is (BudgetSpent p) S = refl
+
+report-is : (s : Propagation) (S : List ℤ) → sideOf (propagationOf s S) ≡ sideOf (propagationOf s [])
+unfolding propagationOf sideOf
+report-is (Infeasible p) S = refl
+report-is (Converged p) S = refl
+report-is (BudgetSpent p) S = refl
+
+pub is-none : {s : Propagation} {p : ℕ} (S : List ℤ) → s ≡ Infeasible p → isNone (propagationOf s S .ending) ≡ true
+unfolding propagationOf isNone
+is-none S e = ap (λ (s : Propagation). isNone (propagationOf s S .ending)) e
+
+-- what the else of `let Propagation::Infeasible(_) = s else` knows: the tag is another's
+pub is-some : (s : Propagation) (S : List ℤ) → OneOf (1 ∷ 2 ∷ []) (tagOf the-type s) → isNone (propagationOf s S .ending) ≡ false
+unfolding propagationOf isNone
+is-some (Infeasible p) S h =
+    ⊎-elim (λ e. let z : _≡_ {A = ℕ} 0 1 = e in absurd (omega arith)) (λ e. let z : _≡_ {A = ℕ} 0 2 = e in absurd (omega arith)) h
+is-some (Converged p) S h = refl
+is-some (BudgetSpent p) S h = refl
+
+-- a side that was propagated: its box is valid, and empty exactly if the answer is infeasible
+module _ (budget m : ℕ) (C R : List ℤ) {n : ℕ} {B : List ℤ} (h : 0 < n) (v : ValidBox n B) (s : Propagation) (S : List ℤ)
+    (e : propagationOf s S ≡ propagate budget n m C R B) where
+  side-box : S ≡ propagate budget n m C R B .box
+  side-box = sym (box-is s S) ∙ ap (λ r. r .box) e
+
+  pub side-valid : ValidBox n S
+  side-valid = subst⁻¹ (ValidBox n) side-box (propagate-valid m C R budget v)
+
+  pub side-none : isNone (propagationOf s S .ending) ≡ isEmpty n S
+  side-none =
+      let i = propagate-infeasible-iff budget m C R h v in
+      rw (e, side-box)
+      (bool-ext (isNone (propagate budget n m C R B .ending)) (isEmpty n (propagate budget n m C R B .box))
+      (λ t. true→T _ (empty-is n _ (i .0 t))) (λ t. i .1 (isEmpty→eq n _ t)))
+
+-- ---- what two sides come to, by which are infeasible
+
+module _ (n k : ℕ) (B : List ℤ) (t : List ℕ) (s0 s1 : Propagation) (S0 S1 : List ℤ) (r0 r1 : Side)
+    (e0 : reportOf r0 ≡ sideOf (propagationOf s0 [])) (e1 : reportOf r1 ≡ sideOf (propagationOf s1 [])) where
+  abbrev joined : semantic.Probed
+  joined = joinSides n k B t (propagationOf s0 S0) (propagationOf s1 S1)
+
+  abbrev none0 : Bool
+  none0 = isNone (propagationOf s0 S0 .ending)
+
+  abbrev none1 : Bool
+  none1 = isNone (propagationOf s1 S1 .ending)
+
+  pub joins-none : none0 ≡ true → none1 ≡ true → {P : List ℤ} → P ≡ emptyBox n → probingOf (probing.Infeasible r0 r1) P t ≡ joined
+  unfolding joinSides probingOf
+  joins-none p q b = rw (p, q, e0, e1, report-is s0 S0, report-is s1 S1, b) refl
+
+  pub joins-one : none0 ≡ true → none1 ≡ false → {P : List ℤ} → P ≡ S1 → probingOf (probing.Fixed 1 r0 r1) P t ≡ joined
+  unfolding joinSides probingOf
+  joins-one p q b = rw (p, q, e0, e1, report-is s0 S0, report-is s1 S1, box-is s1 S1, b) refl
+
+  pub joins-zero : none0 ≡ false → none1 ≡ true → {P : List ℤ} → P ≡ S0 → probingOf (probing.Fixed 0 r0 r1) P t ≡ joined
+  unfolding joinSides probingOf
+  joins-zero p q b = rw (p, q, e0, e1, report-is s0 S0, report-is s1 S1, box-is s0 S0, b) refl
+
+  pub joins-both : none0 ≡ false → none1 ≡ false → {P : List ℤ} {u : List ℕ} {a : ℕ} → P ≡ hull n S0 S1
+      → (u ≡ recordTo n n k B S0 S1 t .bytes) × (a ≡ recordTo n n k B S0 S1 t .added) → probingOf (probing.BothFeasible a r0 r1) P u ≡ joined
+  unfolding joinSides probingOf
+  joins-both p q b r = rw (p, q, e0, e1, report-is s0 S0, report-is s1 S1, box-is s0 S0, box-is s1 S1, b, r .0, r .1) refl

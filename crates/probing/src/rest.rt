@@ -1,0 +1,108 @@
+// The probing fixpoint (01's rest): a box that no row and no probe carried to its end would change.
+use crate::is_free;
+use crate::sides::copy;
+use crate::sides::greater;
+use crate::sides::lesser;
+use crate::sides::try_side;
+use propagation::MAX_BUDGET;
+use propagation::Propagation;
+use propagation::propagate;
+ghost use mathlib.Core.Path.{_≡_};
+ghost use Prim.Native.Nat.{ℕ, _*_, _<_};
+ghost use lib.Dec.{T};
+ghost use lib.ListN.{length};
+ghost use Rattle.model.specs.Box.{NonEmpty, isFree, sameList};
+ghost use Rattle.model.specs.Valid.{ValidModel};
+ghost use Rattle.semantics.specs.Probe.{hull as hulled};
+ghost use mathlib.Core.List.{[]};
+ghost use Rattle.semantics.specs.Propagate.{isNone};
+ghost use Rattle.propagation.specs.Results.{propagationOf};
+ghost use Rattle.semantics.specs.RestTest.{isFixpoint, isProbingFixpoint, sidesSpan};
+
+// Whether no row moves a bound: one pass over a copy of the box moves nothing.
+fn is_fixpoint(n: usize, m: usize, bounds: &[i32], coefs: &[i32], rhs: &[i32]) -> bool
+    requires { ⌜ ValidModel n m (now bounds) (now coefs) (now rhs) ⌝ }
+    requires { ⌜ NonEmpty n (now bounds) ⌝ }
+    ensures { λ r. ⌜ r ≡ isFixpoint n m (now (coefs .entry)) (now (rhs .entry)) (now (bounds .entry)) ⌝ }
+{
+    let len = bounds.len();
+    let mut box_copy = [0i32; 256];
+    copy(bounds, &mut box_copy[..len]);
+    let Propagation::Converged(_) = propagate(n, m, &mut box_copy[..len], coefs, rhs, 1) else {
+        return false;
+    };
+    true
+}
+
+// Whether the hull of two boxes is the box `bounds`.
+fn hull_is(zero: &[i32], one: &[i32], bounds: &[i32]) -> bool
+    requires { ⌜ length (now zero) ≡ length (now bounds) ⌝ }
+    requires { ⌜ length (now one) ≡ length (now bounds) ⌝ }
+    ensures { λ r. ⌜ ((n : ℕ) → length (now (bounds .entry)) ≡ 2 * n → r ≡ sameList (hulled n (now (zero .entry)) (now (one .entry))) (now (bounds .entry))) ⌝ }
+{
+    let half = bounds.len() / 2;
+    let mut j = 0;
+    while j < half {
+        if lesser(zero[2 * j], one[2 * j]) != bounds[2 * j] {
+            return false;
+        }
+        if greater(zero[2 * j + 1], one[2 * j + 1]) != bounds[2 * j + 1] {
+            return false;
+        }
+        j += 1;
+    }
+    true
+}
+
+fn is_infeasible(p: Propagation) -> bool
+    ensures { λ r. ⌜ r ≡ isNone (propagationOf p [] .ending) ⌝ }
+{
+    let Propagation::Infeasible(_) = p else {
+        return false;
+    };
+    true
+}
+
+// Whether both sides of k, propagated to their end, are not empty and span the box.
+fn sides_span(n: usize, m: usize, bounds: &[i32], coefs: &[i32], rhs: &[i32], k: usize) -> bool
+    requires { ⌜ ValidModel n m (now bounds) (now coefs) (now rhs) ⌝ }
+    requires { ⌜ T (isFree (now bounds) k) ⌝ }
+    requires { ⌜ k < n ⌝ }
+    ensures { λ r. ⌜ r ≡ sidesSpan n m (now (coefs .entry)) (now (rhs .entry)) (now (bounds .entry)) k ⌝ }
+{
+    let len = bounds.len();
+    let mut zero = [0i32; 256];
+    let s0 = try_side(n, m, bounds, coefs, rhs, k, 0, MAX_BUDGET, &mut zero[..len]);
+    if is_infeasible(s0) {
+        return false;
+    }
+    let mut one = [0i32; 256];
+    let s1 = try_side(n, m, bounds, coefs, rhs, k, 1, MAX_BUDGET, &mut one[..len]);
+    if is_infeasible(s1) {
+        return false;
+    }
+    hull_is(&zero[..len], &one[..len], bounds)
+}
+
+// Whether the box of a model that passed the checks is a probing fixpoint.
+pub fn is_probing_fixpoint(n: usize, m: usize, bounds: &[i32], coefs: &[i32], rhs: &[i32]) -> bool
+    requires { ⌜ ValidModel n m (now bounds) (now coefs) (now rhs) ⌝ }
+    ensures { λ r. ⌜ r ≡ isProbingFixpoint n m (now (coefs .entry)) (now (rhs .entry)) (now (bounds .entry)) ⌝ }
+{
+    if model::is_empty(bounds) {
+        return true;
+    }
+    if !is_fixpoint(n, m, bounds, coefs, rhs) {
+        return false;
+    }
+    let mut k = 0;
+    while k < n {
+        if is_free(bounds, k) {
+            if !sides_span(n, m, bounds, coefs, rhs, k) {
+                return false;
+            }
+        }
+        k += 1;
+    }
+    true
+}

@@ -1,0 +1,198 @@
+// Probe a free binary variable (01's probe): propagate with it at 0 and at 1, and keep what both sides say.
+use crate::implications::record_implications;
+use propagation::Propagation;
+use propagation::propagate;
+ghost use mathlib.Core.Path.{_≡_};
+ghost use mathlib.Core.Bool.{_||_, cond};
+ghost use mathlib.Core.List.{[]};
+ghost use mathlib.Core.Logic.{_⊎_};
+ghost use Prim.Native.Nat.{ℕ, _*_, _<_, _≤_};
+ghost use lib.Dec.{T};
+ghost use lib.IntN.{pos};
+ghost use lib.ListN.{length, take};
+ghost use Rattle.integer.specs.Order.{maxZ, minZ};
+ghost use Rattle.model.specs.Box.{isEmpty, isFree};
+ghost use Rattle.model.specs.Valid.{ValidBox, ValidModel, ValidTable};
+ghost use Rattle.semantics.specs.Propagate.{propagate as propagated};
+ghost use Rattle.semantics.specs.Probe.{fix, hull as hulled, joinSides, probe as probed, sideOf};
+ghost use Rattle.propagation.specs.Results.{propagationOf};
+ghost use Rattle.probing.specs.Results.{probingOf, reportOf, Joinable};
+
+// A side's passes, and whether its budget was spent.
+pub struct Side {
+    pub passes: u32,
+    pub spent: bool,
+}
+
+// 01's None; Fixed with the surviving side's value; Both with the number of table bytes that went from 0 to 1.
+pub enum Probing {
+    Infeasible(Side, Side),
+    Fixed(u32, Side, Side),
+    BothFeasible(u32, Side, Side),
+}
+
+// What a side's propagation reports.
+fn side_of(p: Propagation) -> Side
+    ensures { λ r. ⌜ reportOf r ≡ sideOf (propagationOf p []) ⌝ }
+{
+    match p {
+        Propagation::Infeasible(passes) => Side {
+            passes: passes,
+            spent: false,
+        },
+        Propagation::Converged(passes) => Side {
+            passes: passes,
+            spent: false,
+        },
+        Propagation::BudgetSpent(passes) => Side {
+            passes: passes,
+            spent: true,
+        },
+    }
+}
+
+pub fn lesser(x: i32, y: i32) -> i32
+    ensures { λ r. ⌜ r ≡ minZ x y ⌝ }
+{
+    if x <= y { x } else { y }
+}
+
+pub fn greater(x: i32, y: i32) -> i32
+    ensures { λ r. ⌜ r ≡ maxZ x y ⌝ }
+{
+    if x <= y { y } else { x }
+}
+
+// Copies a box over another of the same length.
+pub fn copy(from: &[i32], to: &mut [i32])
+    requires { ⌜ length (now from) ≡ length (now to) ⌝ }
+    ensures { λ _. ⌜ now (to .exit) ≡ now (from .entry) ⌝ }
+{
+    let mut i = 0;
+    while i < from.len() {
+        to[i] = from[i];
+        i += 1;
+    }
+}
+
+// The smallest box that contains both sides.
+fn hull(zero: &[i32], one: &[i32], bounds: &mut [i32])
+    requires { ⌜ length (now zero) ≡ length (now bounds) ⌝ }
+    requires { ⌜ length (now one) ≡ length (now bounds) ⌝ }
+    ensures { λ _. ⌜ ((n : ℕ) → length (now (bounds .entry)) ≡ 2 * n → now (bounds .exit) ≡ hulled n (now (zero .entry)) (now (one .entry))) ⌝ }
+{
+    let half = bounds.len() / 2;
+    let mut j = 0;
+    while j < half {
+        bounds[2 * j] = lesser(zero[2 * j], one[2 * j]);
+        bounds[2 * j + 1] = greater(zero[2 * j + 1], one[2 * j + 1]);
+        j += 1;
+    }
+}
+
+// Side v of k, in the lent buffer: the box with k fixed at v, propagated with the budget.
+pub fn try_side(
+    n: usize,
+    m: usize,
+    bounds: &[i32],
+    coefs: &[i32],
+    rhs: &[i32],
+    k: usize,
+    v: i32,
+    budget: u32,
+    side: &mut [i32],
+) -> Propagation
+    requires { ⌜ ValidModel n m (now bounds) (now coefs) (now rhs) ⌝ }
+    requires { ⌜ T (isFree (now bounds) k) ⌝ }
+    requires { ⌜ k < n ⌝ }
+    requires { ⌜ (v ≡ pos 0) ⊎ (v ≡ pos 1) ⌝ }
+    requires { ⌜ length (now side) ≡ length (now bounds) ⌝ }
+    ensures { λ r. ⌜ ((w : ℕ) → v ≡ pos w → propagationOf r (now (side .exit)) ≡ propagated budget n m (now (coefs .entry)) (now (rhs .entry)) (fix n (now (bounds .entry)) k w)) ⌝ }
+{
+    copy(bounds, side);
+    side[2 * k] = v;
+    side[2 * k + 1] = v;
+    propagate(n, m, side, coefs, rhs, budget)
+}
+
+// Of the two side buffers, the part of the one whose box is not empty, handed on with its lifetime.
+fn survivor<'a>(zero: &'a [i32], one: &'a [i32], len: usize) -> &'a [i32]
+    requires { ⌜ (2 ≤ len) × (len ≤ length (now zero)) × (len ≤ length (now one)) ⌝ }
+    ensures { λ r. ⌜ ((n : ℕ) → 0 < n → ValidBox n (take len (now (zero .entry))) → now r ≡ cond (isEmpty n (take len (now (zero .entry)))) (take len (now (one .entry))) (take len (now (zero .entry)))) ⌝ }
+{
+    if model::is_empty(&zero[..len]) {
+        return &one[..len];
+    }
+    &zero[..len]
+}
+
+// What the two propagated sides come to. A side that is infeasible is set aside before the hull or the fixing.
+fn join<'a>(
+    n: usize,
+    k: usize,
+    s0: Propagation,
+    s1: Propagation,
+    zero: &'a [i32],
+    one: &'a [i32],
+    bounds: &mut [i32],
+    table: &mut [u8],
+) -> Probing
+    requires { ⌜ Joinable n k s0 s1 (now zero) (now one) (now bounds) (now table) ⌝ }
+    ensures { λ r. ⌜ probingOf r (now (bounds .exit)) (now (table .exit)) ≡ joinSides n k (now (bounds .entry)) (now (table .entry)) (propagationOf s0 (take (2 * n) (now (zero .entry)))) (propagationOf s1 (take (2 * n) (now (one .entry)))) ⌝ }
+{
+    let len = bounds.len();
+    let side0 = side_of(s0);
+    let side1 = side_of(s1);
+    let Propagation::Infeasible(_) = s0 else {
+        let Propagation::Infeasible(_) = s1 else {
+            let added = record_implications(n, k, bounds, &zero[..len], &one[..len], table);
+            hull(&zero[..len], &one[..len], bounds);
+            return Probing::BothFeasible(added, side0, side1);
+        };
+        copy(survivor(zero, one, len), bounds);
+        return Probing::Fixed(0, side0, side1);
+    };
+    let Propagation::Infeasible(_) = s1 else {
+        copy(survivor(zero, one, len), bounds);
+        return Probing::Fixed(1, side0, side1);
+    };
+    model::make_empty(bounds);
+    Probing::Infeasible(side0, side1)
+}
+
+// Probes the free binary variable k of a model that passed the checks. The two sides' boxes are working memory of this call.
+pub fn probe(
+    n: usize,
+    m: usize,
+    bounds: &mut [i32],
+    coefs: &[i32],
+    rhs: &[i32],
+    table: &mut [u8],
+    k: usize,
+    budget: u32,
+) -> Probing
+    requires { ⌜ ValidModel n m (now bounds) (now coefs) (now rhs) ⌝ }
+    requires { ⌜ ValidTable n (now table) ⌝ }
+    requires { ⌜ T (isEmpty n (now bounds) || isFree (now bounds) k) ⌝ }
+    requires { ⌜ k < n ⌝ }
+    ensures { λ r. ⌜ probingOf r (now (bounds .exit)) (now (table .exit)) ≡ probed k budget n m (now (coefs .entry)) (now (rhs .entry)) (now (bounds .entry)) (now (table .entry)) ⌝ }
+{
+    if model::is_empty(bounds) {
+        return Probing::Infeasible(
+            Side {
+                passes: 0,
+                spent: false,
+            },
+            Side {
+                passes: 0,
+                spent: false,
+            },
+        );
+    }
+    let len = bounds.len();
+    let mut zero = [0i32; 256];
+    let s0 = try_side(n, m, bounds, coefs, rhs, k, 0, budget, &mut zero[..len]);
+    let mut one = [0i32; 256];
+    let s1 = try_side(n, m, bounds, coefs, rhs, k, 1, budget, &mut one[..len]);
+    join(n, k, s0, s1, &zero, &one, bounds, table)
+}

@@ -1,0 +1,167 @@
+-- What the functions of one call share: when two boxes are the same, and what an accepted call's own rule answered and left, as
+-- the class and the state that the semantics gives it. Assumes nothing.
+use Prim.Native.Nat.{_*_, _+_, _-_, _<_, ℕ}
+use lib.Dec.{T, eqb}
+use lib.IntN.{pos, ℤ}
+use lib.ListN.{drop, length, set, take}
+use lib.Seq.{drop-drop, ext-getD}
+use mathlib.Core.Bool.{_&&_, not}
+use mathlib.Core.List.{List, _++_}
+use mathlib.Core.Logic.{_↔_, ⊎-elim}
+use mathlib.Core.Path.{_∙_, _≡_, ap, refl, sym}
+use native.Mathlib.Omega.{arith}
+use Rattle.integer.proofs.Tests.{decide, eqb-test, neqb→ne, test-false}
+use Rattle.model.specs.Box.{at, sameList}
+use Rattle.model.specs.Point.{rowOf}
+use Rattle.model.proofs.BoxLaws.{sameList-refl, sameList→eq}
+use Rattle.row.specs.Outcome as outcomes
+use Rattle.row.specs.Outcome.{Outcome, isChanged, isInfeasible}
+use Rattle.row.specs.Propagation.{propagateRow}
+use Rattle.row.specs.Redundancy.{removeRedundantRow}
+use Rattle.row.specs.Tightening.{NewRow, tightenCoefficient}
+use Rattle.semantics.specs.CallChecks.{callChecks, callFault, lentChecks, recordChecks, stateChecks}
+use Rattle.semantics.specs.Perform.{Performed, act, perform}
+use Rattle.semantics.specs.Probe.{Probed, probe}
+use Rattle.semantics.specs.Propagate.{isNone, isSpent, propagate}
+use Rattle.semantics.specs.Run.{CallClass, classOf, probeInfeasible, step}
+use Rattle.semantics.specs.State.{Call, State, callOf, hasRow, isOther, kindOf, other, probes, propagates, propagatesRow, removes, splice, stateOf, tightens, withBox, withRow}
+use Rattle.semantics.proofs.CallLaws.{step-accepted}
+use Rattle.semantics.proofs.ClassLaws.{addsNone, classBy, probe-class, remove-class, settle-class, tighten-class, visit-class}
+use Rattle.step.specs.Classes.{outcomeClass, propagationClass}
+use Rattle.propagation.specs.Results.{propagationOf}
+use Rattle.propagation.specs.declared.Propagation.{Propagation}
+use Rattle.propagation.specs.declared.Propagation.the-variants.{Infeasible, Converged, BudgetSpent}
+
+pub same-numbers : (xs ys : List ℤ) → length xs ≡ length ys → T (sameList xs ys) ↔ ((i : ℕ) → i < length xs → at xs i ≡ at ys i)
+same-numbers xs ys e = (
+  (λ t i _. ap (λ (z : List ℤ). at z i) (sameList→eq xs ys t)),
+  (λ h. rw (ext-getD (pos 0) xs ys e h) (sameList-refl ys)),
+)
+
+-- ---- the class that an answer names
+
+outcome-class : (o : Outcome) → outcomeClass o ≡ classBy (isInfeasible o) (not (isChanged o))
+unfolding outcomeClass isInfeasible isChanged
+outcome-class outcomes.infeasible = refl
+outcome-class outcomes.changed = refl
+outcome-class outcomes.unchanged = refl
+
+propagation-class : (p : Propagation) (Q : List ℤ) → let w = propagationOf p Q in
+    propagationClass p ≡ classBy (isNone (w .ending)) (not (isSpent (w .ending)) && eqb (w .passes) 1)
+unfolding propagationClass propagationOf isNone isSpent
+propagation-class (Infeasible p) Q = refl
+propagation-class (Converged p) Q = refl
+propagation-class (BudgetSpent p) Q = refl
+
+propagation-box : (p : Propagation) (Q : List ℤ) → propagationOf p Q .box ≡ Q
+unfolding propagationOf
+propagation-box (Infeasible p) Q = refl
+propagation-box (Converged p) Q = refl
+propagation-box (BudgetSpent p) Q = refl
+
+-- ---- a row that the code was lent a part of
+
+-- the matrix with the numbers A in the part that the code lent of row r
+abbrev pub withPart : List ℤ → ℕ → ℕ → List ℤ → List ℤ
+withPart C r n A = take (r * n) C ++ (A ++ drop (r * n + n - r * n) (drop (r * n) C))
+
+pub part-spliced : (C A : List ℤ) (r n : ℕ) → length A ≡ n → withPart C r n A ≡ splice C A (r * n)
+unfolding splice
+part-spliced C A r n e = let k : r * n + n - r * n ≡ n = omega arith in rw (k, drop-drop n (r * n) C, e)
+
+-- ---- an accepted call
+
+pub kind-other : (k : ℕ) → (k ≡ 1 → ⊥) → (k ≡ 2 → ⊥) → (k ≡ 3 → ⊥) → (k ≡ 4 → ⊥) → (k ≡ 5 → ⊥) → kindOf k ≡ other
+unfolding kindOf
+kind-other k a b c d e = rw (
+  test-false (eqb k 1) (eqb-test k 1) a,
+  test-false (eqb k 2) (eqb-test k 2) b,
+  test-false (eqb k 3) (eqb-test k 3) c,
+  test-false (eqb k 4) (eqb-test k 4) d,
+  test-false (eqb k 5) (eqb-test k 5) e,
+)
+
+-- of no other kind, it is a drop
+pub kind-removes : (k : ℕ) → T (not (isOther (kindOf k))) → (k ≡ 1 → ⊥) → (k ≡ 2 → ⊥) → (k ≡ 3 → ⊥) → (k ≡ 4 → ⊥) → kindOf k ≡ removes
+unfolding isOther kindOf
+kind-removes k t a b c d = ⊎-elim
+    (λ u. rw (eqb-test k 5 .0 u))
+    (λ u. absurd (rw (kind-other k a b c d (neqb→ne k 5 u)) at t))
+    (decide (eqb k 5))
+
+-- a probe's row is not looked at
+row-ignored : (s : State) (row variable budget : ℕ) → perform s (callOf s 3 row variable budget) ≡ perform s (callOf s 3 0 variable budget)
+unfolding perform callFault callChecks stateChecks lentChecks recordChecks act callOf kindOf hasRow
+row-ignored s row variable budget = refl
+
+step-ignored : (s : State) (row variable budget : ℕ) → step s (callOf s 3 row variable budget) ≡ step s (callOf s 3 0 variable budget)
+unfolding step
+step-ignored s row variable budget = ap (λ (p : Performed). p .state) (row-ignored s row variable budget)
+
+module _ (n m : ℕ) (B C R : List ℤ) (t : List ℕ) (kind row variable budget : ℕ) where
+  abbrev s : State
+  s = stateOf n m B C R t
+
+  abbrev call : Call
+  call = callOf s kind row variable budget
+
+  -- the class k and the state r are the call's
+  abbrev pub Ran : CallClass → State → Type 0
+  Ran k r = (k ≡ classOf s call) × (r ≡ step s call)
+
+  module _ (f : callFault s call ≡ 0) {k : CallClass} where
+    pub ran-visit : {o : Outcome} {Q : List ℤ} → kindOf kind ≡ propagatesRow → k ≡ outcomeClass o
+        → let p = propagateRow n (rowOf n C row) (at R row) B in (o ≡ p .outcome) × (Q ≡ p .box) → Ran k (stateOf n m Q C R t)
+    unfolding stateOf callOf act withBox
+    ran-visit {o} {Q} q e h = (
+      e ∙ ap outcomeClass (h .0) ∙ outcome-class _ ∙ sym (visit-class s call f q),
+      sym (step-accepted s call f ∙ rw (q, h .1)),
+    )
+
+    pub ran-settle : (p : Propagation) (Q : List ℤ) → kindOf kind ≡ propagates → k ≡ propagationClass p
+        → propagationOf p Q ≡ propagate budget n m C R B → Ran k (stateOf n m Q C R t)
+    unfolding stateOf callOf act withBox
+    ran-settle p Q q e h = (
+      e ∙ propagation-class p Q ∙ rw h (sym (settle-class s call f q)),
+      sym (step-accepted s call f ∙ rw (q, sym h, propagation-box p Q)),
+    )
+
+    pub ran-probe : (w : Probed) → kindOf kind ≡ probes → k ≡ classBy (probeInfeasible (w .ending)) (addsNone (w .ending) && sameList B (w .box))
+        → w ≡ probe variable budget n m C R B t → Ran k (stateOf n m (w .box) C R (w .table))
+    unfolding stateOf callOf act withBox
+    ran-probe w q e h = (
+      e ∙ rw h (sym (probe-class s call f q)),
+      sym (step-accepted s call f ∙ rw (q, h)),
+    )
+
+    -- p is what the rule of a sharpen or a drop says of the row
+    changed-row : (p : NewRow) {o : Outcome} {A : List ℤ} {b : ℤ} → act (kindOf kind) s call .state ≡ withRow s row (p .coefs) (p .rhs)
+        → classOf s call ≡ classBy (isInfeasible (p .outcome)) (not (isChanged (p .outcome)))
+        → k ≡ outcomeClass o → length A ≡ n → (o ≡ p .outcome) × ((A ≡ p .coefs) × (b ≡ p .rhs))
+        → Ran k (stateOf n m B (withPart C row n A) (set R row b) t)
+    unfolding stateOf callOf withRow
+    changed-row p {o} {A} {b} a d e l h = (
+      e ∙ ap outcomeClass (h .0) ∙ outcome-class _ ∙ sym d,
+      sym (step-accepted s call f ∙ a ∙ rw (part-spliced C A row n l, h .1 .0, h .1 .1)),
+    )
+
+    pub ran-tighten : {o : Outcome} {A : List ℤ} {b : ℤ} → kindOf kind ≡ tightens → k ≡ outcomeClass o → length A ≡ n
+        → let p = tightenCoefficient n (rowOf n C row) (at R row) B variable in (o ≡ p .outcome) × ((A ≡ p .coefs) × (b ≡ p .rhs))
+        → Ran k (stateOf n m B (withPart C row n A) (set R row b) t)
+    unfolding stateOf callOf act
+    ran-tighten q = changed-row (tightenCoefficient n (rowOf n C row) (at R row) B variable) (rw q) (tighten-class s call f q)
+
+    pub ran-remove : {o : Outcome} {A : List ℤ} {b : ℤ} → kindOf kind ≡ removes → k ≡ outcomeClass o → length A ≡ n
+        → let p = removeRedundantRow n (rowOf n C row) (at R row) B in (o ≡ p .outcome) × ((A ≡ p .coefs) × (b ≡ p .rhs))
+        → Ran k (stateOf n m B (withPart C row n A) (set R row b) t)
+    unfolding stateOf callOf act
+    ran-remove q = changed-row (removeRedundantRow n (rowOf n C row) (at R row) B) (rw q) (remove-class s call f q)
+
+  pub ran-probed : {k : CallClass} {r : State} → kind ≡ 3
+      → (k ≡ classOf s (callOf s 3 0 variable budget)) × (r ≡ step s (callOf s 3 0 variable budget)) → Ran k r
+  unfolding classOf
+  ran-probed e h = rw (e, step-ignored s row variable budget, row-ignored s row variable budget) h
+
+  pub fault-probed : kind ≡ 3 → callFault s call ≡ 0 → callFault s (callOf s 3 0 variable budget) ≡ 0
+  unfolding callFault callChecks stateChecks lentChecks recordChecks callOf kindOf hasRow
+  fault-probed e f = rw e at f
