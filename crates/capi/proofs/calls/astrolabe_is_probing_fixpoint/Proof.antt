@@ -1,0 +1,49 @@
+-- `capi::calls::astrolabe_is_probing_fixpoint`: a wrong answer length, or the answer of the open call, written. Assumes nothing.
+use borrow.Author.Needs.{needs}
+use mathlib.Core.List.{[]}
+use Rattle.reducer.specs.OpenCalls.{restVerdict, stateOf}
+use Rattle.semantics.specs.State.{State}
+use Rattle.capi.proofs.ExportLaws.{rest-refused, rest-replied}
+use Rattle.capi.proofs.calls.astrolabe_is_probing_fixpoint.Statement.{statement}
+use Rattle.capi.proofs.calls.astrolabe_is_probing_fixpoint.Tie as tie
+
+abbrev before : tie.Start → State
+before s = stateOf (s .args .n) (s .args .m) (s .args .bounds .now) (s .args .coefs .now) (s .args .rhs .now) []
+
+answer-fault-requires : tie.Need-answer-fault-requires
+answer-fault-requires c κs = search needs
+
+returns : tie.Need-returns
+unfolding stateOf
+returns c = let s = c .before .before .before in rest-refused (s .args .answer .now) (before s) (c .before .if1 .taken) (c .answer-fault .ensures)
+
+is-probing-fixpoint-requires : tie.Need-is-probing-fixpoint-requires
+is-probing-fixpoint-requires c κs = search needs
+
+rest-reply-requires : tie.Need-rest-reply-requires
+rest-reply-requires c κs = search needs
+
+put-requires : tie.Need-put-requires
+put-requires c κs = search needs
+
+same-length : tie.Need-same-length
+same-length c = search needs
+
+returns-2 : tie.Need-returns-2
+returns-2 c =
+    let p = c .before .before .before .before .before in
+    let s = p .before .before .before in
+    rest-replied (s .args .answer .now) (before s) (restVerdict (p .is-probing-fixpoint .result)) (p .before .if1 .left) (c .before .before .put .ensures) (c .before .before .before .before .rest-reply .ensures)
+    (p .is-probing-fixpoint .ensures .0)
+
+pub astrolabe-is-probing-fixpoint-spec : {M : Type 1} → statement M
+astrolabe-is-probing-fixpoint-spec =
+    tie.close
+    (tie.spec
+    answer-fault-requires
+    returns
+    is-probing-fixpoint-requires
+    rest-reply-requires
+    put-requires
+    same-length
+    returns-2)

@@ -1,0 +1,86 @@
+-- The calls of the C interface: what each returns, and every lent buffer afterwards. Each is the open call of its name behind one
+-- check more, the length of the answer buffer A. "A wrong answer length is check 5, with the other lengths": so what comes before 5
+-- still comes first, and nothing else is done.
+use Prim.Native.Nat.{ℕ}
+use lib.Dec.{eqb, leb}
+use lib.IntN.{ℤ}
+use lib.ListN.{length}
+use mathlib.Core.Bool.{cond, false}
+use mathlib.Core.List.{List, [], _++_, _∷_}
+use Rattle.book.specs.Answers.{boundsRead, coefsRead, readCall, rhsRead, trailerCall}
+use Rattle.book.specs.BookChecks.{headChecks}
+use Rattle.model.specs.Checks.{Check, first, must, sizeChecks}
+use Rattle.reducer.specs.OpenCalls.{callOf, rest}
+use Rattle.rounds.specs.Rounds.{runRounds}
+use Rattle.semantics.specs.CallList.{runList}
+use Rattle.semantics.specs.Perform.{perform}
+use Rattle.semantics.specs.Run.{run}
+use Rattle.semantics.specs.State.{State}
+use Rattle.capi.specs.Replies.{bookReply, callReply, listReply, restReply, returned, roundsReply, written}
+use Rattle.capi.specs.declared.reply.Reply.{Reply}
+
+-- the answer buffer "must be exactly 6 long (else refused by 5, nothing written)"
+abbrev pub answerLength : ℕ
+answerLength = 6
+
+-- the number that a wrong answer length is refused by: of the checks that come before 5 the first that fails, else 5
+unfoldable pub wrongLength : List Check → ℕ
+wrongLength before = first (before ++ (must false 5 ∷ []))
+
+-- ---- calls on a model
+
+-- what a call returns, and the answer and the state that it leaves
+pub record Exported : Type 0 where
+  pub returned : ℕ
+  pub answer : List ℕ
+  pub state : State
+
+unfoldable pub exported : ℕ → List ℕ → State → Exported
+exported number A s = record { returned = number; answer = A; state = s }
+
+-- a call on the state s that replies q and leaves r; "3 comes first"
+unfoldable pub answered : List ℕ → State → Reply → State → Exported
+answered A s q r =
+    cond (eqb (length A) answerLength) (exported (returned q) (written q A) r) (exported (wrongLength (sizeChecks (s .n) (s .m))) A s)
+
+-- one of the five calls: kind, row, variable, budget
+unfoldable pub callExport : List ℕ → State → ℕ → ℕ → ℕ → ℕ → Exported
+callExport A s kind row variable budget =
+    let p = perform s (callOf s kind row variable budget) in answered A s (callReply (p .answer)) (p .state)
+
+unfoldable pub restExport : List ℕ → State → Exported
+restExport A s = answered A s (restReply (rest s)) s
+
+-- a flat list of numbers, four to a record
+unfoldable pub listExport : List ℕ → State → List ℕ → Exported
+listExport A s calls = let p = runList s calls in answered A s (listReply (p .answer)) (p .state)
+
+unfoldable pub roundsExport : List ℕ → State → ℕ → Exported
+roundsExport A s limit = let p = runRounds limit s in answered A s (roundsReply (p .answer)) (run s (p .calls))
+
+-- ---- books
+
+-- what a call on a book returns, and the answer that it leaves
+pub record BookExported : Type 0 where
+  pub returned : ℕ
+  pub answer : List ℕ
+
+unfoldable pub bookExported : ℕ → List ℕ → BookExported
+bookExported number A = record { returned = number; answer = A }
+
+-- `before` are the checks that come before the lengths
+unfoldable pub bookAnswered : List ℕ → List Check → Reply → BookExported
+bookAnswered A before q =
+    cond (eqb (length A) answerLength) (bookExported (returned q) (written q A)) (bookExported (wrongLength before) A)
+
+-- "in `book_trailer` after 1 and before 3"
+unfoldable pub trailerExport : List ℕ → List ℕ → BookExported
+trailerExport A bytes = bookAnswered A (must (leb 16 (length bytes)) 1 ∷ []) (bookReply (trailerCall bytes))
+
+-- "in `book_read` after 1 to 4"
+unfoldable pub readExport : List ℕ → List ℕ → List ℤ → List ℤ → List ℤ → BookExported
+readExport A book B C R = bookAnswered A (headChecks book) (bookReply (readCall book B C R))
+
+-- a buffer that was `before` and that an accepted reading leaves as `after`
+unfoldable pub lentTo : List ℕ → List ℤ → List ℤ → List ℤ
+lentTo A before after = cond (eqb (length A) answerLength) after before

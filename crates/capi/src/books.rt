@@ -1,0 +1,88 @@
+// The calls on books.
+use crate::answers::sizes_reply;
+use crate::reply::ANSWER;
+use crate::reply::put;
+use book::reading::read;
+use book::trailer::SizesAnswer;
+use book::trailer::trailer;
+use book::writing::WriteAnswer;
+use book::writing::write;
+ghost use mathlib.Core.Path.{_≡_};
+ghost use Rattle.book.specs.Answers.{bookWritten, boundsRead, coefsRead, rhsRead, writeAnswer, writeCall};
+ghost use Rattle.book.specs.Book.{model};
+ghost use Rattle.book.specs.BookChecks.{headChecks};
+ghost use Rattle.capi.specs.Exports.{bookExported, lentTo, readExport, trailerExport, wrongLength};
+ghost use Rattle.capi.specs.Replies.{bookReply, returned};
+
+// n and m of the 16 trailer bytes alone: {n, m}. Refused by 1, 5, 3, 4, in this order.
+#[no_mangle]
+pub extern "C" fn astrolabe_book_trailer(bytes: &[u8], answer: &mut [u64]) -> u32
+    ensures { λ r. ⌜ bookExported r (now (answer .exit)) ≡ trailerExport (now (answer .entry)) (now (bytes .entry)) ⌝ }
+{
+    if answer.len() != ANSWER {
+        if bytes.len() < 16 {
+            return 1;
+        }
+        return 5;
+    }
+    put(sizes_reply(trailer(bytes)), answer)
+}
+
+// The number by which reading refuses an answer buffer of a wrong length: 1 to 4, else 5. It is the number that buffers of length 0
+// are refused by, since every book has a variable.
+fn read_fault(book: &[u8]) -> u32
+    ensures { λ r. ⌜ r ≡ wrongLength (headChecks (now (book .entry))) ⌝ }
+{
+    let mut bounds = [0i32; 1];
+    let mut coefs = [0i32; 1];
+    let mut rhs = [0i32; 1];
+    match read(book, &mut bounds[..0], &mut coefs[..0], &mut rhs[..0]) {
+        SizesAnswer::Refused(number) => number,
+        SizesAnswer::Sizes { n: _, m: _ } => 5,
+    }
+}
+
+// Reads a book into lent buffers: {n, m}. Refused by 1 to 9.
+#[no_mangle]
+pub extern "C" fn astrolabe_book_read(
+    book: &[u8],
+    bounds: &mut [i32],
+    coefs: &mut [i32],
+    rhs: &mut [i32],
+    answer: &mut [u64],
+) -> u32
+    ensures answered { λ r. ⌜ bookExported r (now (answer .exit)) ≡ readExport (now (answer .entry)) (now (book .entry)) (now (bounds .entry)) (now (coefs .entry)) (now (rhs .entry)) ⌝ }
+    ensures bounds_read { λ r. ⌜ now (bounds .exit) ≡ lentTo (now (answer .entry)) (now (bounds .entry)) (boundsRead (now (book .entry)) (now (bounds .entry)) (now (coefs .entry)) (now (rhs .entry))) ⌝ }
+    ensures coefs_read { λ r. ⌜ now (coefs .exit) ≡ lentTo (now (answer .entry)) (now (coefs .entry)) (coefsRead (now (book .entry)) (now (bounds .entry)) (now (coefs .entry)) (now (rhs .entry))) ⌝ }
+    ensures rhs_read { λ r. ⌜ now (rhs .exit) ≡ lentTo (now (answer .entry)) (now (rhs .entry)) (rhsRead (now (book .entry)) (now (bounds .entry)) (now (coefs .entry)) (now (rhs .entry))) ⌝ }
+{
+    if answer.len() != ANSWER {
+        return read_fault(book);
+    }
+    put(sizes_reply(read(book, bounds, coefs, rhs)), answer)
+}
+
+fn write_number(a: WriteAnswer) -> u32
+    ensures { λ r. ⌜ r ≡ returned (bookReply (writeAnswer a)) ⌝ }
+{
+    match a {
+        WriteAnswer::Refused(number) => number,
+        WriteAnswer::Written => 0,
+    }
+}
+
+// Writes a model as a book; the number says all. Refused by 3, 5 to 9.
+#[no_mangle]
+pub extern "C" fn astrolabe_book_write(
+    n: usize,
+    m: usize,
+    bounds: &[i32],
+    coefs: &[i32],
+    rhs: &[i32],
+    book: &mut [u8],
+) -> u32
+    ensures number { λ r. ⌜ r ≡ returned (bookReply (writeCall (model n m (now (bounds .entry)) (now (coefs .entry)) (now (rhs .entry))) (now (book .entry)))) ⌝ }
+    ensures book_written { λ r. ⌜ now (book .exit) ≡ bookWritten (model n m (now (bounds .entry)) (now (coefs .entry)) (now (rhs .entry))) (now (book .entry)) ⌝ }
+{
+    write_number(write(n, m, bounds, coefs, rhs, book))
+}

@@ -1,0 +1,202 @@
+// The calls on a model in memory.
+use crate::answers::probe_reply;
+use crate::answers::propagate_reply;
+use crate::answers::remove_reply;
+use crate::answers::rest_reply;
+use crate::answers::rounds_reply;
+use crate::answers::row_reply;
+use crate::answers::run_reply;
+use crate::answers::tighten_reply;
+use crate::reply::ANSWER;
+use crate::reply::answer_fault;
+use crate::reply::put;
+use reducer::calls::is_probing_fixpoint;
+use reducer::calls::probe;
+use reducer::calls::propagate;
+use reducer::calls::propagate_row;
+use reducer::calls::remove_redundant_row;
+use reducer::calls::tighten_coefficient;
+ghost use mathlib.Core.List.{[]};
+ghost use mathlib.Core.Path.{_≡_};
+ghost use Rattle.reducer.specs.OpenCalls.{stateOf};
+ghost use Rattle.capi.specs.Exports.{callExport, exported, listExport, restExport, roundsExport};
+
+// 01's visit: {0 None | 1 Narrowed | 2 Same}. Refused by 3, 5 to 9, 12.
+#[no_mangle]
+pub extern "C" fn astrolabe_propagate_row(
+    n: usize,
+    m: usize,
+    bounds: &mut [i32],
+    coefs: &[i32],
+    rhs: &[i32],
+    row: u32,
+    answer: &mut [u64],
+) -> u32
+    ensures { λ r. ⌜ exported r (now (answer .exit)) (stateOf n m (now (bounds .exit)) (now (coefs .entry)) (now (rhs .entry)) []) ≡ callExport (now (answer .entry)) (stateOf n m (now (bounds .entry)) (now (coefs .entry)) (now (rhs .entry)) []) 1 row 0 0 ⌝ }
+{
+    if answer.len() != ANSWER {
+        return answer_fault(n, m);
+    }
+    put(
+        row_reply(propagate_row(n, m, bounds, coefs, rhs, row)),
+        answer,
+    )
+}
+
+// 01's settle: {0 None | 1 Settled | 2 Spent, passes}. Refused by 3, 5 to 9, 15.
+#[no_mangle]
+pub extern "C" fn astrolabe_propagate(
+    n: usize,
+    m: usize,
+    bounds: &mut [i32],
+    coefs: &[i32],
+    rhs: &[i32],
+    budget: u32,
+    answer: &mut [u64],
+) -> u32
+    ensures { λ r. ⌜ exported r (now (answer .exit)) (stateOf n m (now (bounds .exit)) (now (coefs .entry)) (now (rhs .entry)) []) ≡ callExport (now (answer .entry)) (stateOf n m (now (bounds .entry)) (now (coefs .entry)) (now (rhs .entry)) []) 2 0 0 budget ⌝ }
+{
+    if answer.len() != ANSWER {
+        return answer_fault(n, m);
+    }
+    put(
+        propagate_reply(propagate(n, m, bounds, coefs, rhs, budget)),
+        answer,
+    )
+}
+
+// 01's probe: {0 None | 1 Fixed | 2 Both, v or new bytes, passes0, spent0, passes1, spent1}. Refused by 3, 5 to 10, 13 to 15.
+#[no_mangle]
+pub extern "C" fn astrolabe_probe(
+    n: usize,
+    m: usize,
+    bounds: &mut [i32],
+    coefs: &[i32],
+    rhs: &[i32],
+    table: &mut [u8],
+    variable: u32,
+    budget: u32,
+    answer: &mut [u64],
+) -> u32
+    ensures { λ r. ⌜ exported r (now (answer .exit)) (stateOf n m (now (bounds .exit)) (now (coefs .entry)) (now (rhs .entry)) (now (table .exit))) ≡ callExport (now (answer .entry)) (stateOf n m (now (bounds .entry)) (now (coefs .entry)) (now (rhs .entry)) (now (table .entry))) 3 0 variable budget ⌝ }
+{
+    if answer.len() != ANSWER {
+        return answer_fault(n, m);
+    }
+    put(
+        probe_reply(probe(n, m, bounds, coefs, rhs, table, variable, budget)),
+        answer,
+    )
+}
+
+// 01's sharpen: {0 None | 1 Sharpened | 2 Same}. Refused by 3, 5 to 9, 12 to 14.
+#[no_mangle]
+pub extern "C" fn astrolabe_tighten_coefficient(
+    n: usize,
+    m: usize,
+    bounds: &[i32],
+    coefs: &mut [i32],
+    rhs: &mut [i32],
+    row: u32,
+    variable: u32,
+    answer: &mut [u64],
+) -> u32
+    ensures { λ r. ⌜ exported r (now (answer .exit)) (stateOf n m (now (bounds .entry)) (now (coefs .exit)) (now (rhs .exit)) []) ≡ callExport (now (answer .entry)) (stateOf n m (now (bounds .entry)) (now (coefs .entry)) (now (rhs .entry)) []) 4 row variable 0 ⌝ }
+{
+    if answer.len() != ANSWER {
+        return answer_fault(n, m);
+    }
+    put(
+        tighten_reply(tighten_coefficient(n, m, bounds, coefs, rhs, row, variable)),
+        answer,
+    )
+}
+
+// 01's drop: {0 None | 1 Dropped | 2 Same}. Refused by 3, 5 to 9, 12.
+#[no_mangle]
+pub extern "C" fn astrolabe_remove_redundant_row(
+    n: usize,
+    m: usize,
+    bounds: &[i32],
+    coefs: &mut [i32],
+    rhs: &mut [i32],
+    row: u32,
+    answer: &mut [u64],
+) -> u32
+    ensures { λ r. ⌜ exported r (now (answer .exit)) (stateOf n m (now (bounds .entry)) (now (coefs .exit)) (now (rhs .exit)) []) ≡ callExport (now (answer .entry)) (stateOf n m (now (bounds .entry)) (now (coefs .entry)) (now (rhs .entry)) []) 5 row 0 0 ⌝ }
+{
+    if answer.len() != ANSWER {
+        return answer_fault(n, m);
+    }
+    put(
+        remove_reply(remove_redundant_row(n, m, bounds, coefs, rhs, row)),
+        answer,
+    )
+}
+
+// 01's rest call: {0 no | 1 yes}. Refused by 3, 5 to 9.
+#[no_mangle]
+pub extern "C" fn astrolabe_is_probing_fixpoint(
+    n: usize,
+    m: usize,
+    bounds: &[i32],
+    coefs: &[i32],
+    rhs: &[i32],
+    answer: &mut [u64],
+) -> u32
+    ensures { λ r. ⌜ exported r (now (answer .exit)) (stateOf n m (now (bounds .entry)) (now (coefs .entry)) (now (rhs .entry)) []) ≡ restExport (now (answer .entry)) (stateOf n m (now (bounds .entry)) (now (coefs .entry)) (now (rhs .entry)) []) ⌝ }
+{
+    if answer.len() != ANSWER {
+        return answer_fault(n, m);
+    }
+    put(
+        rest_reply(is_probing_fixpoint(n, m, bounds, coefs, rhs)),
+        answer,
+    )
+}
+
+// 01's run sheet, four numbers to a record: {refused, none, changed, unchanged}. Refused as a whole by 3, 5 to 10.
+#[no_mangle]
+pub extern "C" fn astrolabe_run(
+    n: usize,
+    m: usize,
+    bounds: &mut [i32],
+    coefs: &mut [i32],
+    rhs: &mut [i32],
+    table: &mut [u8],
+    calls: &[u32],
+    answer: &mut [u64],
+) -> u32
+    ensures { λ r. ⌜ exported r (now (answer .exit)) (stateOf n m (now (bounds .exit)) (now (coefs .exit)) (now (rhs .exit)) (now (table .exit))) ≡ listExport (now (answer .entry)) (stateOf n m (now (bounds .entry)) (now (coefs .entry)) (now (rhs .entry)) (now (table .entry))) (now (calls .entry)) ⌝ }
+{
+    if answer.len() != ANSWER {
+        return answer_fault(n, m);
+    }
+    put(
+        run_reply(reducer::list::run(n, m, bounds, coefs, rhs, table, calls)),
+        answer,
+    )
+}
+
+// The rounds of `reduce`: {0 None | 1 nothing changed | 2 at the limit, rounds}. Refused by 3, 5 to 10.
+#[no_mangle]
+pub extern "C" fn astrolabe_rounds(
+    n: usize,
+    m: usize,
+    bounds: &mut [i32],
+    coefs: &mut [i32],
+    rhs: &mut [i32],
+    table: &mut [u8],
+    limit: u32,
+    answer: &mut [u64],
+) -> u32
+    ensures { λ r. ⌜ exported r (now (answer .exit)) (stateOf n m (now (bounds .exit)) (now (coefs .exit)) (now (rhs .exit)) (now (table .exit))) ≡ roundsExport (now (answer .entry)) (stateOf n m (now (bounds .entry)) (now (coefs .entry)) (now (rhs .entry)) (now (table .entry))) limit ⌝ }
+{
+    if answer.len() != ANSWER {
+        return answer_fault(n, m);
+    }
+    put(
+        rounds_reply(rounds::run(n, m, bounds, coefs, rhs, table, limit)),
+        answer,
+    )
+}
