@@ -79,6 +79,18 @@ fn count(value: u64) -> u32 {
     u32::try_from(value).expect("a count is at most the limit given")
 }
 
+/// An answer that is one of three cases with a count.
+fn counted<T>([case, value, ..]: Places, cases: [fn(u32) -> T; 3]) -> T {
+    let [first, second, third] = cases;
+    let make = match case {
+        0 => first,
+        1 => second,
+        2 => third,
+        case => no_such_case(case),
+    };
+    make(count(value))
+}
+
 impl From<Places> for Outcome {
     fn from(places: Places) -> Self {
         match places[0] {
@@ -92,13 +104,14 @@ impl From<Places> for Outcome {
 
 impl From<Places> for Propagation {
     fn from(places: Places) -> Self {
-        let passes = count(places[1]);
-        match places[0] {
-            0 => Propagation::Infeasible { passes },
-            1 => Propagation::Converged { passes },
-            2 => Propagation::BudgetSpent { passes },
-            case => no_such_case(case),
-        }
+        counted(
+            places,
+            [
+                |passes| Propagation::Infeasible { passes },
+                |passes| Propagation::Converged { passes },
+                |passes| Propagation::BudgetSpent { passes },
+            ],
+        )
     }
 }
 
@@ -123,12 +136,13 @@ impl From<Places> for Counts {
 
 impl From<Places> for Rounds {
     fn from(places: Places) -> Self {
-        let rounds = count(places[1]);
-        match places[0] {
-            0 => Rounds::Infeasible { rounds },
-            1 => Rounds::Unchanged { rounds },
-            2 => Rounds::LimitReached { rounds },
-            case => no_such_case(case),
-        }
+        counted(
+            places,
+            [
+                |rounds| Rounds::Infeasible { rounds },
+                |rounds| Rounds::Unchanged { rounds },
+                |rounds| Rounds::LimitReached { rounds },
+            ],
+        )
     }
 }

@@ -69,6 +69,31 @@ fn answered<T: From<Places>>(call: impl FnOnce(*mut u64, usize) -> u32) -> Resul
     Ok(T::from(answer))
 }
 
+/// Makes a call on a model with a full answer: n, m, its bounds, coefficients and right-hand sides, each
+/// as a pointer (`as_ptr`, or `as_mut_ptr` where the call writes) and a count, then what else it takes.
+macro_rules! call {
+    ($model:ident.$function:ident, $bounds:ident, $rows:ident $(, $more:expr)*) => {
+        answered(|answer, answer_len| {
+            // SAFETY: the pointers and counts are those of slices, no two of which overlap.
+            unsafe {
+                ffi::$function(
+                    $model.n,
+                    $model.m,
+                    $model.bounds.$bounds(),
+                    $model.bounds.len(),
+                    $model.coefs.$rows(),
+                    $model.coefs.len(),
+                    $model.rhs.$rows(),
+                    $model.rhs.len(),
+                    $($more,)*
+                    answer,
+                    answer_len,
+                )
+            }
+        })
+    };
+}
+
 /// n and m of a book, from the 16 bytes of its trailer: what a reader of files needs first.
 ///
 /// ```
@@ -243,24 +268,7 @@ impl Model {
     /// # Ok::<(), astrolabe::Refusal>(())
     /// ```
     pub fn propagate_row(&mut self, row: u32) -> Result<Outcome, Refusal> {
-        answered(|answer, answer_len| {
-            // SAFETY: the pointers and counts are those of slices, no two of which overlap.
-            unsafe {
-                ffi::astrolabe_propagate_row(
-                    self.n,
-                    self.m,
-                    self.bounds.as_mut_ptr(),
-                    self.bounds.len(),
-                    self.coefs.as_ptr(),
-                    self.coefs.len(),
-                    self.rhs.as_ptr(),
-                    self.rhs.len(),
-                    row,
-                    answer,
-                    answer_len,
-                )
-            }
-        })
+        call!(self.astrolabe_propagate_row, as_mut_ptr, as_ptr, row)
     }
 
     /// Propagates all rows, pass after pass, until nothing moves or the budget is spent (01's settle).
@@ -274,24 +282,7 @@ impl Model {
     /// # Ok::<(), astrolabe::Refusal>(())
     /// ```
     pub fn propagate(&mut self, budget: u32) -> Result<Propagation, Refusal> {
-        answered(|answer, answer_len| {
-            // SAFETY: the pointers and counts are those of slices, no two of which overlap.
-            unsafe {
-                ffi::astrolabe_propagate(
-                    self.n,
-                    self.m,
-                    self.bounds.as_mut_ptr(),
-                    self.bounds.len(),
-                    self.coefs.as_ptr(),
-                    self.coefs.len(),
-                    self.rhs.as_ptr(),
-                    self.rhs.len(),
-                    budget,
-                    answer,
-                    answer_len,
-                )
-            }
-        })
+        call!(self.astrolabe_propagate, as_mut_ptr, as_ptr, budget)
     }
 
     /// Probes a free binary variable: sets it to 0 and to 1, propagates each side, keeps what both have
@@ -312,27 +303,15 @@ impl Model {
     /// # Ok::<(), astrolabe::Refusal>(())
     /// ```
     pub fn probe(&mut self, variable: u32, budget: u32) -> Result<Probe, Refusal> {
-        answered(|answer, answer_len| {
-            // SAFETY: the pointers and counts are those of slices, no two of which overlap.
-            unsafe {
-                ffi::astrolabe_probe(
-                    self.n,
-                    self.m,
-                    self.bounds.as_mut_ptr(),
-                    self.bounds.len(),
-                    self.coefs.as_ptr(),
-                    self.coefs.len(),
-                    self.rhs.as_ptr(),
-                    self.rhs.len(),
-                    self.table.as_mut_ptr(),
-                    self.table.len(),
-                    variable,
-                    budget,
-                    answer,
-                    answer_len,
-                )
-            }
-        })
+        call!(
+            self.astrolabe_probe,
+            as_mut_ptr,
+            as_ptr,
+            self.table.as_mut_ptr(),
+            self.table.len(),
+            variable,
+            budget
+        )
     }
 
     /// Tightens the coefficient of a free binary variable in a row (01's sharpen). The row then holds
@@ -347,25 +326,7 @@ impl Model {
     /// # Ok::<(), astrolabe::Refusal>(())
     /// ```
     pub fn tighten_coefficient(&mut self, row: u32, variable: u32) -> Result<Outcome, Refusal> {
-        answered(|answer, answer_len| {
-            // SAFETY: the pointers and counts are those of slices, no two of which overlap.
-            unsafe {
-                ffi::astrolabe_tighten_coefficient(
-                    self.n,
-                    self.m,
-                    self.bounds.as_ptr(),
-                    self.bounds.len(),
-                    self.coefs.as_mut_ptr(),
-                    self.coefs.len(),
-                    self.rhs.as_mut_ptr(),
-                    self.rhs.len(),
-                    row,
-                    variable,
-                    answer,
-                    answer_len,
-                )
-            }
-        })
+        call!(self.astrolabe_tighten_coefficient, as_ptr, as_mut_ptr, row, variable)
     }
 
     /// Zeroes a row that the box alone implies (01's drop). It is gone for this box and those inside it
@@ -380,24 +341,7 @@ impl Model {
     /// # Ok::<(), astrolabe::Refusal>(())
     /// ```
     pub fn remove_redundant_row(&mut self, row: u32) -> Result<Outcome, Refusal> {
-        answered(|answer, answer_len| {
-            // SAFETY: the pointers and counts are those of slices, no two of which overlap.
-            unsafe {
-                ffi::astrolabe_remove_redundant_row(
-                    self.n,
-                    self.m,
-                    self.bounds.as_ptr(),
-                    self.bounds.len(),
-                    self.coefs.as_mut_ptr(),
-                    self.coefs.len(),
-                    self.rhs.as_mut_ptr(),
-                    self.rhs.len(),
-                    row,
-                    answer,
-                    answer_len,
-                )
-            }
-        })
+        call!(self.astrolabe_remove_redundant_row, as_ptr, as_mut_ptr, row)
     }
 
     /// Whether the box is a probing fixpoint (01's at rest): it is empty, or no row and no probe carried
@@ -411,23 +355,7 @@ impl Model {
     /// # Ok::<(), astrolabe::Refusal>(())
     /// ```
     pub fn is_probing_fixpoint(&self) -> Result<bool, Refusal> {
-        let places: Places = answered(|answer, answer_len| {
-            // SAFETY: the pointers and counts are those of slices, no two of which overlap.
-            unsafe {
-                ffi::astrolabe_is_probing_fixpoint(
-                    self.n,
-                    self.m,
-                    self.bounds.as_ptr(),
-                    self.bounds.len(),
-                    self.coefs.as_ptr(),
-                    self.coefs.len(),
-                    self.rhs.as_ptr(),
-                    self.rhs.len(),
-                    answer,
-                    answer_len,
-                )
-            }
-        })?;
+        let places: Places = call!(self.astrolabe_is_probing_fixpoint, as_ptr, as_ptr)?;
         Ok(places[0] == 1)
     }
 
@@ -444,28 +372,16 @@ impl Model {
     /// # Ok::<(), astrolabe::Refusal>(())
     /// ```
     pub fn run(&mut self, calls: &[Call]) -> Result<Counts, Refusal> {
-        answered(|answer, answer_len| {
-            // SAFETY: the pointers and counts are those of slices, no two of which overlap; a Call is
-            // four u32 in a row, so n of them are 4n numbers.
-            unsafe {
-                ffi::astrolabe_run(
-                    self.n,
-                    self.m,
-                    self.bounds.as_mut_ptr(),
-                    self.bounds.len(),
-                    self.coefs.as_mut_ptr(),
-                    self.coefs.len(),
-                    self.rhs.as_mut_ptr(),
-                    self.rhs.len(),
-                    self.table.as_mut_ptr(),
-                    self.table.len(),
-                    calls.as_ptr().cast(),
-                    4 * calls.len(),
-                    answer,
-                    answer_len,
-                )
-            }
-        })
+        // A Call is four u32 in a row, so k of them are 4k numbers.
+        call!(
+            self.astrolabe_run,
+            as_mut_ptr,
+            as_mut_ptr,
+            self.table.as_mut_ptr(),
+            self.table.len(),
+            calls.as_ptr().cast(),
+            4 * calls.len()
+        )
     }
 
     /// Makes the rounds of the program `reduce`: propagate, remove redundant rows, tighten, probe; until
@@ -480,25 +396,13 @@ impl Model {
     /// # Ok::<(), astrolabe::Refusal>(())
     /// ```
     pub fn rounds(&mut self, limit: u32) -> Result<Rounds, Refusal> {
-        answered(|answer, answer_len| {
-            // SAFETY: the pointers and counts are those of slices, no two of which overlap.
-            unsafe {
-                ffi::astrolabe_rounds(
-                    self.n,
-                    self.m,
-                    self.bounds.as_mut_ptr(),
-                    self.bounds.len(),
-                    self.coefs.as_mut_ptr(),
-                    self.coefs.len(),
-                    self.rhs.as_mut_ptr(),
-                    self.rhs.len(),
-                    self.table.as_mut_ptr(),
-                    self.table.len(),
-                    limit,
-                    answer,
-                    answer_len,
-                )
-            }
-        })
+        call!(
+            self.astrolabe_rounds,
+            as_mut_ptr,
+            as_mut_ptr,
+            self.table.as_mut_ptr(),
+            self.table.len(),
+            limit
+        )
     }
 }

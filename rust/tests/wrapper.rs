@@ -101,16 +101,8 @@ fn methods_say_what_the_calls_say() {
                 Call { kind: 6, row, variable, budget },
             ];
             lent.calls = list.iter().flat_map(|c| [c.kind, c.row, c.variable, c.budget]).collect();
-            let operation = rng.pick(&[
-                Operation::PropagateRow { row },
-                Operation::Propagate { budget },
-                Operation::Probe { variable, budget },
-                Operation::TightenCoefficient { row, variable },
-                Operation::RemoveRedundantRow { row },
-                Operation::IsProbingFixpoint,
-                Operation::Run,
-                Operation::Rounds { limit: budget },
-            ]);
+            let [on_model @ .., _, _, _] = Operation::each(row, variable, budget, budget);
+            let operation = rng.pick(&on_model);
             assert_eq!(
                 call(&mut model, operation, &list),
                 expected(&mut lent, operation),

@@ -175,19 +175,7 @@ fn damaged(rng: &mut Rng) -> Case {
         }
     };
     let (row, variable, budget) = (rng.index(lent.m) as u32, 0, rng.pick(&[1, MAX_BUDGET]));
-    let mut operation = rng.pick(&[
-        Operation::PropagateRow { row },
-        Operation::Propagate { budget },
-        Operation::Probe { variable, budget },
-        Operation::TightenCoefficient { row, variable },
-        Operation::RemoveRedundantRow { row },
-        Operation::IsProbingFixpoint,
-        Operation::Run,
-        Operation::Rounds { limit: 1 },
-        Operation::BookTrailer,
-        Operation::BookRead,
-        Operation::BookWrite,
-    ]);
+    let mut operation = rng.pick(&Operation::each(row, variable, budget, 1));
     lent.calls = call_list(rng, &lent);
     match operation {
         Operation::BookTrailer => trailer_only(&mut lent),

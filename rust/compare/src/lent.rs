@@ -76,6 +76,23 @@ pub enum Operation {
 }
 
 impl Operation {
+    /// Each of the eleven with these numbers, where it has them; the three on books come last.
+    pub fn each(row: u32, variable: u32, budget: u32, limit: u32) -> [Operation; 11] {
+        [
+            Operation::PropagateRow { row },
+            Operation::Propagate { budget },
+            Operation::Probe { variable, budget },
+            Operation::TightenCoefficient { row, variable },
+            Operation::RemoveRedundantRow { row },
+            Operation::IsProbingFixpoint,
+            Operation::Run,
+            Operation::Rounds { limit },
+            Operation::BookTrailer,
+            Operation::BookRead,
+            Operation::BookWrite,
+        ]
+    }
+
     /// The call's name in the C interface, without `astrolabe_`.
     pub fn name(self) -> &'static str {
         match self {

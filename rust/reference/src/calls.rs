@@ -5,7 +5,7 @@
 #![allow(clippy::too_many_arguments)] // the interface is what it is
 
 use crate::checks::{self, Check};
-use crate::list::{self, Call};
+use crate::list;
 use crate::probing::{self, Verdict};
 use crate::propagation::{self, Propagation};
 use crate::rounds::{self, Rounds};
@@ -24,9 +24,10 @@ fn places<const N: usize>(values: [u64; N]) -> [u64; ANSWER] {
     all
 }
 
-/// Writes the answer of an accepted call, or returns the number of the failed check.
-fn reply(result: Answer, answer: &mut [u64]) -> u32 {
-    match result {
+/// Makes a call, which is told the answer's length, and writes its answer; or returns the number of the
+/// failed check.
+fn reply(answer: &mut [u64], call: impl FnOnce(usize) -> Answer) -> u32 {
+    match call(answer.len()) {
         Ok(values) => {
             answer.copy_from_slice(&values);
             0
@@ -35,19 +36,25 @@ fn reply(result: Answer, answer: &mut [u64]) -> u32 {
     }
 }
 
-/// Checks 5 to 9 of a model whose size passed check 3; `others` are the lengths of further lent
-/// buffers, with the lengths that they need.
-fn check_lent(
+/// Checks 3 and 5 to 10 of a model, with its table where the call is lent one; `others` are the lengths
+/// of further lent buffers, with the lengths that they need.
+fn check_model(
     n: usize,
     m: usize,
     bounds: &[i32],
     coefs: &[i32],
     rhs: &[i32],
+    table: Option<&[u8]>,
     others: &[(usize, usize)],
 ) -> Check {
+    checks::size(n, m)?;
     checks::lengths(&[(bounds.len(), 2 * n), (coefs.len(), m * n), (rhs.len(), m)])?;
+    if let Some(table) = table {
+        checks::lengths(&[(table.len(), 4 * n * n)])?;
+    }
     checks::lengths(others)?;
-    checks::numbers(bounds, coefs, rhs)
+    checks::numbers(bounds, coefs, rhs)?;
+    table.map_or(Ok(()), checks::table)
 }
 
 fn outcome(outcome: Outcome) -> [u64; ANSWER] {
@@ -68,18 +75,15 @@ pub fn propagate_row(
     row: u32,
     answer: &mut [u64],
 ) -> u32 {
-    let places_lent = answer.len();
-    let mut call = || -> Answer {
-        checks::size(n, m)?;
-        check_lent(n, m, bounds, coefs, rhs, &[(places_lent, ANSWER)])?;
+    reply(answer, |places_lent| {
+        check_model(n, m, bounds, coefs, rhs, None, &[(places_lent, ANSWER)])?;
         checks::row(row, m)?;
         if boxes::is_empty(bounds) {
             return Ok(outcome(Outcome::Infeasible));
         }
         let r = row as usize;
         Ok(outcome(row::propagate_row(bounds, &coefs[r * n..][..n], rhs[r])))
-    };
-    reply(call(), answer)
+    })
 }
 
 /// 01's settle.
@@ -92,10 +96,8 @@ pub fn propagate(
     budget: u32,
     answer: &mut [u64],
 ) -> u32 {
-    let places_lent = answer.len();
-    let mut call = || -> Answer {
-        checks::size(n, m)?;
-        check_lent(n, m, bounds, coefs, rhs, &[(places_lent, ANSWER)])?;
+    reply(answer, |places_lent| {
+        check_model(n, m, bounds, coefs, rhs, None, &[(places_lent, ANSWER)])?;
         checks::budget(budget)?;
         let rows = Rows::new(n, coefs, rhs);
         Ok(match propagation::propagate(bounds, rows, budget) {
@@ -103,8 +105,7 @@ pub fn propagate(
             Propagation::Converged(passes) => places([1, passes.into()]),
             Propagation::BudgetSpent(passes) => places([2, passes.into()]),
         })
-    };
-    reply(call(), answer)
+    })
 }
 
 /// 01's probe.
@@ -119,11 +120,8 @@ pub fn probe(
     budget: u32,
     answer: &mut [u64],
 ) -> u32 {
-    let places_lent = answer.len();
-    let mut call = || -> Answer {
-        checks::size(n, m)?;
-        check_lent(n, m, bounds, coefs, rhs, &[(table.len(), 4 * n * n), (places_lent, ANSWER)])?;
-        checks::table(table)?;
+    reply(answer, |places_lent| {
+        check_model(n, m, bounds, coefs, rhs, Some(table), &[(places_lent, ANSWER)])?;
         checks::free_variable(variable, bounds)?;
         checks::budget(budget)?;
         let rows = Rows::new(n, coefs, rhs);
@@ -142,8 +140,7 @@ pub fn probe(
             side1.passes.into(),
             side1.spent.into(),
         ])
-    };
-    reply(call(), answer)
+    })
 }
 
 /// 01's sharpen.
@@ -157,17 +154,14 @@ pub fn tighten_coefficient(
     variable: u32,
     answer: &mut [u64],
 ) -> u32 {
-    let places_lent = answer.len();
-    let mut call = || -> Answer {
-        checks::size(n, m)?;
-        check_lent(n, m, bounds, coefs, rhs, &[(places_lent, ANSWER)])?;
+    reply(answer, |places_lent| {
+        check_model(n, m, bounds, coefs, rhs, None, &[(places_lent, ANSWER)])?;
         checks::row(row, m)?;
         checks::free_variable(variable, bounds)?;
         let (r, k) = (row as usize, variable as usize);
         let coefs = &mut coefs[r * n..][..n];
         Ok(outcome(row::tighten_coefficient(bounds, coefs, &mut rhs[r], k)))
-    };
-    reply(call(), answer)
+    })
 }
 
 /// 01's drop.
@@ -180,16 +174,13 @@ pub fn remove_redundant_row(
     row: u32,
     answer: &mut [u64],
 ) -> u32 {
-    let places_lent = answer.len();
-    let mut call = || -> Answer {
-        checks::size(n, m)?;
-        check_lent(n, m, bounds, coefs, rhs, &[(places_lent, ANSWER)])?;
+    reply(answer, |places_lent| {
+        check_model(n, m, bounds, coefs, rhs, None, &[(places_lent, ANSWER)])?;
         checks::row(row, m)?;
         let r = row as usize;
         let coefs = &mut coefs[r * n..][..n];
         Ok(outcome(row::remove_redundant_row(bounds, coefs, &mut rhs[r])))
-    };
-    reply(call(), answer)
+    })
 }
 
 /// 01's rest call.
@@ -201,14 +192,11 @@ pub fn is_probing_fixpoint(
     rhs: &[i32],
     answer: &mut [u64],
 ) -> u32 {
-    let places_lent = answer.len();
-    let call = || -> Answer {
-        checks::size(n, m)?;
-        check_lent(n, m, bounds, coefs, rhs, &[(places_lent, ANSWER)])?;
+    reply(answer, |places_lent| {
+        check_model(n, m, bounds, coefs, rhs, None, &[(places_lent, ANSWER)])?;
         let rows = Rows::new(n, coefs, rhs);
         Ok(places([probing::is_probing_fixpoint(bounds, rows).into()]))
-    };
-    reply(call(), answer)
+    })
 }
 
 /// 01's run sheet; `calls` has four numbers a record.
@@ -222,23 +210,13 @@ pub fn run(
     calls: &[u32],
     answer: &mut [u64],
 ) -> u32 {
-    let places_lent = answer.len();
-    let mut call = || -> Answer {
-        checks::size(n, m)?;
-        check_lent(
-            n,
-            m,
-            bounds,
-            coefs,
-            rhs,
-            &[(table.len(), 4 * n * n), (calls.len() % 4, 0), (places_lent, ANSWER)],
-        )?;
-        checks::table(table)?;
-        let mut state = State { n, bounds, coefs, rhs, table };
-        let counts = list::run(&mut state, calls.chunks_exact(4).map(Call::new));
+    reply(answer, |places_lent| {
+        let (records, rest) = calls.as_chunks();
+        let lengths = [(rest.len(), 0), (places_lent, ANSWER)];
+        check_model(n, m, bounds, coefs, rhs, Some(table), &lengths)?;
+        let counts = list::run(&mut State { n, bounds, coefs, rhs, table }, records);
         Ok(places([counts.refused, counts.none, counts.changed, counts.unchanged]))
-    };
-    reply(call(), answer)
+    })
 }
 
 /// The rounds of 01's program `reduce`, with a limit given.
@@ -252,28 +230,23 @@ pub fn rounds(
     limit: u32,
     answer: &mut [u64],
 ) -> u32 {
-    let places_lent = answer.len();
-    let mut call = || -> Answer {
-        checks::size(n, m)?;
-        check_lent(n, m, bounds, coefs, rhs, &[(table.len(), 4 * n * n), (places_lent, ANSWER)])?;
-        checks::table(table)?;
+    reply(answer, |places_lent| {
+        check_model(n, m, bounds, coefs, rhs, Some(table), &[(places_lent, ANSWER)])?;
         let mut state = State { n, bounds, coefs, rhs, table };
         Ok(match rounds::rounds(&mut state, limit) {
             Rounds::Infeasible(made) => places([0, made.into()]),
             Rounds::Unchanged(made) => places([1, made.into()]),
             Rounds::LimitReached(made) => places([2, made.into()]),
         })
-    };
-    reply(call(), answer)
+    })
 }
 
 /// n and m of 16 trailer bytes.
 pub fn book_trailer(bytes: &[u8], answer: &mut [u64]) -> u32 {
-    let call = || -> Answer {
-        let (n, m) = book::trailer(bytes, answer.len() == ANSWER)?;
+    reply(answer, |places_lent| {
+        let (n, m) = book::trailer(bytes, places_lent == ANSWER)?;
         Ok(places([n as u64, m as u64]))
-    };
-    reply(call(), answer)
+    })
 }
 
 /// Reads a book into lent buffers.
@@ -284,8 +257,7 @@ pub fn book_read(
     rhs: &mut [i32],
     answer: &mut [u64],
 ) -> u32 {
-    let places_lent = answer.len();
-    let mut call = || -> Answer {
+    reply(answer, |places_lent| {
         let (n, m) = book::size(book)?;
         checks::lengths(&[
             (bounds.len(), 2 * n),
@@ -299,8 +271,7 @@ pub fn book_read(
         coefs.copy_from_slice(&new_coefs);
         rhs.copy_from_slice(&new_rhs);
         Ok(places([n as u64, m as u64]))
-    };
-    reply(call(), answer)
+    })
 }
 
 /// Writes the book of a model into a lent buffer of exactly its length.
@@ -313,9 +284,8 @@ pub fn book_write(
     book: &mut [u8],
 ) -> u32 {
     let check = || -> Check {
-        checks::size(n, m)?;
-        let needed = book::length(n, m);
-        check_lent(n, m, bounds, coefs, rhs, &[(book.len(), needed)])
+        checks::size(n, m)?; // before a length is reckoned from it
+        check_model(n, m, bounds, coefs, rhs, None, &[(book.len(), book::length(n, m))])
     };
     if let Err(check) = check() {
         return check;

@@ -7,24 +7,8 @@ use crate::probing::Verdict;
 use crate::propagation::Propagation;
 use crate::row::{self, Outcome};
 
-/// A call record: four numbers. A field that its kind lacks is ignored.
-#[derive(Clone, Copy, Debug)]
-pub struct Call {
-    pub kind: u32,
-    pub row: u32,
-    pub variable: u32,
-    pub budget: u32,
-}
-
-impl Call {
-    /// Reads a record from its four numbers.
-    pub fn new(numbers: &[u32]) -> Self {
-        let [kind, row, variable, budget] = numbers else {
-            unreachable!("a record has four numbers");
-        };
-        Call { kind: *kind, row: *row, variable: *variable, budget: *budget }
-    }
-}
+/// A call record: kind, row, variable, budget. A field that its kind lacks is ignored.
+pub type Call = [u32; 4];
 
 /// How many calls of a list ended in which way.
 #[derive(Clone, Copy, Debug, Default, PartialEq, Eq)]
@@ -36,9 +20,9 @@ pub struct Counts {
 }
 
 /// Makes the calls one after another; a refused one leaves the state and the run goes on.
-pub fn run(state: &mut State, calls: impl Iterator<Item = Call>) -> Counts {
+pub fn run(state: &mut State, calls: &[Call]) -> Counts {
     let mut counts = Counts::default();
-    for call in calls {
+    for &call in calls {
         let before = state.snapshot();
         match apply(state, call) {
             Err(_) => counts.refused += 1,
@@ -56,26 +40,27 @@ struct Feasible(bool);
 /// Checks 11 to 15 of one call, then the call.
 fn apply(state: &mut State, call: Call) -> Result<Feasible, u32> {
     check(state, call)?;
-    let (r, k) = (call.row as usize, call.variable as usize);
-    Ok(Feasible(match call.kind {
+    let [kind, row, variable, budget] = call;
+    let (r, k) = (row as usize, variable as usize);
+    Ok(Feasible(match kind {
         1 => propagate_row(state, r) != Outcome::Infeasible,
-        2 => !matches!(state.propagate(call.budget), Propagation::Infeasible(_)),
-        3 => state.probe(k, call.budget).verdict != Verdict::Infeasible,
+        2 => !matches!(state.propagate(budget), Propagation::Infeasible(_)),
+        3 => state.probe(k, budget).verdict != Verdict::Infeasible,
         4 => state.tighten_coefficient(r, k) != Outcome::Infeasible,
         _ => state.remove_redundant_row(r) != Outcome::Infeasible,
     }))
 }
 
-fn check(state: &State, call: Call) -> Check {
-    checks::ensure(11, (1..=5).contains(&call.kind))?;
-    if matches!(call.kind, 1 | 4 | 5) {
-        checks::row(call.row, state.rhs.len())?;
+fn check(state: &State, [kind, row, variable, budget]: Call) -> Check {
+    checks::ensure(11, (1..=5).contains(&kind))?;
+    if matches!(kind, 1 | 4 | 5) {
+        checks::row(row, state.rhs.len())?;
     }
-    if matches!(call.kind, 3 | 4) {
-        checks::free_variable(call.variable, state.bounds)?;
+    if matches!(kind, 3 | 4) {
+        checks::free_variable(variable, state.bounds)?;
     }
-    if matches!(call.kind, 2 | 3) {
-        checks::budget(call.budget)?;
+    if matches!(kind, 2 | 3) {
+        checks::budget(budget)?;
     }
     Ok(())
 }
