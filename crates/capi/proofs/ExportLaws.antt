@@ -9,13 +9,13 @@ use mathlib.Core.Path.{_∙_, _≡_, ap, ap₂, refl, sym}
 use native.Mathlib.Omega.{arith}
 use Rattle.model.specs.Checks.{sizeChecks}
 use Rattle.reducer.specs.CallLists.{listAnswer, listRun}
-use Rattle.reducer.specs.OpenCalls.{RestVerdict, callOf, performed, rest}
+use Rattle.reducer.specs.OpenCalls.{RestVerdict, performed, rest}
 use Rattle.reducer.specs.declared.list.RunAnswer.{RunAnswer}
 use Rattle.rounds.specs.Rounds.{RoundsAnswer, runRounds}
 use Rattle.semantics.specs.CallList.{ListRun, runList}
 use Rattle.semantics.specs.Perform.{Answer, Performed, perform}
 use Rattle.semantics.specs.Run.{run}
-use Rattle.semantics.specs.State.{State}
+use Rattle.semantics.specs.State.{State, callOf}
 use Rattle.capi.specs.Exports.{answered, callExport, exported, listExport, restExport, roundsExport, wrongLength}
 use Rattle.capi.specs.Replies.{callReply, listReply, restReply, returned, roundsReply, written}
 use Rattle.capi.specs.declared.reply.Reply.{Reply}

@@ -7,15 +7,15 @@ use lib.IntN.{ℤ}
 use lib.ListN.{length}
 use mathlib.Core.Bool.{cond, false}
 use mathlib.Core.List.{List, [], _++_, _∷_}
-use Rattle.book.specs.Answers.{boundsRead, coefsRead, readCall, rhsRead, trailerCall}
+use Rattle.book.specs.Answers.{readCall, trailerCall}
 use Rattle.book.specs.BookChecks.{headChecks}
 use Rattle.model.specs.Checks.{Check, first, must, sizeChecks}
-use Rattle.reducer.specs.OpenCalls.{callOf, rest}
+use Rattle.reducer.specs.OpenCalls.{rest}
 use Rattle.rounds.specs.Rounds.{runRounds}
 use Rattle.semantics.specs.CallList.{runList}
 use Rattle.semantics.specs.Perform.{perform}
 use Rattle.semantics.specs.Run.{run}
-use Rattle.semantics.specs.State.{State}
+use Rattle.semantics.specs.State.{State, callOf}
 use Rattle.capi.specs.Replies.{bookReply, callReply, listReply, restReply, returned, roundsReply, written}
 use Rattle.capi.specs.declared.reply.Reply.{Reply}
 

@@ -3,7 +3,7 @@ use crate::reply::Reply;
 use crate::reply::one;
 use crate::reply::probed;
 use crate::reply::two;
-use book::trailer::SizesAnswer;
+use book::SizesAnswer;
 use reducer::calls::ProbeAnswer;
 use reducer::calls::PropagateAnswer;
 use reducer::calls::PropagateRowAnswer;

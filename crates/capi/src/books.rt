@@ -2,9 +2,9 @@
 use crate::answers::sizes_reply;
 use crate::reply::ANSWER;
 use crate::reply::put;
+use book::SizesAnswer;
 use book::reading::read;
-use book::trailer::SizesAnswer;
-use book::trailer::trailer;
+use book::trailer;
 use book::writing::WriteAnswer;
 use book::writing::write;
 ghost use mathlib.Core.Path.{_≡_};

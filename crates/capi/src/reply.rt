@@ -1,9 +1,9 @@
 // What a call says: the number of the failed check, or the six numbers of its answer, where unused places are 0.
-use reducer::probing::Side;
+use probing::sides::Side;
 ghost use mathlib.Core.Path.{_≡_};
 ghost use lib.ListN.{length};
 ghost use Rattle.model.specs.Checks.{sizeChecks};
-ghost use Rattle.reducer.specs.Results.{reportOf};
+ghost use Rattle.probing.specs.Results.{reportOf};
 ghost use Rattle.capi.specs.Exports.{wrongLength};
 ghost use Rattle.capi.specs.Replies.{bit as bitOf, one as oneOf, probeReply, returned, two as twoOf, written};
 

@@ -1,8 +1,8 @@
 -- `capi::calls::astrolabe_is_probing_fixpoint`: a wrong answer length, or the answer of the open call, written. Assumes nothing.
 use borrow.Author.Needs.{needs}
 use mathlib.Core.List.{[]}
-use Rattle.reducer.specs.OpenCalls.{restVerdict, stateOf}
-use Rattle.semantics.specs.State.{State}
+use Rattle.reducer.specs.OpenCalls.{restVerdict}
+use Rattle.semantics.specs.State.{State, stateOf}
 use Rattle.capi.proofs.ExportLaws.{rest-refused, rest-replied}
 use Rattle.capi.proofs.calls.astrolabe_is_probing_fixpoint.Statement.{statement}
 use Rattle.capi.proofs.calls.astrolabe_is_probing_fixpoint.Tie as tie

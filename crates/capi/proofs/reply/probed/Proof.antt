@@ -1,5 +1,5 @@
 use borrow.Author.Needs.{needs}
-use Rattle.reducer.specs.Results.{reportOf}
+use Rattle.probing.specs.Results.{reportOf}
 use Rattle.capi.proofs.reply.probed.Statement.{statement}
 use Rattle.capi.proofs.reply.probed.Tie as tie
 use Rattle.capi.proofs.reply.probed.Reads as reads
