@@ -1,7 +1,7 @@
 // Checks 1 to 4 of an input.
 use crate::TRAILER;
-use book::trailer::SizesAnswer;
-use book::trailer::trailer;
+use book::SizesAnswer;
+use book::trailer;
 ghost use mathlib.Core.Path.{_≡_};
 ghost use mathlib.Core.List.{List};
 ghost use Prim.Native.Nat.{ℕ, _<_, _≤_};

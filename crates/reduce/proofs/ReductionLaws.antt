@@ -24,8 +24,7 @@ use Rattle.intake.specs.Checks.{headCall}
 use Rattle.intake.specs.Intake.{Held}
 use Rattle.intake.proofs.CheckLaws.{accepted}
 use Rattle.report.specs.Report.{refusedLine}
-use Rattle.semantics.specs.State.{State}
-use Rattle.reducer.specs.OpenCalls.{stateOf}
+use Rattle.semantics.specs.State.{stateOf}
 use Rattle.reduce.specs.Answers.{Ready, Sized}
 use Rattle.reduce.specs.Output.{output, roundsText, stateRead, zeros}
 

@@ -7,7 +7,7 @@ mod input;
 mod output;
 mod reduction;
 
-use book::trailer::SizesAnswer;
+use book::SizesAnswer;
 use buffers::largest_table;
 use buffers::longest_book;
 use buffers::most_bounds;

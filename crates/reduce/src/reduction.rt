@@ -1,6 +1,6 @@
 // From a book to an answer, in memory: the text of the answer is `output` of the book.
+use book::SizesAnswer;
 use book::reading::read;
-use book::trailer::SizesAnswer;
 use rounds::RoundsAnswer;
 ghost use mathlib.Core.Path.{_≡_};
 ghost use Prim.Native.Nat.{ℕ};
