@@ -1,5 +1,4 @@
 // Checks 1 to 4 of an input.
-use crate::TRAILER;
 use book::SizesAnswer;
 use book::trailer;
 ghost use mathlib.Core.Path.{_≡_};
@@ -10,6 +9,8 @@ ghost use Rattle.book.specs.Answers.{sizesAnswer, sizesAre};
 ghost use Rattle.book.specs.Book.{lengthGiven};
 ghost use Rattle.intake.specs.Intake.{lastBytes};
 ghost use Rattle.intake.specs.Checks.{SizedBook, headCall, inputCall};
+
+const TRAILER: usize = 16;
 
 fn wide(x: u8) -> usize
     ensures { λ r. ⌜ (r ≡ x) × (r < 256) ⌝ }

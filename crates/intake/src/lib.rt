@@ -8,7 +8,5 @@ mod input;
 pub use checking::sizes;
 pub use input::take_in;
 
-// The book of 128 variables and 120 rows: 8 · 128 + 120 · (4 + 4 · 128) + 16 bytes.
+// The length of the book of 128 variables and 120 rows: 8 · 128 + 120 · (4 + 4 · 128) + 16 bytes.
 pub const MAX_BOOK: usize = 62_960;
-
-pub const TRAILER: usize = 16;

@@ -1,13 +1,14 @@
 // The buffers of the largest book, 128 variables and 120 rows. A caller learns what it needs of them, and not each number.
+use intake::MAX_BOOK;
 ghost use mathlib.Core.Path.{_≡_};
 ghost use lib.ListN.{length};
 ghost use Rattle.intake.specs.Checks.{maxBook};
 ghost use Rattle.reduce.specs.Output.{zeros};
 
-pub fn longest_book() -> [u8; 62960]
+pub fn longest_book() -> [u8; MAX_BOOK]
     ensures { λ r. ⌜ maxBook ≡ length r ⌝ }
 {
-    [0; 62960]
+    [0; MAX_BOOK]
 }
 
 pub fn most_bounds() -> [i32; 256]
