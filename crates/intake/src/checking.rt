@@ -1,0 +1,45 @@
+// Checks 1 to 4 of an input.
+use book::SizesAnswer;
+use book::trailer;
+ghost use mathlib.Core.Path.{_≡_};
+ghost use mathlib.Core.List.{List};
+ghost use Prim.Native.Nat.{ℕ, _<_, _≤_};
+ghost use lib.ListN.{length};
+ghost use Rattle.book.specs.Answers.{sizesAnswer, sizesAre};
+ghost use Rattle.book.specs.Book.{lengthGiven};
+ghost use Rattle.intake.specs.Intake.{lastBytes};
+ghost use Rattle.intake.specs.Checks.{SizedBook, headCall, inputCall};
+
+const TRAILER: usize = 16;
+
+fn wide(x: u8) -> usize
+    ensures { λ r. ⌜ (r ≡ x) × (r < 256) ⌝ }
+{
+    x as usize
+}
+
+// The length that the trailer gives.
+fn length_given(tail: &[u8]) -> usize
+    requires { ⌜ length (now tail) ≡ 16 ⌝ }
+    ensures { λ r. ⌜ r ≡ lengthGiven (now (tail .entry)) ⌝ }
+{
+    wide(tail[12]) + 256 * (wide(tail[13]) + 256 * (wide(tail[14]) + 256 * wide(tail[15])))
+}
+
+// n and m of an input of `len` bytes that ends in `tail`. Refused by 1 to 4, and by 5 where `tail` has not 16 bytes.
+pub fn sizes(tail: &[u8], len: usize) -> SizesAnswer
+    ensures answer { λ r. ⌜ sizesAnswer r ≡ inputCall (now (tail .entry)) len ⌝ }
+    ensures right { λ r. ⌜ ((bs : List ℕ) → len ≡ length bs → now (tail .entry) ≡ lastBytes bs → sizesAnswer r ≡ headCall bs) ⌝ }
+    ensures sized { λ r. ⌜ ((n m : ℕ) → sizesAnswer r ≡ sizesAre n m → SizedBook n m len) ⌝ }
+{
+    if len < TRAILER {
+        return SizesAnswer::Refused(1);
+    }
+    if tail.len() != TRAILER {
+        return SizesAnswer::Refused(5);
+    }
+    if length_given(tail) != len {
+        return SizesAnswer::Refused(2);
+    }
+    trailer(tail)
+}

@@ -1,0 +1,149 @@
+-- Laws of the reduction: with buffers as the book needs them, reading is refused by the book's own faults alone, and what is
+-- read is the model that `output` starts from.
+use Prim.Native.Nat.{_*_, _+_, _-_, _≤_, ℕ}
+use borrow.Author.Tests.{eq-eqb, ne-eqb}
+use lib.Dec.{T, eqb}
+use lib.IntN.{ℤ}
+use lib.ListN.{length, length-replicate, replicate, replicate-append-replicate, take}
+use lib.Seq.{length-take-le, take-at}
+use mathlib.Core.Bool.{cond}
+use mathlib.Core.List.{List, _++_}
+use mathlib.Core.Path.{_∙_, _≡_, ap, ap₂, refl, sym}
+use native.Mathlib.Decide.{ℕ-discrete}
+use native.Mathlib.Nat.{mul-le-mul-right}
+use native.Mathlib.Omega.{arith}
+use Rattle.model.specs.Checks.{first, lengthChecks}
+use Rattle.model.specs.Limits.{maxRows, maxVariables}
+use Rattle.model.proofs.CheckLaws.{first-go, first-none, length-test}
+use Rattle.book.specs.Answers.{Answer, boundsRead, coefsRead, lent, readCall, readFault, refused, rhsRead, sizesAre, unless}
+use Rattle.book.specs.Book.{decode, modelOf, rows, trailerOf, variables}
+use Rattle.book.specs.BookChecks.{bookChecks, bookFault, headChecks, modelNumberChecks, readChecks}
+use Rattle.book.proofs.AcceptLaws.{head-numbered}
+use Rattle.book.proofs.AnswerLaws.{accepted-by, becomes, refused-by}
+use Rattle.intake.specs.Checks.{headCall}
+use Rattle.intake.specs.Intake.{Held}
+use Rattle.intake.proofs.CheckLaws.{accepted}
+use Rattle.report.specs.Report.{refusedLine}
+use Rattle.semantics.specs.State.{stateOf}
+use Rattle.reduce.specs.Answers.{Ready, Sized}
+use Rattle.reduce.specs.Output.{output, roundsText, stateRead, zeros}
+
+-- refused or accepted, by the fault
+refused-fault : (fault number : ℕ) (a : Answer) (p q : ℕ) → a ≡ sizesAre p q → refused number ≡ unless fault a → (number ≡ fault) × (fault ≡ 0 → ⊥)
+refused-fault fault number a p q k e = go (ℕ-discrete fault 0)
+  where
+    go : Dec (fault ≡ 0) → (number ≡ fault) × (fault ≡ 0 → ⊥)
+    go (yes z) =
+        let h : refused number ≡ sizesAre p q = e ∙ sym (accepted-by z a) ∙ k in
+        let y : _≡_ {A = ℕ} 0 1 = cc in
+        absurd (let w : ⊥ = omega arith in w)
+    go (no n) = let h : refused number ≡ refused fault = e ∙ sym (refused-by refl n a) in ((cc), n)
+
+accepted-fault : (fault p q n m : ℕ) → sizesAre n m ≡ unless fault (sizesAre p q) → fault ≡ 0
+accepted-fault fault p q n m e = go (ℕ-discrete fault 0)
+  where
+    go : Dec (fault ≡ 0) → fault ≡ 0
+    go (yes z) = z
+    go (no k) =
+        let h : refused fault ≡ sizesAre n m = refused-by refl k (sizesAre p q) ∙ sym e in
+        let z : _≡_ {A = ℕ} 0 1 = cc in
+        absurd (let y : ⊥ = omega arith in y)
+
+sized-head : (bs : List ℕ) {n m : ℕ} → first (headChecks bs) ≡ 0 → variables (trailerOf bs) ≡ n → rows (trailerOf bs) ≡ m → Sized n m bs
+unfolding decode modelOf
+sized-head bs z v w = record { head = z; variables = sym v; rows = sym w }
+
+module _ {n m : ℕ} {bs : List ℕ} {B C R : List ℤ} {t : List ℕ} (h : Ready n m bs B C R t) where
+  -- the lengths pass check 5
+  lengths-pass : first (lengthChecks (decode bs .n) (decode bs .m) B C R) ≡ 0
+  unfolding lengthChecks
+  lengths-pass =
+      let s = h .sized in
+      let l = h .lengths in
+      rw (← s .variables, ← s .rows) (first-none (lengthChecks n m B C R) tt .1 (length-test n m B C R .1 (l .box, l .coefs, l .rhs), tt))
+
+  read-fault : readFault bs B C R ≡ bookFault bs
+  unfolding readFault bookFault readChecks bookChecks lengthChecks
+  read-fault =
+      let head = h .sized .head in
+      let lengths = lengthChecks (decode bs .n) (decode bs .m) B C R in
+      let numbers = modelNumberChecks (decode bs) in
+      first-go (headChecks bs) (lengths ++ numbers) (head-numbered bs) head
+      ∙ first-go lengths numbers tt lengths-pass
+      ∙ sym (first-go (headChecks bs) numbers (head-numbered bs) head)
+
+  -- reading is refused: so is the book
+  pub refused-output : (number : ℕ) → refused number ≡ readCall bs B C R → refusedLine number ≡ output bs
+  unfolding readCall output
+  refused-output number e =
+      let r = refused-fault (readFault bs B C R) number _ _ _ refl e in
+      let k : bookFault bs ≡ 0 → ⊥ = λ z. r .1 (read-fault ∙ z) in
+      rw (ne-eqb (bookFault bs) 0 k) (ap refusedLine (r .0 ∙ read-fault))
+
+  -- reading is accepted: so is the book, and what is read is its model
+  module _ (p q : ℕ) (e : sizesAre p q ≡ readCall bs B C R) where
+    passed : readFault bs B C R ≡ 0
+    unfolding readCall
+    passed = accepted-fault (readFault bs B C R) _ _ p q e
+
+    pub accepted-output : output bs ≡ roundsText (stateRead bs)
+    unfolding output
+    accepted-output = rw (eq-eqb (bookFault bs) 0 (sym read-fault ∙ passed))
+
+    pub accepted-state : {B′ C′ R′ : List ℤ} → B′ ≡ boundsRead bs B C R → C′ ≡ coefsRead bs B C R → R′ ≡ rhsRead bs B C R
+        → stateOf n m B′ C′ R′ t ≡ stateRead bs
+    unfolding stateRead boundsRead coefsRead rhsRead
+    accepted-state b c r =
+        let b′ = b ∙ sym (becomes passed B (decode bs .bounds)) in
+        let c′ = c ∙ sym (becomes passed C (decode bs .coefs)) in
+        let r′ = r ∙ sym (becomes passed R (decode bs .rhs)) in
+        rw (b′, c′, r′, h .table, h .sized .variables, h .sized .rows)
+
+-- an accepted input that is held whole is a book that says n and m
+pub held-sized : {bs start tail : List ℕ} {len n m : ℕ} → Held bs start tail len → len ≤ length start → sizesAre n m ≡ headCall bs → Sized n m (take len start)
+unfolding headCall
+held-sized {bs} {start} {tail} {len} h k e =
+    let a = accepted (first (headChecks bs)) _ _ _ _ (sym e) in
+    let w : take len start ≡ bs = ap (λ (r : ℕ). take r start) (h .size) ∙ h .whole (omega (arith, h .size)) in
+    rw w (sized-head bs (a .0) (a .1) (a .2))
+
+-- ---- the buffers
+
+pub length-zeros : (k : ℕ) → length (zeros k) ≡ k
+unfolding zeros
+length-zeros k = let z : ℕ = 0 in length-replicate k z
+
+-- a part of a table all 0
+pub take-zeros : (j k : ℕ) → j ≤ k → take j (zeros k) ≡ zeros j
+unfolding zeros
+take-zeros j k h =
+    let z : ℕ = 0 in
+    let e : k ≡ j + (k - j) = omega arith in
+    ap (λ (r : ℕ). take j (replicate r z)) e
+    ∙ ap (take j) (sym (replicate-append-replicate j (k - j) z))
+    ∙ take-at (replicate j z) (replicate (k - j) z) j (length-replicate j z)
+
+-- the parts of the largest buffers that n variables and m rows need
+module _ {n m : ℕ} (few : n ≤ maxVariables) (fewRows : m ≤ maxRows) where
+  pub coefs-fit : m * n ≤ 15_360
+  coefs-fit = omega (arith, mul-le-mul-right n fewRows)
+
+  pub table-fits : 4 * (n * n) ≤ 65_536
+  table-fits = omega (arith, mul-le-mul-right n few)
+
+  pub parts-ready : {bs : List ℕ} (B C R : List ℤ) {t : List ℕ} → Sized n m bs → 256 ≡ length B → 15_360 ≡ length C → 120 ≡ length R → t ≡ zeros 65_536
+      → Ready n m bs (take (2 * n) B) (take (m * n) C) (take m R) (take (4 * (n * n)) t)
+  parts-ready B C R s b c r e =
+      let z : take (4 * (n * n)) _ ≡ zeros (4 * (n * n)) = ap (take (4 * (n * n))) e ∙ take-zeros (4 * (n * n)) 65_536 table-fits in
+      record {
+        sized = s;
+        lengths = record {
+          few = few;
+          fewRows = fewRows;
+          box = length-take-le _ _ (omega arith);
+          coefs = length-take-le _ _ (omega (arith, coefs-fit));
+          rhs = length-take-le _ _ (omega arith);
+          table = ap length z ∙ length-zeros (4 * (n * n));
+        };
+        table = z;
+      }

@@ -1,0 +1,36 @@
+-- `reduce::output::none`: the line fits the buffer. Assumes nothing.
+use borrow.Author.Needs.{needs}
+use lib.ListN.{length-take}
+use native.Mathlib.Omega.{arith}
+use Rattle.report.proofs.TextLaws.{wrote-length}
+use Rattle.reduce.proofs.output.none.Statement.{statement}
+use Rattle.reduce.proofs.output.none.Tie as tie
+
+slice-aggregate-write-none : tie.Need-slice-aggregate-write-none
+slice-aggregate-write-none c = search needs
+
+write-none-requires : tie.Need-write-none-requires
+write-none-requires c κs = search needs
+
+array-share-prefix-buf : tie.Need-array-share-prefix-buf
+array-share-prefix-buf c = search needs
+
+slice-aggregate-print : tie.Need-slice-aggregate-print
+slice-aggregate-print c = simp length-take (omega (arith, wrote-length))
+
+print-requires : tie.Need-print-requires
+print-requires c κs = search needs
+
+returns : tie.Need-returns
+returns c = search needs
+
+pub none-spec : {M : Type 1} → statement M
+none-spec =
+    tie.close
+    (tie.spec
+    slice-aggregate-write-none
+    write-none-requires
+    array-share-prefix-buf
+    slice-aggregate-print
+    print-requires
+    returns)

@@ -1,0 +1,38 @@
+-- What the enums of the program stand for, and what its parts hand on to each other.
+use Prim.Native.Nat.{_*_, ℕ}
+use lib.IntN.{ℤ}
+use mathlib.Core.List.{List}
+use mathlib.Core.Path.{_≡_}
+use Rattle.model.specs.Checks.{first}
+use Rattle.book.specs.Book.{decode}
+use Rattle.book.specs.BookChecks.{headChecks}
+use Rattle.intake.specs.Intake.{Held}
+use Rattle.report.specs.Report.{Printable, noneLine, refusedLine, report}
+use Rattle.reduce.specs.Output.{zeros}
+use Rattle.reduce.specs.declared.input.Input.{Input}
+use Rattle.reduce.specs.declared.input.Input.the-variants.{Length, Failed}
+use Rattle.reduce.specs.declared.reduction.Answer.{Answer}
+use Rattle.reduce.specs.declared.reduction.Answer.the-variants.{Refused, Infeasible, Reduced}
+
+-- the text of an answer, where the buffers hold the model and the table that are left
+unfoldable pub answerText : Answer → ℕ → ℕ → List ℤ → List ℤ → List ℤ → List ℕ → List ℕ
+answerText (Refused number) n m B C R t = refusedLine number
+answerText Infeasible n m B C R t = noneLine
+answerText (Reduced rounds) n m B C R t = report n m rounds B C R t
+
+-- the buffers hold what is kept of some input of the length that is answered
+abbrev pub InputHeld : Input → List ℕ → List ℕ → Type 0
+InputHeld (Length len) start tail = (bs : List ℕ) × Held bs start tail len
+InputHeld Failed start tail = Unit
+
+-- the book passes checks 1 to 4 and says n and m
+pub record Sized (n m : ℕ) (bs : List ℕ) : Type 0 where
+  pub head : first (headChecks bs) ≡ 0
+  pub variables : n ≡ decode bs .n
+  pub rows : m ≡ decode bs .m
+
+-- buffers as the book needs them, and a table all 0
+pub record Ready (n m : ℕ) (bs : List ℕ) (B C R : List ℤ) (t : List ℕ) : Type 0 where
+  pub sized : Sized n m bs
+  pub lengths : Printable n m B C R t
+  pub table : t ≡ zeros (4 * (n * n))

@@ -1,0 +1,34 @@
+-- What `reduce` prints for an input, as a text (01, "Book"): "It prints `refused N`, or `none`, or: `reduced n m rounds`; .."
+use Prim.Native.Nat.{_*_, ℕ}
+use lib.Dec.{eqb}
+use lib.ListN.{replicate}
+use mathlib.Core.Bool.{cond}
+use mathlib.Core.List.{List}
+use Rattle.book.specs.Book.{decode}
+use Rattle.book.specs.BookChecks.{bookFault}
+use Rattle.report.specs.Report.{noneLine, refusedLine, report}
+use Rattle.semantics.specs.Run.{run}
+use Rattle.semantics.specs.State.{State, stateOf}
+use Rattle.rounds.specs.Rounds.{RoundsAnswer, atLimit, ended, infeasible, nothingChanged, refusedRounds, runRounds}
+
+unfoldable pub zeros : ℕ → List ℕ
+zeros k = replicate k 0
+
+-- the model of a book, with a table all 0 (D-13)
+unfoldable pub stateRead : List ℕ → State
+stateRead bs = let M = decode bs in stateOf (M .n) (M .m) (M .bounds) (M .coefs) (M .rhs) (zeros (4 * (M .n * M .n)))
+
+-- what is printed of rounds that end so and leave the state s
+unfoldable pub textOf : RoundsAnswer → State → List ℕ
+textOf (refusedRounds number) s = refusedLine number
+textOf (ended infeasible rounds) s = noneLine
+textOf (ended nothingChanged rounds) s = report (s .n) (s .m) rounds (s .box) (s .coefs) (s .rhs) (s .table)
+textOf (ended atLimit rounds) s = report (s .n) (s .m) rounds (s .box) (s .coefs) (s .rhs) (s .table)
+
+-- "It ends after a round that changed nothing, after 8 rounds, or at None."
+unfoldable pub roundsText : State → List ℕ
+roundsText s = textOf (runRounds 8 s .answer) (run s (runRounds 8 s .calls))
+
+-- the whole: refused by the first check of the book that fails, else what its rounds leave
+unfoldable pub output : List ℕ → List ℕ
+output bs = cond (eqb (bookFault bs) 0) (roundsText (stateRead bs)) (refusedLine (bookFault bs))

@@ -1,0 +1,50 @@
+// From a book to an answer, in memory: the text of the answer is `output` of the book.
+use book::SizesAnswer;
+use book::reading::read;
+use rounds::RoundsAnswer;
+ghost use mathlib.Core.Path.{_≡_};
+ghost use Prim.Native.Nat.{ℕ};
+ghost use Rattle.semantics.specs.State.{State};
+ghost use Rattle.rounds.specs.Answers.{roundsAnswer};
+ghost use Rattle.reduce.specs.Answers.{Ready, answerText};
+ghost use Rattle.reduce.specs.Output.{output, textOf};
+
+const ROUNDS: u32 = 8;
+
+pub enum Answer {
+    // By the number of the first check that fails.
+    Refused(u32),
+    Infeasible,
+    // After so many rounds.
+    Reduced(u32),
+}
+
+fn answer_of(rounds: RoundsAnswer) -> Answer
+    ensures { λ r. ⌜ ((s : State) → answerText r (s .n) (s .m) (s .box) (s .coefs) (s .rhs) (s .table) ≡ textOf (roundsAnswer rounds) s) ⌝ }
+{
+    match rounds {
+        RoundsAnswer::Refused(number) => Answer::Refused(number),
+        RoundsAnswer::Infeasible(_) => Answer::Infeasible,
+        RoundsAnswer::NothingChanged(made) => Answer::Reduced(made),
+        RoundsAnswer::AtLimit(made) => Answer::Reduced(made),
+    }
+}
+
+// Reads the book into the lent buffers and makes the rounds there.
+pub fn solve(
+    n: usize,
+    m: usize,
+    book: &[u8],
+    bounds: &mut [i32],
+    coefs: &mut [i32],
+    rhs: &mut [i32],
+    table: &mut [u8],
+) -> Answer
+    requires { ⌜ Ready n m (now book) (now bounds) (now coefs) (now rhs) (now table) ⌝ }
+    ensures { λ r. ⌜ answerText r n m (now (bounds .exit)) (now (coefs .exit)) (now (rhs .exit)) (now (table .exit)) ≡ output (now (book .entry)) ⌝ }
+{
+    if let SizesAnswer::Refused(number) = read(book, bounds, coefs, rhs) {
+        return Answer::Refused(number);
+    }
+    answer_of(rounds::run(n, m, bounds, coefs, rhs, table, ROUNDS))
+}
