@@ -1,5 +1,5 @@
 -- Laws of the checks of an input: they are those of the whole input, and what they accept is as long as a book.
-use Prim.Native.Nat.{_<_, _≤_, ℕ}
+use Prim.Native.Nat.{_<_, ℕ}
 use borrow.Author.Tests.{eq-eqb, le-leb, lt-leb}
 use lib.Dec.{eqb, leb}
 use lib.ListN.{length}

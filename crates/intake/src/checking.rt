@@ -3,7 +3,7 @@ use book::SizesAnswer;
 use book::trailer;
 ghost use mathlib.Core.Path.{_≡_};
 ghost use mathlib.Core.List.{List};
-ghost use Prim.Native.Nat.{ℕ, _<_, _≤_};
+ghost use Prim.Native.Nat.{ℕ, _<_};
 ghost use lib.ListN.{length};
 ghost use Rattle.book.specs.Answers.{sizesAnswer, sizesAre};
 ghost use Rattle.book.specs.Book.{lengthGiven};

@@ -2,20 +2,18 @@
 -- read is the model that `output` starts from.
 use Prim.Native.Nat.{_*_, _+_, _-_, _≤_, ℕ}
 use borrow.Author.Tests.{eq-eqb, ne-eqb}
-use lib.Dec.{T, eqb}
 use lib.IntN.{ℤ}
 use lib.ListN.{length, length-replicate, replicate, replicate-append-replicate, take}
 use lib.Seq.{length-take-le, take-at}
-use mathlib.Core.Bool.{cond}
 use mathlib.Core.List.{List, _++_}
-use mathlib.Core.Path.{_∙_, _≡_, ap, ap₂, refl, sym}
+use mathlib.Core.Path.{_∙_, _≡_, ap, refl, sym}
 use native.Mathlib.Decide.{ℕ-discrete}
 use native.Mathlib.Nat.{mul-le-mul-right}
 use native.Mathlib.Omega.{arith}
 use Rattle.model.specs.Checks.{first, lengthChecks}
 use Rattle.model.specs.Limits.{maxRows, maxVariables}
-use Rattle.model.proofs.CheckLaws.{first-go, first-none, length-test}
-use Rattle.book.specs.Answers.{Answer, boundsRead, coefsRead, lent, readCall, readFault, refused, rhsRead, sizesAre, unless}
+use Rattle.model.proofs.CheckLaws.{first-go, first-none, first-stop, length-test}
+use Rattle.book.specs.Answers.{boundsRead, coefsRead, readCall, readFault, refused, rhsRead, sizesAre, unless}
 use Rattle.book.specs.Book.{decode, modelOf, rows, trailerOf, variables}
 use Rattle.book.specs.BookChecks.{bookChecks, bookFault, headChecks, modelNumberChecks, readChecks}
 use Rattle.book.proofs.AcceptLaws.{head-numbered}
@@ -28,26 +26,16 @@ use Rattle.semantics.specs.State.{stateOf}
 use Rattle.reduce.specs.Answers.{Ready, Sized}
 use Rattle.reduce.specs.Output.{output, roundsText, stateRead, zeros}
 
--- refused or accepted, by the fault
-refused-fault : (fault number : ℕ) (a : Answer) (p q : ℕ) → a ≡ sizesAre p q → refused number ≡ unless fault a → (number ≡ fault) × (fault ≡ 0 → ⊥)
-refused-fault fault number a p q k e = go (ℕ-discrete fault 0)
+-- what is refused is refused by the fault
+refused-fault : (fault number p q : ℕ) → refused number ≡ unless fault (sizesAre p q) → (number ≡ fault) × (fault ≡ 0 → ⊥)
+refused-fault fault number p q e = go (ℕ-discrete fault 0)
   where
     go : Dec (fault ≡ 0) → (number ≡ fault) × (fault ≡ 0 → ⊥)
     go (yes z) =
-        let h : refused number ≡ sizesAre p q = e ∙ sym (accepted-by z a) ∙ k in
+        let h : refused number ≡ sizesAre p q = e ∙ sym (accepted-by z (sizesAre p q)) in
         let y : _≡_ {A = ℕ} 0 1 = cc in
         absurd (let w : ⊥ = omega arith in w)
-    go (no n) = let h : refused number ≡ refused fault = e ∙ sym (refused-by refl n a) in ((cc), n)
-
-accepted-fault : (fault p q n m : ℕ) → sizesAre n m ≡ unless fault (sizesAre p q) → fault ≡ 0
-accepted-fault fault p q n m e = go (ℕ-discrete fault 0)
-  where
-    go : Dec (fault ≡ 0) → fault ≡ 0
-    go (yes z) = z
-    go (no k) =
-        let h : refused fault ≡ sizesAre n m = refused-by refl k (sizesAre p q) ∙ sym e in
-        let z : _≡_ {A = ℕ} 0 1 = cc in
-        absurd (let y : ⊥ = omega arith in y)
+    go (no n) = let h : refused number ≡ refused fault = e ∙ sym (refused-by refl n (sizesAre p q)) in ((cc), n)
 
 sized-head : (bs : List ℕ) {n m : ℕ} → first (headChecks bs) ≡ 0 → variables (trailerOf bs) ≡ n → rows (trailerOf bs) ≡ m → Sized n m bs
 unfolding decode modelOf
@@ -76,7 +64,7 @@ module _ {n m : ℕ} {bs : List ℕ} {B C R : List ℤ} {t : List ℕ} (h : Read
   pub refused-output : (number : ℕ) → refused number ≡ readCall bs B C R → refusedLine number ≡ output bs
   unfolding readCall output
   refused-output number e =
-      let r = refused-fault (readFault bs B C R) number _ _ _ refl e in
+      let r = refused-fault (readFault bs B C R) number _ _ e in
       let k : bookFault bs ≡ 0 → ⊥ = λ z. r .1 (read-fault ∙ z) in
       rw (ne-eqb (bookFault bs) 0 k) (ap refusedLine (r .0 ∙ read-fault))
 
@@ -84,7 +72,7 @@ module _ {n m : ℕ} {bs : List ℕ} {B C R : List ℤ} {t : List ℕ} (h : Read
   module _ (p q : ℕ) (e : sizesAre p q ≡ readCall bs B C R) where
     passed : readFault bs B C R ≡ 0
     unfolding readCall
-    passed = accepted-fault (readFault bs B C R) _ _ p q e
+    passed = accepted (readFault bs B C R) _ _ p q (sym e) .0
 
     pub accepted-output : output bs ≡ roundsText (stateRead bs)
     unfolding output
@@ -98,6 +86,14 @@ module _ {n m : ℕ} {bs : List ℕ} {B C R : List ℤ} {t : List ℕ} (h : Read
         let c′ = c ∙ sym (becomes passed C (decode bs .coefs)) in
         let r′ = r ∙ sym (becomes passed R (decode bs .rhs)) in
         rw (b′, c′, r′, h .table, h .sized .variables, h .sized .rows)
+
+-- an input that is refused by its last 16 bytes and its length: so is the book
+pub head-output : (bs : List ℕ) (number : ℕ) → refused number ≡ headCall bs → refusedLine number ≡ output bs
+unfolding headCall output bookFault bookChecks
+head-output bs number e =
+    let r = refused-fault (first (headChecks bs)) number _ _ e in
+    let f : bookFault bs ≡ first (headChecks bs) = first-stop (headChecks bs) (modelNumberChecks (decode bs)) (r .1) in
+    rw (ne-eqb (bookFault bs) 0 (λ z. r .1 (sym f ∙ z))) (ap refusedLine (r .0 ∙ sym f))
 
 -- an accepted input that is held whole is a book that says n and m
 pub held-sized : {bs start tail : List ℕ} {len n m : ℕ} → Held bs start tail len → len ≤ length start → sizesAre n m ≡ headCall bs → Sized n m (take len start)

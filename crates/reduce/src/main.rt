@@ -34,6 +34,7 @@ fn main() {
 }
 
 // The answer to an input of `len` bytes that ends in `tail`; where it is no longer than `start`, `start` begins with it.
+// A number by which `sizes` refuses the input is the one of its `output` (`head-output`).
 fn answer(start: &[u8], tail: &[u8], len: usize)
     requires { ⌜ (maxBook ≤ length (now start)) × ((bs : List ℕ) × Held bs (now start) (now tail) len) ⌝ }
 {

@@ -3,7 +3,6 @@ use book::SizesAnswer;
 use book::reading::read;
 use rounds::RoundsAnswer;
 ghost use mathlib.Core.Path.{_≡_};
-ghost use Prim.Native.Nat.{ℕ};
 ghost use Rattle.semantics.specs.State.{State};
 ghost use Rattle.rounds.specs.Answers.{roundsAnswer};
 ghost use Rattle.reduce.specs.Answers.{Ready, answerText};
