@@ -14,7 +14,7 @@ use compare::rng::Rng;
 use compare::suite::{self, Plan, SEED};
 use native::Native;
 
-/// How many cases are made where nothing else is asked: about a minute.
+/// How many cases are made where nothing else is asked: about ten seconds.
 const CASES: u64 = 150_000;
 
 /// Enough cases to meet every check of every call and every case of every answer.
