@@ -4,8 +4,8 @@ use borrow.Author.Tests.{ne-eqb}
 use mathlib.Core.Path.{_≡_, refl}
 use native.Mathlib.Omega.{arith}
 use Rattle.book.specs.Answers.{Answer, lent, refused, sizesAnswer, unless, writeAnswer}
-use Rattle.book.specs.declared.trailer.SizesAnswer.{SizesAnswer}
-use Rattle.book.specs.declared.trailer.SizesAnswer.the-variants as sizes
+use Rattle.book.specs.declared.layout.SizesAnswer.{SizesAnswer}
+use Rattle.book.specs.declared.layout.SizesAnswer.the-variants as sizes
 use Rattle.book.specs.declared.writing.WriteAnswer.{WriteAnswer}
 use Rattle.book.specs.declared.writing.WriteAnswer.the-variants as write
 

@@ -8,8 +8,8 @@ use mathlib.Core.List.{List}
 use Rattle.model.specs.Checks.{first}
 use Rattle.book.specs.Book.{Model, decode, encode, rows, variables}
 use Rattle.book.specs.BookChecks.{readChecks, trailerChecks, writeChecks}
-use Rattle.book.specs.declared.trailer.SizesAnswer.{SizesAnswer}
-use Rattle.book.specs.declared.trailer.SizesAnswer.the-variants as sizes
+use Rattle.book.specs.declared.layout.SizesAnswer.{SizesAnswer}
+use Rattle.book.specs.declared.layout.SizesAnswer.the-variants as sizes
 use Rattle.book.specs.declared.writing.WriteAnswer.{WriteAnswer}
 use Rattle.book.specs.declared.writing.WriteAnswer.the-variants as write
 

@@ -1,10 +1,10 @@
 // Writing a model as a book: every check over the model and the lent book, and only then the bytes.
 use crate::bytes::write_i32;
 use crate::integers::write_integers;
-use crate::trailer::TRAILER;
-use crate::trailer::book_length;
-use crate::trailer::row_place;
-use crate::trailer::write_trailer;
+use crate::layout::TRAILER;
+use crate::layout::book_length;
+use crate::layout::row_place;
+use crate::layout::write_trailer;
 use model::length_fault;
 use model::number_fault;
 use model::size_fault;

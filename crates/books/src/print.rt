@@ -1,5 +1,5 @@
 // One line for each case: a label and the answer.
-use book::trailer::SizesAnswer;
+use book::SizesAnswer;
 use book::writing::WriteAnswer;
 
 fn refused(number: u32) {

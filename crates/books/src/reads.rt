@@ -1,8 +1,7 @@
 // Reading 01's book of 44 bytes: bounds 0, 1, 0, 1 and the row 4, 3, 2 (trailer 0, 16, 2, 1, 44), whole, changed and cut.
 use crate::print;
-use book::bytes::write_i32;
 use book::reading::read;
-use book::trailer::trailer;
+use book::trailer;
 
 // Places in it: the bounds at 0, the row at 16, the trailer at 28.
 pub fn example() -> [u8; 44] {
@@ -61,33 +60,34 @@ fn reading(label: &[u8], book: &[u8]) {
     print::sizes(label, read(book, &mut bounds, &mut coefs, &mut rhs));
 }
 
-// The example with `value` for the four bytes at place `at`.
-fn with(at: usize, value: i32) -> [u8; 44] {
-    let mut book = example();
+// The book with `value` for the four bytes at place `at`.
+fn with(book: [u8; 44], at: usize, value: [u8; 4]) -> [u8; 44] {
+    let mut book = book;
     if at > 40 {
         return book;
     }
-    write_i32(&mut book, at, value);
+    book[at] = value[0];
+    book[at + 1] = value[1];
+    book[at + 2] = value[2];
+    book[at + 3] = value[3];
     book
 }
 
-fn changed(label: &[u8], at: usize, value: i32) {
-    let book = with(at, value);
+// Reads the example with `value`, its lowest byte first, at place `at`.
+fn changed(label: &[u8], at: usize, value: [u8; 4]) {
+    let book = with(example(), at, value);
     reading(label, &book);
 }
 
-fn trailer_changed(label: &[u8], at: usize, value: i32) {
-    let book = with(at, value);
+fn trailer_changed(label: &[u8], at: usize, value: [u8; 4]) {
+    let book = with(example(), at, value);
     print::sizes(label, trailer(&book[28..]));
 }
 
 // Reads the example with this box.
-fn boxed(label: &[u8], lower0: i32, upper0: i32, lower1: i32, upper1: i32) {
-    let mut book = example();
-    write_i32(&mut book, 0, lower0);
-    write_i32(&mut book, 4, upper0);
-    write_i32(&mut book, 8, lower1);
-    write_i32(&mut book, 12, upper1);
+fn boxed(label: &[u8], lower0: [u8; 4], upper0: [u8; 4], lower1: [u8; 4], upper1: [u8; 4]) {
+    let book = with(with(example(), 0, lower0), 4, upper0);
+    let book = with(with(book, 8, lower1), 12, upper1);
     reading(label, &book);
 }
 
@@ -124,16 +124,16 @@ pub fn whole_books() {
     reading(b"its last 15 bytes", &book[29..]);
     reading(b"its last 16 bytes", &book[28..]);
     reading(b"its last 43 bytes", &book[1..]);
-    changed(b"length 43", 40, 43);
-    changed(b"length 45", 40, 45);
-    changed(b"0 variables", 36, 65_536);
-    changed(b"128 variables", 36, 65_664);
-    changed(b"129 variables", 36, 65_665);
-    changed(b"120 rows", 36, 7_864_322);
-    changed(b"121 rows", 36, 7_929_858);
-    changed(b"bounds at 1", 28, 1);
-    changed(b"rows at 15", 32, 15);
-    changed(b"rows at 17", 32, 17);
+    changed(b"length 43", 40, [43, 0, 0, 0]);
+    changed(b"length 45", 40, [45, 0, 0, 0]);
+    changed(b"0 variables", 36, [0, 0, 1, 0]);
+    changed(b"128 variables", 36, [128, 0, 1, 0]);
+    changed(b"129 variables", 36, [129, 0, 1, 0]);
+    changed(b"120 rows", 36, [2, 0, 120, 0]);
+    changed(b"121 rows", 36, [2, 0, 121, 0]);
+    changed(b"bounds at 1", 28, [1, 0, 0, 0]);
+    changed(b"rows at 15", 32, [15, 0, 0, 0]);
+    changed(b"rows at 17", 32, [17, 0, 0, 0]);
 }
 
 pub fn trailers() {
@@ -141,31 +141,49 @@ pub fn trailers() {
     print::sizes(b"trailer", trailer(&book[28..]));
     print::sizes(b"trailer of 15 bytes", trailer(&book[29..]));
     print::sizes(b"trailer of 17 bytes", trailer(&book[27..]));
-    trailer_changed(b"trailer, 0 variables", 36, 65_536);
-    trailer_changed(b"trailer, 129 variables", 36, 65_665);
-    trailer_changed(b"trailer, 121 rows", 36, 7_929_858);
-    trailer_changed(b"trailer, bounds at 1", 28, 1);
-    trailer_changed(b"trailer, rows at 17", 32, 17);
-    trailer_changed(b"trailer, length 43", 40, 43);
-    trailer_changed(b"trailer, length 45", 40, 45);
+    trailer_changed(b"trailer, 0 variables", 36, [0, 0, 1, 0]);
+    trailer_changed(b"trailer, 129 variables", 36, [129, 0, 1, 0]);
+    trailer_changed(b"trailer, 121 rows", 36, [2, 0, 121, 0]);
+    trailer_changed(b"trailer, bounds at 1", 28, [1, 0, 0, 0]);
+    trailer_changed(b"trailer, rows at 17", 32, [17, 0, 0, 0]);
+    trailer_changed(b"trailer, length 43", 40, [43, 0, 0, 0]);
+    trailer_changed(b"trailer, length 45", 40, [45, 0, 0, 0]);
 }
 
 pub fn numbers() {
-    changed(b"lower bound -32768", 0, -32_768);
-    changed(b"lower bound -32769", 0, -32_769);
-    changed(b"upper bound 32767", 4, 32_767);
-    changed(b"upper bound 32768", 4, 32_768);
-    boxed(b"equal bounds", 1, 1, 0, 0);
-    boxed(b"a lower bound above its upper", 0, 1, 1, 0);
-    boxed(b"the empty box", 1, 0, 1, 0);
-    changed(b"coefficient 1000000", 20, 1_000_000);
-    changed(b"coefficient 1000001", 20, 1_000_001);
-    changed(b"coefficient -1000000", 24, -1_000_000);
-    changed(b"coefficient -1000001", 24, -1_000_001);
-    changed(b"right side 1000000000", 16, 1_000_000_000);
-    changed(b"right side 1000000001", 16, 1_000_000_001);
-    changed(b"right side -1000000000", 16, -1_000_000_000);
-    changed(b"right side -1000000001", 16, -1_000_000_001);
+    changed(b"lower bound -32768", 0, [0, 128, 255, 255]);
+    changed(b"lower bound -32769", 0, [255, 127, 255, 255]);
+    changed(b"upper bound 32767", 4, [255, 127, 0, 0]);
+    changed(b"upper bound 32768", 4, [0, 128, 0, 0]);
+    boxed(
+        b"equal bounds",
+        [1, 0, 0, 0],
+        [1, 0, 0, 0],
+        [0, 0, 0, 0],
+        [0, 0, 0, 0],
+    );
+    boxed(
+        b"a lower bound above its upper",
+        [0, 0, 0, 0],
+        [1, 0, 0, 0],
+        [1, 0, 0, 0],
+        [0, 0, 0, 0],
+    );
+    boxed(
+        b"the empty box",
+        [1, 0, 0, 0],
+        [0, 0, 0, 0],
+        [1, 0, 0, 0],
+        [0, 0, 0, 0],
+    );
+    changed(b"coefficient 1000000", 20, [64, 66, 15, 0]);
+    changed(b"coefficient 1000001", 20, [65, 66, 15, 0]);
+    changed(b"coefficient -1000000", 24, [192, 189, 240, 255]);
+    changed(b"coefficient -1000001", 24, [191, 189, 240, 255]);
+    changed(b"right side 1000000000", 16, [0, 202, 154, 59]);
+    changed(b"right side 1000000001", 16, [1, 202, 154, 59]);
+    changed(b"right side -1000000000", 16, [0, 54, 101, 196]);
+    changed(b"right side -1000000001", 16, [255, 53, 101, 196]);
 }
 
 pub fn lengths() {

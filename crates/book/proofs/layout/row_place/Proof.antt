@@ -1,11 +1,11 @@
--- `book::trailer::row_place`: within the limits of n and i nothing overflows (`place-below`). Assumes nothing.
+-- `book::layout::row_place`: within the limits of n and i nothing overflows (`place-below`). Assumes nothing.
 use borrow.Author.Needs.{needs}
 use mathlib.Core.Path.{refl}
 use native.Mathlib.Omega.{arith}
 use Rattle.book.specs.Book.{rowPlace}
 use Rattle.book.proofs.EncodeLaws.{place-below}
-use Rattle.book.proofs.trailer.row_place.Statement.{statement}
-use Rattle.book.proofs.trailer.row_place.Tie as tie
+use Rattle.book.proofs.layout.row_place.Statement.{statement}
+use Rattle.book.proofs.layout.row_place.Tie as tie
 
 mul-result : tie.Need-mul-result
 mul-result c = search needs

@@ -1,4 +1,4 @@
--- `book::trailer::write_trailer`: the five numbers one after the other fill the 16 bytes (`trailer-written`).
+-- `book::layout::write_trailer`: the five numbers one after the other fill the 16 bytes (`trailer-written`).
 -- Assumes nothing.
 use Prim.Native.Nat.{_*_, ℕ}
 use borrow.Author.Needs.{needs}
@@ -8,8 +8,8 @@ use native.Mathlib.Omega.{arith}
 use Rattle.book.specs.Bytes.{bytesOf}
 use Rattle.book.specs.Pieces.{overwrite}
 use Rattle.book.proofs.EncodeLaws.{length-below, trailer-written}
-use Rattle.book.proofs.trailer.write_trailer.Statement.{statement}
-use Rattle.book.proofs.trailer.write_trailer.Tie as tie
+use Rattle.book.proofs.layout.write_trailer.Statement.{statement}
+use Rattle.book.proofs.layout.write_trailer.Tie as tie
 
 write-u32-requires : tie.Need-write-u32-requires
 write-u32-requires c κs = search needs

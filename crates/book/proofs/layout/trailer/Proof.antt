@@ -1,4 +1,4 @@
--- `book::trailer::trailer`: the checks in their order, and the sizes where all are passed. Assumes nothing.
+-- `book::layout::trailer`: the checks in their order, and the sizes where all are passed. Assumes nothing.
 use borrow.Author.Needs.{needs}
 use borrow.Author.Tests.{le-leb, lt-leb}
 use mathlib.Core.Path.{_∙_, _≡_, ap₂, sym}
@@ -8,8 +8,8 @@ use Rattle.model.proofs.CheckLaws.{fails, past}
 use Rattle.book.specs.Answers.{sizesAnswer, sizesAre, trailerCall}
 use Rattle.book.specs.BookChecks.{trailerChecks}
 use Rattle.book.proofs.AnswerLaws.{accepted-by, refused-by}
-use Rattle.book.proofs.trailer.trailer.Statement.{statement}
-use Rattle.book.proofs.trailer.trailer.Tie as tie
+use Rattle.book.proofs.layout.trailer.Statement.{statement}
+use Rattle.book.proofs.layout.trailer.Tie as tie
 
 returns : tie.Need-returns
 unfolding sizesAnswer trailerCall trailerChecks

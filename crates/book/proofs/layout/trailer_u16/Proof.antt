@@ -1,12 +1,12 @@
--- `book::trailer::trailer_u16`: the part of the book is its trailer (`trailer-part`). Assumes nothing.
+-- `book::layout::trailer_u16`: the part of the book is its trailer (`trailer-part`). Assumes nothing.
 use Prim.Native.Nat.{ℕ}
 use borrow.Author.Needs.{needs}
 use mathlib.Core.List.{List}
 use mathlib.Core.Path.{_∙_, ap}
 use Rattle.book.specs.Bytes.{numberAt}
 use Rattle.book.proofs.EncodeLaws.{trailer-part}
-use Rattle.book.proofs.trailer.trailer_u16.Statement.{statement}
-use Rattle.book.proofs.trailer.trailer_u16.Tie as tie
+use Rattle.book.proofs.layout.trailer_u16.Statement.{statement}
+use Rattle.book.proofs.layout.trailer_u16.Tie as tie
 
 sub-read-u16 : tie.Need-sub-read-u16
 sub-read-u16 c = search needs

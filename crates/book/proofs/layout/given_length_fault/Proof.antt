@@ -1,11 +1,11 @@
--- `book::trailer::given_length_fault`: the comparison is the test of check 2. Assumes nothing.
+-- `book::layout::given_length_fault`: the comparison is the test of check 2. Assumes nothing.
 use borrow.Author.Needs.{needs}
 use borrow.Author.Tests.{eq-eqb, ne-eqb}
 use mathlib.Core.Path.{_∙_, sym}
 use Rattle.model.proofs.CheckLaws.{ends, fails, past}
 use Rattle.book.specs.BookChecks.{givenLengthChecks}
-use Rattle.book.proofs.trailer.given_length_fault.Statement.{statement}
-use Rattle.book.proofs.trailer.given_length_fault.Tie as tie
+use Rattle.book.proofs.layout.given_length_fault.Statement.{statement}
+use Rattle.book.proofs.layout.given_length_fault.Tie as tie
 
 read-u32-requires : tie.Need-read-u32-requires
 read-u32-requires c κs = search needs

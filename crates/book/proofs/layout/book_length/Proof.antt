@@ -1,10 +1,10 @@
--- `book::trailer::book_length`: the place of row m and the trailer after it. Assumes nothing.
+-- `book::layout::book_length`: the place of row m and the trailer after it. Assumes nothing.
 use borrow.Author.Needs.{needs}
 use native.Mathlib.Omega.{arith}
 use Rattle.book.specs.Book.{bookLength, rowPlace}
 use Rattle.book.proofs.EncodeLaws.{place-below}
-use Rattle.book.proofs.trailer.book_length.Statement.{statement}
-use Rattle.book.proofs.trailer.book_length.Tie as tie
+use Rattle.book.proofs.layout.book_length.Statement.{statement}
+use Rattle.book.proofs.layout.book_length.Tie as tie
 
 row-place-requires : tie.Need-row-place-requires
 row-place-requires c κs = search needs

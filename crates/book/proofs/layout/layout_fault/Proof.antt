@@ -1,4 +1,4 @@
--- `book::trailer::layout_fault`: check 3 by `size_fault`, and each comparison is a part of check 4 (`layout-refused`).
+-- `book::layout::layout_fault`: check 3 by `size_fault`, and each comparison is a part of check 4 (`layout-refused`).
 -- Assumes nothing.
 use borrow.Author.Needs.{needs}
 use mathlib.Core.Path.{_∙_, _≡_, sym}
@@ -9,8 +9,8 @@ use Rattle.model.proofs.CheckLaws.{stops}
 use Rattle.book.specs.Book.{bookLength, rows, variables}
 use Rattle.book.specs.BookChecks.{layoutChecks}
 use Rattle.book.proofs.AcceptLaws.{layout-accepted, layout-refused, size-passed}
-use Rattle.book.proofs.trailer.layout_fault.Statement.{statement}
-use Rattle.book.proofs.trailer.layout_fault.Tie as tie
+use Rattle.book.proofs.layout.layout_fault.Statement.{statement}
+use Rattle.book.proofs.layout.layout_fault.Tie as tie
 
 variables-of-requires : tie.Need-variables-of-requires
 variables-of-requires c κs = search needs

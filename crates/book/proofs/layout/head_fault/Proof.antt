@@ -1,4 +1,4 @@
--- `book::trailer::head_fault`: the part of the book is its trailer, and the checks are passed in their order.
+-- `book::layout::head_fault`: the part of the book is its trailer, and the checks are passed in their order.
 -- Assumes nothing.
 use Prim.Native.Nat.{ℕ}
 use borrow.Author.Needs.{needs}
@@ -11,8 +11,8 @@ use Rattle.model.proofs.CheckLaws.{fails, goes, past, stops}
 use Rattle.book.specs.Book.{trailerOf}
 use Rattle.book.specs.BookChecks.{givenLengthChecks, headChecks, layoutChecks}
 use Rattle.book.proofs.EncodeLaws.{trailer-part}
-use Rattle.book.proofs.trailer.head_fault.Statement.{statement}
-use Rattle.book.proofs.trailer.head_fault.Tie as tie
+use Rattle.book.proofs.layout.head_fault.Statement.{statement}
+use Rattle.book.proofs.layout.head_fault.Tie as tie
 
 returns : tie.Need-returns
 unfolding headChecks
