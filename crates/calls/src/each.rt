@@ -13,14 +13,7 @@ use reducer::calls::tighten_coefficient;
 ghost use Prim.Native.Nat.{_≤_};
 ghost use lib.ListN.{length};
 
-// The numbers of a call record that follow its kind.
-pub struct Numbers {
-    pub row: u32,
-    pub variable: u32,
-    pub budget: u32,
-}
-
-pub fn lesser(x: usize, y: usize) -> usize
+fn lesser(x: usize, y: usize) -> usize
     ensures { λ r. ⌜ (r ≤ x) × (r ≤ y) ⌝ }
 {
     if x < y { x } else { y }
@@ -185,32 +178,22 @@ pub fn rest(n: usize, m: usize, bounds: &[i32], coefs: &[i32], rhs: &[i32]) {
     line();
 }
 
-// All six, behind a line that names the model.
+// All six.
 pub fn all(
-    word: &[u8],
     n: usize,
     m: usize,
     bounds: &[i32],
     coefs: &[i32],
     rhs: &[i32],
     table: &[u8],
-    numbers: Numbers,
+    row: u32,
+    variable: u32,
+    budget: u32,
 ) {
-    text(word);
-    line();
-    visit(n, m, bounds, coefs, rhs, numbers.row);
-    settle(n, m, bounds, coefs, rhs, numbers.budget);
-    probed(
-        n,
-        m,
-        bounds,
-        coefs,
-        rhs,
-        table,
-        numbers.variable,
-        numbers.budget,
-    );
-    sharpen(n, m, bounds, coefs, rhs, numbers.row, numbers.variable);
-    drop(n, m, bounds, coefs, rhs, numbers.row);
+    visit(n, m, bounds, coefs, rhs, row);
+    settle(n, m, bounds, coefs, rhs, budget);
+    probed(n, m, bounds, coefs, rhs, table, variable, budget);
+    sharpen(n, m, bounds, coefs, rhs, row, variable);
+    drop(n, m, bounds, coefs, rhs, row);
     rest(n, m, bounds, coefs, rhs);
 }
