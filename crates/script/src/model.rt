@@ -7,8 +7,8 @@ use crate::words::fill;
 use crate::words::fill_bytes;
 use crate::words::first;
 use crate::words::integer;
-use crate::words::lesser;
 use crate::words::number;
+use crate::words::second;
 
 // n and m as the calls are told them, and how much of each buffer they are lent.
 pub struct Sizes {
@@ -51,15 +51,6 @@ fn put(line: &[u8], xs: &mut [i32]) {
     }
 }
 
-// The byte that the second word of a line starts with.
-fn second(line: &[u8]) -> u8 {
-    let at = number(line, 0).next;
-    if at < line.len() {
-        return line[at];
-    }
-    0
-}
-
 fn put_one(line: &[u8], bounds: &mut [i32], coefs: &mut [i32], rhs: &mut [i32]) {
     match second(line) {
         b'b' => put(line, bounds),
@@ -90,19 +81,4 @@ pub fn change(
         _ => {}
     }
     sizes
-}
-
-// As many numbers of a buffer as it is lent.
-pub fn part(xs: &[i32], len: usize) -> &[i32] {
-    if xs.len() < len {
-        return xs;
-    }
-    &xs[..len]
-}
-
-pub fn bytes_part(xs: &[u8], len: usize) -> &[u8] {
-    if xs.len() < len {
-        return xs;
-    }
-    &xs[..len]
 }

@@ -104,6 +104,15 @@ pub fn number(line: &[u8], k: usize) -> Word {
     word
 }
 
+// The byte that the second word of a line starts with.
+pub fn second(line: &[u8]) -> u8 {
+    let at = number(line, 0).next;
+    if at < line.len() {
+        return line[at];
+    }
+    0
+}
+
 pub fn integer(x: Word) -> i32 {
     if 2_147_483_647 < x.magnitude {
         if x.is_negative {
@@ -143,6 +152,21 @@ pub fn fill(line: &[u8], at: usize, len: usize, xs: &mut [i32]) {
         }
         let word = word_at(line, place);
         xs[i] = integer(word);
+        place = word.next;
+        i += 1;
+    }
+}
+
+pub fn fill_naturals(line: &[u8], at: usize, len: usize, xs: &mut [u32]) {
+    let end = lesser(len, xs.len());
+    let mut place = at;
+    let mut i = 0;
+    while i < end {
+        if line.len() <= place {
+            place = at;
+        }
+        let word = word_at(line, place);
+        xs[i] = natural(word);
         place = word.next;
         i += 1;
     }
