@@ -7,10 +7,18 @@ mod writes;
 
 fn main() {
     reads::whole_books();
+    reads::layouts();
+    reads::offsets();
     reads::trailers();
-    reads::numbers();
+    reads::trailers_changed();
+    reads::bounds();
+    reads::boxes();
+    reads::coefs();
+    reads::right_sides();
     reads::lengths();
     writes::sizes();
+    writes::lengths();
+    writes::more_lengths();
     writes::numbers();
     trips::small();
     trips::largest();

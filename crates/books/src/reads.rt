@@ -4,53 +4,55 @@ use book::reading::read;
 use book::trailer;
 
 // Places in it: the bounds at 0, the row at 16, the trailer at 28.
+const EXAMPLE: [u8; 44] = [
+    0,
+    0,
+    0,
+    0,
+    1,
+    0,
+    0,
+    0,
+    0,
+    0,
+    0,
+    0,
+    1,
+    0,
+    0,
+    0,
+    4,
+    0,
+    0,
+    0,
+    3,
+    0,
+    0,
+    0,
+    2,
+    0,
+    0,
+    0,
+    0,
+    0,
+    0,
+    0,
+    16,
+    0,
+    0,
+    0,
+    2,
+    0,
+    1,
+    0,
+    44,
+    0,
+    0,
+    0,
+];
+
 pub fn example() -> [u8; 44] {
-    [
-        0,
-        0,
-        0,
-        0,
-        1,
-        0,
-        0,
-        0,
-        0,
-        0,
-        0,
-        0,
-        1,
-        0,
-        0,
-        0,
-        4,
-        0,
-        0,
-        0,
-        3,
-        0,
-        0,
-        0,
-        2,
-        0,
-        0,
-        0,
-        0,
-        0,
-        0,
-        0,
-        16,
-        0,
-        0,
-        0,
-        2,
-        0,
-        1,
-        0,
-        44,
-        0,
-        0,
-        0,
-    ]
+    EXAMPLE
 }
 
 fn reading(label: &[u8], book: &[u8]) {
@@ -124,11 +126,18 @@ pub fn whole_books() {
     reading(b"its last 15 bytes", &book[29..]);
     reading(b"its last 16 bytes", &book[28..]);
     reading(b"its last 43 bytes", &book[1..]);
+}
+
+// Lengths, sizes and offsets that the trailer must not say.
+pub fn layouts() {
     changed(b"length 43", 40, [43, 0, 0, 0]);
     changed(b"length 45", 40, [45, 0, 0, 0]);
     changed(b"0 variables", 36, [0, 0, 1, 0]);
     changed(b"128 variables", 36, [128, 0, 1, 0]);
     changed(b"129 variables", 36, [129, 0, 1, 0]);
+}
+
+pub fn offsets() {
     changed(b"120 rows", 36, [2, 0, 120, 0]);
     changed(b"121 rows", 36, [2, 0, 121, 0]);
     changed(b"bounds at 1", 28, [1, 0, 0, 0]);
@@ -141,6 +150,9 @@ pub fn trailers() {
     print::sizes(b"trailer", trailer(&book[28..]));
     print::sizes(b"trailer of 15 bytes", trailer(&book[29..]));
     print::sizes(b"trailer of 17 bytes", trailer(&book[27..]));
+}
+
+pub fn trailers_changed() {
     trailer_changed(b"trailer, 0 variables", 36, [0, 0, 1, 0]);
     trailer_changed(b"trailer, 129 variables", 36, [129, 0, 1, 0]);
     trailer_changed(b"trailer, 121 rows", 36, [2, 0, 121, 0]);
@@ -150,11 +162,14 @@ pub fn trailers() {
     trailer_changed(b"trailer, length 45", 40, [45, 0, 0, 0]);
 }
 
-pub fn numbers() {
+pub fn bounds() {
     changed(b"lower bound -32768", 0, [0, 128, 255, 255]);
     changed(b"lower bound -32769", 0, [255, 127, 255, 255]);
     changed(b"upper bound 32767", 4, [255, 127, 0, 0]);
     changed(b"upper bound 32768", 4, [0, 128, 0, 0]);
+}
+
+pub fn boxes() {
     boxed(
         b"equal bounds",
         [1, 0, 0, 0],
@@ -176,10 +191,16 @@ pub fn numbers() {
         [1, 0, 0, 0],
         [0, 0, 0, 0],
     );
+}
+
+pub fn coefs() {
     changed(b"coefficient 1000000", 20, [64, 66, 15, 0]);
     changed(b"coefficient 1000001", 20, [65, 66, 15, 0]);
     changed(b"coefficient -1000000", 24, [192, 189, 240, 255]);
     changed(b"coefficient -1000001", 24, [191, 189, 240, 255]);
+}
+
+pub fn right_sides() {
     changed(b"right side 1000000000", 16, [0, 202, 154, 59]);
     changed(b"right side 1000000001", 16, [1, 202, 154, 59]);
     changed(b"right side -1000000000", 16, [0, 54, 101, 196]);

@@ -53,6 +53,23 @@ fn write_again(
     print::same(b"round trip, bytes", check::same(book, again));
 }
 
+// Reads the book and compares what was read with the model that was written.
+fn read_back(
+    bounds: &[i32],
+    coefs: &[i32],
+    rhs: &[i32],
+    book: &[u8],
+    bounds_read: &mut [i32],
+    coefs_read: &mut [i32],
+    rhs_read: &mut [i32],
+) {
+    print::sizes(
+        b"round trip, read",
+        read(book, bounds_read, coefs_read, rhs_read),
+    );
+    compare(bounds, coefs, rhs, bounds_read, coefs_read, rhs_read);
+}
+
 // The buffers after the model are for what is read and what is written again.
 fn trip(
     n: usize,
@@ -70,11 +87,7 @@ fn trip(
         b"round trip, written",
         write(n, m, bounds, coefs, rhs, book),
     );
-    print::sizes(
-        b"round trip, read",
-        read(book, bounds_read, coefs_read, rhs_read),
-    );
-    compare(bounds, coefs, rhs, bounds_read, coefs_read, rhs_read);
+    read_back(bounds, coefs, rhs, book, bounds_read, coefs_read, rhs_read);
     write_again(n, m, bounds_read, coefs_read, rhs_read, book, again);
 }
 

@@ -55,10 +55,16 @@ pub fn sizes() {
     sized(b"write 0 variables", 0, 1, 4, 2, 1, 44);
     sized(b"write 129 variables", 129, 1, 4, 2, 1, 44);
     sized(b"write 121 rows", 2, 121, 4, 2, 1, 44);
+}
+
+pub fn lengths() {
     sized(b"write a bound too few", 2, 1, 3, 2, 1, 44);
     sized(b"write a bound too many", 2, 1, 5, 2, 1, 44);
     sized(b"write a coefficient too few", 2, 1, 4, 1, 1, 44);
     sized(b"write a coefficient too many", 2, 1, 4, 3, 1, 44);
+}
+
+pub fn more_lengths() {
     sized(b"write a right side too few", 2, 1, 4, 2, 0, 44);
     sized(b"write a right side too many", 2, 1, 4, 2, 2, 44);
     sized(b"write a byte too few", 2, 1, 4, 2, 1, 43);

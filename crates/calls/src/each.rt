@@ -10,33 +10,9 @@ use reducer::calls::propagate;
 use reducer::calls::propagate_row;
 use reducer::calls::remove_redundant_row;
 use reducer::calls::tighten_coefficient;
-ghost use Prim.Native.Nat.{_≤_};
-ghost use lib.ListN.{length};
-
-// The numbers of a call record that follow its kind.
-pub struct Numbers {
-    pub row: u32,
-    pub variable: u32,
-    pub budget: u32,
-}
-
-pub fn lesser(x: usize, y: usize) -> usize
-    ensures { λ r. ⌜ (r ≤ x) × (r ≤ y) ⌝ }
-{
-    if x < y { x } else { y }
-}
-
-fn front(s: &mut [i32], k: usize) -> &mut [i32]
-    requires { ⌜ k ≤ length (now s) ⌝ }
-{
-    &mut s[..k]
-}
-
-fn front_bytes(s: &mut [u8], k: usize) -> &mut [u8]
-    requires { ⌜ k ≤ length (now s) ⌝ }
-{
-    &mut s[..k]
-}
+use script::bytes_part_mut;
+use script::lesser;
+use script::part_mut;
 
 fn copy(from: &[i32], to: &mut [i32]) {
     let len = lesser(from.len(), to.len());
@@ -59,14 +35,12 @@ fn copy_bytes(from: &[u8], to: &mut [u8]) {
 // A copy, in room that is lent for it.
 fn copied<'a>(from: &[i32], room: &'a mut [i32]) -> &'a mut [i32] {
     copy(from, room);
-    let len = lesser(from.len(), room.len());
-    front(room, len)
+    part_mut(room, from.len())
 }
 
 fn copied_bytes<'a>(from: &[u8], room: &'a mut [u8]) -> &'a mut [u8] {
     copy_bytes(from, room);
-    let len = lesser(from.len(), room.len());
-    front_bytes(room, len)
+    bytes_part_mut(room, from.len())
 }
 
 fn change(word: &[u8], place: usize, value: i32) {
@@ -185,32 +159,22 @@ pub fn rest(n: usize, m: usize, bounds: &[i32], coefs: &[i32], rhs: &[i32]) {
     line();
 }
 
-// All six, behind a line that names the model.
+// All six.
 pub fn all(
-    word: &[u8],
     n: usize,
     m: usize,
     bounds: &[i32],
     coefs: &[i32],
     rhs: &[i32],
     table: &[u8],
-    numbers: Numbers,
+    row: u32,
+    variable: u32,
+    budget: u32,
 ) {
-    text(word);
-    line();
-    visit(n, m, bounds, coefs, rhs, numbers.row);
-    settle(n, m, bounds, coefs, rhs, numbers.budget);
-    probed(
-        n,
-        m,
-        bounds,
-        coefs,
-        rhs,
-        table,
-        numbers.variable,
-        numbers.budget,
-    );
-    sharpen(n, m, bounds, coefs, rhs, numbers.row, numbers.variable);
-    drop(n, m, bounds, coefs, rhs, numbers.row);
+    visit(n, m, bounds, coefs, rhs, row);
+    settle(n, m, bounds, coefs, rhs, budget);
+    probed(n, m, bounds, coefs, rhs, table, variable, budget);
+    sharpen(n, m, bounds, coefs, rhs, row, variable);
+    drop(n, m, bounds, coefs, rhs, row);
     rest(n, m, bounds, coefs, rhs);
 }
