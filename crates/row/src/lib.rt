@@ -5,3 +5,4 @@ pub mod activity;
 pub mod propagation;
 pub mod redundancy;
 pub mod tightening;
+pub mod view;
