@@ -1,5 +1,5 @@
 -- One row of a valid model, with the box: what the functions of this crate ask for.
-use Prim.Native.Nat.{_*_, _+_, _<_, _≤_, ℕ}
+use Prim.Native.Nat.{_*_, _<_, _≤_, ℕ}
 use lib.IntN.{ℤ}
 use lib.ListN.{length}
 use lib.Signed.{_≤ℤ_}
@@ -22,11 +22,6 @@ pub record ValidCoefs (n : ℕ) (A B : List ℤ) : Type 0 where
 pub record ValidRow (n : ℕ) (A : List ℤ) (b : ℤ) (B : List ℤ) : Type 0 where
   pub coefs : ValidCoefs n A B
   pub rhs : Between minRhs maxRhs b
-
--- row r lies in the matrix C with the right sides R
-pub record RowIn (n : ℕ) (C R : List ℤ) (r : ℕ) : Type 0 where
-  pub coefs : r * n + n ≤ length C
-  pub rhs : r < length R
 
 -- the numbers from which the bounds of one variable follow: least, at most b, is the row's minimum activity
 pub record ImpliesBounds (a b least l u : ℤ) : Type 0 where

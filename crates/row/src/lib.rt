@@ -5,4 +5,3 @@ pub mod activity;
 pub mod propagation;
 pub mod redundancy;
 pub mod tightening;
-pub mod view;

@@ -1,4 +1,4 @@
--- `row::view::Row::propagate` meets its contract: a walk of its MIR. The view is taken apart and the box lent on to `propagate_row`, of which the proof knows only that it meets its contract.
+-- `row_view::Row::propagate` meets its contract: a walk of its MIR. The view is taken apart and the box lent on to `propagate_row`, of which the proof knows only that it meets its contract.
 -- The view is Copy: what it owns is had twice, one copy is kept whole for the exit, and the fields of the other go to the callee. The box goes to the callee for good, and what says its last list comes back. Assumes nothing.
 use mathlib.Core.Path.{_≡_, refl}
 use Prim.Native.Nat.{ℕ, _<_}
@@ -42,23 +42,23 @@ use denote.Triple.Table.{entered, cited}
 use denote.Triple.Walked.{says, needs, Stays, stay-none, gave-slice, walkOf, goes-none, goes-gave-slice, Walks, ends-at, walked, walk-meets}
 use denote.Exit.{yes}
 use denote.Triple.Clauses.{ensured, lasts}
 use Rattle.row.specs.Answers.{propagationOutcome}
 use Rattle.row.specs.Propagation.{propagateRow}
 use Rattle.row.specs.ValidRow.{ValidRow}
 use Rattle.row.specs.declared.propagation.RowPropagation.{RowPropagation}
 use Rattle.row.proofs.propagation.RowPropagation as S
 use Rattle.row.proofs.propagation.RowPropagation.Laws as S′
 use Rattle.row.proofs.propagation.propagate_row as whole-row
 use Rattle.row.proofs.propagation.propagate_row.Symbol as whole-row-def
 use Rattle.row.proofs.propagation.propagate_row.Symbol.{name as #row·propagation·propagate-row}
 use Rattle.row.proofs.propagation.propagate_row.Met as whole-row-thm
-use Rattle.row.specs.declared.view.Row.{Row}
-use Rattle.row.proofs.view.Row as T
-use Rattle.row.proofs.view.Row.Laws as T′
-use Rattle.row.proofs.view.Row.propagate.Key.{name as #row·view·propagate}
-use Rattle.row.proofs.view.Row.propagate as view
-use Rattle.row.proofs.view.Row.propagate.Statement as stated
-use Rattle.row.proofs.view.Row.propagate.Code as code
+use Rattle.row_view.specs.declared.Row.{Row}
+use Rattle.row_view.proofs.Row as T
+use Rattle.row_view.proofs.Row.Laws as T′
+use Rattle.row_view.proofs.Row.propagate.Key.{name as #row-view·propagate}
+use Rattle.row_view.proofs.Row.propagate as view
+use Rattle.row_view.proofs.Row.propagate.Statement as stated
+use Rattle.row_view.proofs.Row.propagate.Code as code
 
 -- the struct's type and laws, over the signature's lifetimes
 abbrev B : Lfts 2 → RattleType
@@ -182,6 +182,6 @@ pub propagate-spec : {M : Type 1} → stated.statement M
 unfolding code.routine tablesOf
 propagate-spec 𝓤 H 𝓜 𝓖 𝓡 =
     entered 𝓤 H (tripleOf 𝓤 H (𝓖 .A) view.signature (view.spec 𝓤 H (𝓖 .A) (𝓜 .mem) (𝓡 .run)))
-    (tables 𝓤 H 𝓜 𝓡 code.env .C) (tables 𝓤 H 𝓜 𝓡 code.env .Λ) #row·view·propagate code.function (code.unfolded 𝓤 H 𝓜 𝓡)
+    (tables 𝓤 H 𝓜 𝓡 code.env .C) (tables 𝓤 H 𝓜 𝓡 code.env .Λ) #row-view·propagate code.function (code.unfolded 𝓤 H 𝓜 𝓡)
     (view-meets 𝓤 H (𝓖 .A) (givenOf 𝓤 H 𝓜 𝓖) (𝓜 .mem) (𝓡 .run) (tablesOf 𝓤 H 𝓜 (tables 𝓤 H 𝓜 𝓡 code.env))
     (cited 𝓤 H (WholeRow 𝓤 H (𝓖 .A) (𝓜 .mem) (𝓡 .run)) 𝓜 𝓡 code.env #row·propagation·propagate-row whole-row-def.routine code.calls-row·propagation·propagate-row (whole-row-thm.met 𝓤 H 𝓜 𝓖 𝓡)))

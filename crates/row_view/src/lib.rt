@@ -1,19 +1,20 @@
 // One row, read in place (01, "Row sums"): a view of its n coefficients in the matrix, with its right side. No function over a
 // struct that holds a reference is covered, so each is thin and proved by hand: it takes the view apart and leaves the work to a
 // function over plain slices.
-use crate::activity::maximum_activity;
-use crate::activity::minimum_activity;
-use crate::propagation::RowPropagation;
-use crate::propagation::propagate_row;
+use row::activity::maximum_activity;
+use row::activity::minimum_activity;
+use row::propagation::RowPropagation;
+use row::propagation::propagate_row;
 ghost use mathlib.Core.Path.{_≡_};
 ghost use Prim.Native.Nat.{_*_, _+_, _≤_};
 ghost use lib.ListN.{length};
 ghost use Rattle.model.specs.Box.{at};
 ghost use Rattle.model.specs.Point.{rowOf};
 ghost use Rattle.row.specs.Activity.{minActivity, maxActivity};
 ghost use Rattle.row.specs.Answers.{propagationOutcome};
 ghost use Rattle.row.specs.Propagation.{propagateRow};
-ghost use Rattle.row.specs.ValidRow.{RowIn, ValidCoefs, ValidRow};
+ghost use Rattle.row.specs.ValidRow.{ValidCoefs, ValidRow};
+ghost use Rattle.row_view.specs.RowIn.{RowIn};
 
 pub struct Row<'a> {
     pub coefs: &'a [i32],

@@ -1,4 +1,4 @@
--- `row::view::Row::minimum_activity` meets its contract: a walk of its MIR. The view is taken apart, and its coefficients and the box go to `minimum_activity`, of which the proof knows only that it meets its contract.
+-- `row_view::Row::minimum_activity` meets its contract: a walk of its MIR. The view is taken apart, and its coefficients and the box go to `minimum_activity`, of which the proof knows only that it meets its contract.
 -- The view and the box's reference are Copy: what each owns is had twice, one copy for the exit and one for the callee. Assumes nothing.
 use mathlib.Core.Path.{_≡_, refl}
 use mathlib.Core.List.{List, [], _∷_}
@@ -40,19 +40,19 @@ use denote.Triple.Table.{entered, cited}
 use denote.Triple.Walked.{says, needs, Stays, stay-none, stay-none-slice, walkOf, goes-none, goes-none-slice, Walks, ends-at, walked, walk-meets}
 use denote.Exit.{yes}
 use denote.Triple.Clauses.{ensured, lasts}
 use Rattle.row.specs.Activity.{minActivity}
 use Rattle.row.specs.ValidRow.{ValidCoefs}
-use Rattle.row.specs.declared.view.Row.{Row}
+use Rattle.row_view.specs.declared.Row.{Row}
 use Rattle.row.proofs.activity.minimum_activity as callee
 use Rattle.row.proofs.activity.minimum_activity.Symbol as callee-def
 use Rattle.row.proofs.activity.minimum_activity.Symbol.{name as #row·activity·minimum-activity}
 use Rattle.row.proofs.activity.minimum_activity.Met as callee-thm
-use Rattle.row.proofs.view.Row as T
-use Rattle.row.proofs.view.Row.Laws as T′
-use Rattle.row.proofs.view.Row.minimum_activity.Key.{name as #row·view·minimum-activity}
-use Rattle.row.proofs.view.Row.minimum_activity as view
-use Rattle.row.proofs.view.Row.minimum_activity.Statement as stated
-use Rattle.row.proofs.view.Row.minimum_activity.Code as code
+use Rattle.row_view.proofs.Row as T
+use Rattle.row_view.proofs.Row.Laws as T′
+use Rattle.row_view.proofs.Row.minimum_activity.Key.{name as #row-view·minimum-activity}
+use Rattle.row_view.proofs.Row.minimum_activity as view
+use Rattle.row_view.proofs.Row.minimum_activity.Statement as stated
+use Rattle.row_view.proofs.Row.minimum_activity.Code as code
 
 -- the view's type and laws, over the signature's lifetimes
 abbrev B : Lfts 2 → RattleType
@@ -171,6 +171,6 @@ pub minimum-activity-spec : {M : Type 1} → stated.statement M
 unfolding code.routine tablesOf
 minimum-activity-spec 𝓤 H 𝓜 𝓖 𝓡 =
     entered 𝓤 H (tripleOf 𝓤 H (𝓖 .A) view.signature (view.spec 𝓤 H (𝓖 .A) (𝓜 .mem) (𝓡 .run)))
-    (tables 𝓤 H 𝓜 𝓡 code.env .C) (tables 𝓤 H 𝓜 𝓡 code.env .Λ) #row·view·minimum-activity code.function (code.unfolded 𝓤 H 𝓜 𝓡)
+    (tables 𝓤 H 𝓜 𝓡 code.env .C) (tables 𝓤 H 𝓜 𝓡 code.env .Λ) #row-view·minimum-activity code.function (code.unfolded 𝓤 H 𝓜 𝓡)
     (view-meets 𝓤 H (𝓖 .A) (givenOf 𝓤 H 𝓜 𝓖) (𝓜 .mem) (𝓡 .run) (tablesOf 𝓤 H 𝓜 (tables 𝓤 H 𝓜 𝓡 code.env))
     (cited 𝓤 H (Callee 𝓤 H (𝓖 .A) (𝓜 .mem) (𝓡 .run)) 𝓜 𝓡 code.env #row·activity·minimum-activity callee-def.routine code.calls-row·activity·minimum-activity (callee-thm.met 𝓤 H 𝓜 𝓖 𝓡)))
