@@ -103,7 +103,9 @@ pub fn run(
     table: &mut [u8],
     calls: &[Call],
 ) -> RunAnswer
-    ensures { λ r. ⌜ (listRun r (stateOf n m (now (bounds .exit)) (now (coefs .exit)) (now (rhs .exit)) (now (table .exit))) ≡ runList (stateOf n m (now (bounds .entry)) (now (coefs .entry)) (now (rhs .entry)) (now (table .entry))) (numbersOf (now (calls .entry)))) × (Demand3Lists × CountsAddUp) ⌝ }
+    ensures defined { λ r. ⌜ listRun r (stateOf n m (now (bounds .exit)) (now (coefs .exit)) (now (rhs .exit)) (now (table .exit))) ≡ runList (stateOf n m (now (bounds .entry)) (now (coefs .entry)) (now (rhs .entry)) (now (table .entry))) (numbersOf (now (calls .entry))) ⌝ }
+    ensures demand3 { λ r. ⌜ Demand3Lists ⌝ }
+    ensures sum { λ r. ⌜ CountsAddUp ⌝ }
 {
     let mut answer = run_none(n, m, bounds, coefs, rhs, table);
     let mut i = 0;
