@@ -53,6 +53,7 @@ use Rattle.row.proofs.propagation.propagate_row.Symbol as whole-row-def
 use Rattle.row.proofs.propagation.propagate_row.Symbol.{name as #row·propagation·propagate-row}
 use Rattle.row.proofs.propagation.propagate_row.Met as whole-row-thm
 use Rattle.row_view.specs.declared.Row.{Row}
+use Rattle.row_view.proofs.Clauses.{tells}
 use Rattle.row_view.proofs.Row as T
 use Rattle.row_view.proofs.Row.Laws as T′
 use Rattle.row_view.proofs.Row.propagate.Key.{name as #row-view·propagate}
@@ -136,7 +137,7 @@ module _ {M : Type 1} (𝓤 : URA M) (H : Heap 𝓤) (A : Atoms 𝓤) (W : Given
       → ent 𝓤 (⋆ 𝓤 H A ((‵ (flft κ q) ⊛ ‵ (flft κ′ q′) ⊛ ‵ ftrue) ∷ ‵ Own ∷ ‵ (finally i32 (x .name) zs) ∷ ‵ (S.the-row .own r (u ∷ [])) ∷ [])) (Post u)
   exits r u zs e l =
       qed W ((‵ (flft κ q) ⊛ ‵ (flft κ′ q′) ⊛ ‵ ftrue) ∷ ‵ Own ∷ ‵ (finally i32 (x .name) zs) ∷ ‵ (S.the-row .own r (u ∷ [])) ∷ []) ∵
-      suffices ! _ (ends-at 𝓤 H A view.ended stayed (view.clauses 𝓤 H A mem run) W ((κs, (q, (q′, tt)), tt, (d, (x, tt)), vals), tt) u r (tt, (zs, tt)) (tt, (l, tt))) $ says ! e $ frame ! $
+      suffices ! _ (ends-at 𝓤 H A view.ended stayed (view.clauses 𝓤 H A mem run) W ((κs, (q, (q′, tt)), tt, (d, (x, tt)), vals), tt) u r (tt, (zs, tt)) (tt, (l, tt))) $ tells ! (e .0) (e .1) $ frame ! $
       nothing ! $ move ! (2 ∷ 0 ∷ []) $ fjoin ! $ move ! (1 ∷ 0 ∷ []) $ fjoin ! $ frame ! $ done !
 
   module _ (C : Calls 𝓤 H) (Λ : Loops 𝓤 H) (fm : FmC 𝓤 H (W .laws) C) (known : Triple 𝓤 (C #row·propagation·propagate-row) (WholeRow 𝓤 H A mem run)) where
