@@ -1,5 +1,5 @@
 -- A list of records is run as the flat list of their numbers is: before record i, what is left gives the whole. Assumes nothing.
-use Prim.Native.Nat.{_*_, _+_, _/_, _%_, _<_, _≤_, _^_, suc, zero, ℕ}
+use Prim.Native.Nat.{_*_, _+_, _%_, _<_, _≤_, _^_, suc, zero, ℕ}
 use lib.ListN.{getD, length}
 use mathlib.Core.List.{List, [], _∷_}
 use mathlib.Core.Path.{_∙_, _≡_, refl, sym}

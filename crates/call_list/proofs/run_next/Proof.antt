@@ -3,7 +3,7 @@ use Prim.Native.Nat.{_+_, _<_, _^_}
 use borrow.Author.Needs.{needs}
 use mathlib.Core.Path.{_≡_}
 use Rattle.semantics.specs.Points.{ValidState}
-use Rattle.semantics.specs.State.{State, stateOf}
+use Rattle.semantics.specs.State.{State}
 use Rattle.reducer.specs.CallLists.{countsOf, listAnswer, listRun}
 use Rattle.reducer.specs.declared.list.Counts.{Counts}
 use Rattle.reducer.specs.declared.list.RunAnswer.{RunAnswer}

@@ -1,6 +1,6 @@
 -- `row_view::propagate_row_at` meets its contract: a walk of its MIR. The view that `row_at` returns is held in a local and passed to `Row::propagate` with the box. Of both the proof knows only that they meet their contracts.
 -- The matrix and the right sides are Copy: what each owns is had twice, one copy is kept for the exit. The box goes to the callee for good, and what says its last list comes back. Assumes nothing.
-use mathlib.Core.Path.{_≡_, refl, sym}
+use mathlib.Core.Path.{_≡_, refl}
 use Prim.Native.Nat.{ℕ, _<_, _^_}
 use mathlib.Core.List.{List, [], _∷_}
 use lib.IntN.{ℤ}
@@ -21,7 +21,7 @@ use types.Kit.{Given, ‵, raw, _⊛_, ⋆, cut, some, later, _$_, _∵_, !, qed
 use types.Part.{agg, whole, sub, look-in}
 use types.Run.{look, init, forget, stop, hop, fld, from, load, addr, and-then, no-more, assigns, land, returns, enter, alloc1, alloc0, params1, pass1, pass0, free1, free0}
 use sound.WpLaws.{FmC, fmOf, WpFn-mono}
-use denote.RattleType.{RattleType, owns}
+use denote.RattleType.{owns}
 use denote.Laws.{Is, shows}
 use denote.Plain.{uint-makes, uint-tells, uint-vals}
 use denote.Builtin.{i32, usize}

@@ -1,7 +1,7 @@
 -- `row_view::row_at` meets its contract: a walk of its MIR. `coefficients` gives the row's part of the matrix, number r is read from the right sides, and the view is made of the two in the result's local.
 -- Both slices are Copy: what each owns is had twice, one copy is kept for the exit. Of `coefficients` the proof knows only that it meets its contract. Assumes nothing.
 use mathlib.Core.Path.{_≡_, refl, sym, ap, subst}
-use Prim.Native.Nat.{ℕ, _*_, _+_, _<_, _≤_, _^_}
+use Prim.Native.Nat.{ℕ, _*_, _<_, _^_}
 use native.Mathlib.Nat.{lt-of-le-of-lt, mul-le-mul-right, le-of-lt, lt-trans}
 use mathlib.Core.List.{List, [], _∷_}
 use lib.Dec.{T as Holds, lit<}

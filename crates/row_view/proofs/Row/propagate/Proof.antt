@@ -1,7 +1,6 @@
 -- `row_view::Row::propagate` meets its contract: a walk of its MIR. The view is taken apart and the box lent on to `propagate_row`, of which the proof knows only that it meets its contract.
 -- The view is Copy: what it owns is had twice, one copy is kept whole for the exit, and the fields of the other go to the callee. The box goes to the callee for good, and what says its last list comes back. Assumes nothing.
 use mathlib.Core.Path.{_≡_, refl}
-use Prim.Native.Nat.{ℕ, _<_}
 use mathlib.Core.List.{List, [], _∷_}
 use lib.Dec.{T as Holds}
 use lib.IntN.{ℤ}
@@ -33,7 +32,6 @@ use denote.Enum.Laws as EL
 use denote.Struct.Declared.{Declared}
 use denote.Struct.Laws as LL
 use denote.Struct.Rest.{all-own, own-open}
-use denote.Struct.Values.{Values}
 use denote.Triple.Statement.{Contract, Triple}
 use denote.Triple.Call.{calls-at}
 use denote.Triple.Entry.{Vals, onEntry}
