@@ -1,6 +1,6 @@
 -- `propagation::propagate` is the definition: rows 0 to r − 1 came to what `passTo` says, and the passes that are left from here
 -- give what the whole gives. The two ways out of the passes meet in `met`. Assumes nothing.
-use Prim.Native.Nat.{_*_, _+_, _-_, _<_, _≤_, ℕ}
+use Prim.Native.Nat.{_-_, _≤_, ℕ}
 use borrow.Author.Needs.{needs}
 use borrow.Author.Tests.{not-false, not-true}
 use lib.IntN.{ℤ}
@@ -21,7 +21,7 @@ use Rattle.row.proofs.PropagationLaws.{propagate-row-valid}
 use Rattle.semantics.specs.Propagate.{Propagation, passTo, propagate, propagateFrom}
 use Rattle.propagation.specs.Results.{propagationOf}
 use Rattle.propagation.specs.declared.Propagation.the-variants as code
-use Rattle.propagation.proofs.PropagationLoops.{budget-spent, pass-converged, pass-infeasible, pass-moved, row-feasible, row-fits, row-infeasible, valid-row}
+use Rattle.propagation.proofs.PropagationLoops.{budget-spent, pass-converged, pass-infeasible, pass-moved, row-feasible, row-in, row-infeasible, valid-row}
 use Rattle.propagation.proofs.propagate.Statement.{statement}
 use Rattle.propagation.proofs.propagate.Tie as tie
 
@@ -113,16 +113,11 @@ module _ (c : tie.In-rows Inv-rows μ-rows Inv-passes μ-passes) where
   abbrev P : List ℤ
   P = c .before .rows .bounds
 
-  in-coefs : r * n here + n here ≤ length (C here)
-  in-coefs = row-fits (s here .pre) r (c .rows-test .taken)
-
-  in-rhs : r < length (R here)
-  in-rhs = rw (s here .pre .rhsLen) (c .rows-test .taken)
-
 propagate-row-at-requires : tie.Need-propagate-row-at-requires Inv-rows μ-rows Inv-passes μ-passes
 propagate-row-at-requires c κs =
     let i = c .before in
-    (record { coefs = in-coefs i; rhs = in-rhs i }, valid-row (s (here i) .pre) (r i) (i .rows-test .taken) (i .before .rows .inv .2))
+    let h = i .rows-test .taken in
+    (row-in (s (here i) .pre) (r i) h, valid-row (s (here i) .pre) (r i) h (i .before .rows .inv .2))
 
 -- what the row answers and leaves
 module _ (c : tie.After-propagate-row-at Inv-rows μ-rows Inv-passes μ-passes) where
