@@ -116,3 +116,19 @@ pub fn run(
     }
     answer
 }
+
+// Runs four records that the caller holds by value: a function that lends a slice of records is proved by hand, and a caller of
+// this one is covered.
+pub fn run_four(
+    n: usize,
+    m: usize,
+    bounds: &mut [i32],
+    coefs: &mut [i32],
+    rhs: &mut [i32],
+    table: &mut [u8],
+    calls: [Call; 4],
+) -> RunAnswer
+    ensures defined { λ r. ⌜ listRun r (stateOf n m (now (bounds .exit)) (now (coefs .exit)) (now (rhs .exit)) (now (table .exit))) ≡ runList (stateOf n m (now (bounds .entry)) (now (coefs .entry)) (now (rhs .entry)) (now (table .entry))) (numbersOf calls) ⌝ }
+{
+    run(n, m, bounds, coefs, rhs, table, &calls)
+}
