@@ -26,6 +26,7 @@ use Rattle.row.specs.Propagation.{propagateRow}
 use Rattle.row.specs.ValidRow.{ValidRow}
 use Rattle.row.specs.declared.propagation.RowPropagation.{RowPropagation}
 use Rattle.row.specs.declared.propagation.RowPropagation.the-variants.{Infeasible, Tightened, Unchanged}
+use Rattle.row_view.specs.RowIn.{RowIn}
 use Rattle.row.proofs.RowLoops.{rhs-within}
 use Rattle.semantics.specs.Propagate.{Propagation, budgetSpent, converged, infeasible, passTo, propagateFrom}
 use Rattle.semantics.proofs.PropagateLaws.{pass-ended, pass-next, propagate-again, propagate-converged, propagate-none-now, propagate-spent}
@@ -54,6 +55,9 @@ module _ {n m : ℕ} {B₀ C R : List ℤ} (v : ValidModel n m B₀ C R) (r : �
 
   pub valid-row : {B : List ℤ} → ValidBox n B → ValidRow n (rowOf n C r) (at R r) B
   valid-row b = record { coefs = record { some = v .some; few = v .few; len = row-length; range = row-range; box = b }; rhs = v .rhs r }
+
+  pub row-in : RowIn n C R r
+  row-in = record { coefs = row-fits; rhs = rw (v .rhsLen) h }
 
   -- its right side, as the machine has it
   pub row-rhs : toZ w32 (ofZ w32 (at R r)) ≡ at R r

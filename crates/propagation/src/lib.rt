@@ -1,7 +1,8 @@
 // Propagate all rows (01's settle) of a model that passed the checks: passes over the rows until nothing moves, the budget is spent
-// or a row is infeasible. It knows of a row only what crate `row` states: no coefficient is looked at here or above.
+// or a row is infeasible. Each row is read in place through its view; it knows of a row only what crates `row` and `row_view` state:
+// no coefficient is looked at here or above.
 use row::propagation::RowPropagation;
-use row::propagation::propagate_row;
+use row_view::propagate_row_at;
 ghost use mathlib.Core.Path.{_≡_};
 ghost use Rattle.model.specs.Valid.{ValidModel};
 ghost use Rattle.semantics.specs.Propagate.{propagate as propagated};
@@ -40,9 +41,7 @@ pub fn propagate(
         let mut moved = false;
         let mut r = 0;
         'rows: while r < m {
-            let start = r * n;
-            let end = start + n;
-            match propagate_row(&coefs[start..end], rhs[r], bounds) {
+            match propagate_row_at(n, coefs, rhs, r, bounds) {
                 RowPropagation::Infeasible => {
                     infeasible = true;
                     break 'passes;

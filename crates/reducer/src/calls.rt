@@ -10,6 +10,7 @@ use propagation::Propagation;
 use row::propagation::RowPropagation;
 use row::redundancy::RowRemoval;
 use row::tightening::CoefficientTightening;
+use row_view::propagate_row_at;
 ghost use mathlib.Core.List.{[]};
 ghost use mathlib.Core.Logic.{_↔_};
 ghost use mathlib.Core.Path.{_≡_};
@@ -83,10 +84,7 @@ pub fn propagate_row(
     if fault != 0 {
         return PropagateRowAnswer::Refused(fault);
     }
-    let r = row as usize;
-    let start = r * n;
-    let end = start + n;
-    match row::propagation::propagate_row(&coefs[start..end], rhs[r], bounds) {
+    match propagate_row_at(n, coefs, rhs, row as usize, bounds) {
         RowPropagation::Infeasible => PropagateRowAnswer::Infeasible,
         RowPropagation::Tightened => PropagateRowAnswer::Tightened,
         RowPropagation::Unchanged => PropagateRowAnswer::Unchanged,

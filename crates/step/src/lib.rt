@@ -6,11 +6,11 @@ use probing::sides::probe;
 use propagation::Propagation;
 use propagation::propagate;
 use row::propagation::RowPropagation;
-use row::propagation::propagate_row;
 use row::redundancy::RowRemoval;
 use row::redundancy::remove_redundant_row;
 use row::tightening::CoefficientTightening;
 use row::tightening::tighten_coefficient;
+use row_view::propagate_row_at;
 ghost use mathlib.Core.Path.{_≡_};
 ghost use lib.ListN.{length};
 ghost use Rattle.model.specs.Box.{sameList};
@@ -150,11 +150,7 @@ fn run_accepted(
 {
     let r = row as usize;
     match kind {
-        1 => {
-            let start = r * n;
-            let end = start + n;
-            class_of_row(propagate_row(&coefs[start..end], rhs[r], bounds))
-        }
+        1 => class_of_row(propagate_row_at(n, coefs, rhs, r, bounds)),
         2 => class_of_propagation(propagate(n, m, bounds, coefs, rhs, budget)),
         3 => run_probe(n, m, bounds, coefs, rhs, table, variable, budget),
         4 => {

@@ -1,6 +1,6 @@
 -- `propagation::propagate` is the definition: rows 0 to r − 1 came to what `passTo` says, and the passes that are left from here
 -- give what the whole gives. The two ways out of the passes meet in `met`. Assumes nothing.
-use Prim.Native.Nat.{_*_, _+_, _-_, _≤_, ℕ}
+use Prim.Native.Nat.{_-_, _≤_, ℕ}
 use borrow.Author.Needs.{needs}
 use borrow.Author.Tests.{not-false, not-true}
 use lib.IntN.{ℤ}
@@ -9,8 +9,6 @@ use mathlib.Core.Bool.{Bool, cond, false}
 use mathlib.Core.List.{List}
 use mathlib.Core.Logic.{inl, inr, ⊎-elim}
 use mathlib.Core.Path.{_∙_, _≡_, ap, refl, subst, sym}
-use mir.Syntax.{w32}
-use mir.Val.{ofZ, toZ}
 use native.Mathlib.Nat.{sub-zero}
 use native.Mathlib.Omega.{arith}
 use Rattle.model.specs.Box.{at}
@@ -23,7 +21,7 @@ use Rattle.row.proofs.PropagationLaws.{propagate-row-valid}
 use Rattle.semantics.specs.Propagate.{Propagation, passTo, propagate, propagateFrom}
 use Rattle.propagation.specs.Results.{propagationOf}
 use Rattle.propagation.specs.declared.Propagation.the-variants as code
-use Rattle.propagation.proofs.PropagationLoops.{budget-spent, part-is, pass-converged, pass-infeasible, pass-moved, row-feasible, row-fits, row-infeasible, row-length, row-rhs, valid-row}
+use Rattle.propagation.proofs.PropagationLoops.{budget-spent, pass-converged, pass-infeasible, pass-moved, row-feasible, row-in, row-infeasible, valid-row}
 use Rattle.propagation.proofs.propagate.Statement.{statement}
 use Rattle.propagation.proofs.propagate.Tie as tie
 
@@ -115,54 +113,22 @@ module _ (c : tie.In-rows Inv-rows μ-rows Inv-passes μ-passes) where
   abbrev P : List ℤ
   P = c .before .rows .bounds
 
-  in-coefs : r * n here + n here ≤ length (C here)
-  in-coefs = row-fits (s here .pre) r (c .rows-test .taken)
-
-  rhs-is : toZ w32 (ofZ w32 (at (R here) r)) ≡ at (R here) r
-  rhs-is = row-rhs (s here .pre) r (c .rows-test .taken)
-
-mul-start : tie.Need-mul-start Inv-rows μ-rows Inv-passes μ-passes
-mul-start c = omega (arith, in-coefs c)
-
-add-end : tie.Need-add-end Inv-rows μ-rows Inv-passes μ-passes
-add-end c = omega (arith, in-coefs c)
-
-mul-propagate-row : tie.Need-mul-propagate-row Inv-rows μ-rows Inv-passes μ-passes
-mul-propagate-row c = omega (arith, in-coefs c)
-
-sub-propagate-row : tie.Need-sub-propagate-row Inv-rows μ-rows Inv-passes μ-passes
-sub-propagate-row c = omega arith
-
-part-propagate-row-start : tie.Need-part-propagate-row-start Inv-rows μ-rows Inv-passes μ-passes
-part-propagate-row-start c = omega arith
-
-part-propagate-row-end : tie.Need-part-propagate-row-end Inv-rows μ-rows Inv-passes μ-passes
-part-propagate-row-end c = omega (arith, in-coefs c)
-
-mul-propagate-row-2 : tie.Need-mul-propagate-row-2 Inv-rows μ-rows Inv-passes μ-passes
-mul-propagate-row-2 c = omega arith
-
-shared-slice-copy-out-propagate-row :
-    tie.Need-shared-slice-copy-out-propagate-row Inv-rows μ-rows Inv-passes μ-passes
-shared-slice-copy-out-propagate-row c = omega arith
-
-propagate-row-requires : tie.Need-propagate-row-requires Inv-rows μ-rows Inv-passes μ-passes
-propagate-row-requires c κs =
-    let i = c .before .before .before in
-    let h = here i in
-    rw (part-is (r i) (n h) (C h), row-length (s h .pre) (r i) (i .rows-test .taken), rhs-is i)
-    (valid-row (s h .pre) (r i) (i .rows-test .taken) (i .before .rows .inv .2))
+propagate-row-at-requires : tie.Need-propagate-row-at-requires Inv-rows μ-rows Inv-passes μ-passes
+propagate-row-at-requires c κs =
+    let i = c .before in
+    let h = i .rows-test .taken in
+    (row-in (s (here i) .pre) (r i) h, valid-row (s (here i) .pre) (r i) h (i .before .rows .inv .2))
 
 -- what the row answers and leaves
-module _ (c : tie.After-propagate-row Inv-rows μ-rows Inv-passes μ-passes) where
+module _ (c : tie.After-propagate-row-at Inv-rows μ-rows Inv-passes μ-passes) where
   abbrev row : tie.In-rows Inv-rows μ-rows Inv-passes μ-passes
-  row = c .before .before .before .before
+  row = c .before .before
 
   abbrev h : tie.At-passes Inv-rows μ-rows Inv-passes μ-passes
   h = here row
 
   abbrev Q : List ℤ
-  Q = c .propagate-row .last .1 .1 .0
+  Q = c .propagate-row-at .last .1 .1 .1 .1 .0
 
   abbrev A : List ℤ
   A = rowOf (n h) (C h) (r row)
@@ -170,14 +136,14 @@ module _ (c : tie.After-propagate-row Inv-rows μ-rows Inv-passes μ-passes) whe
   abbrev b : ℤ
   b = at (R h) (r row)
 
-  heard : (propagationOutcome (c .propagate-row .result) ≡ propagateRow (n h) A b (P row) .outcome) × (Q ≡ propagateRow (n h) A b (P row) .box)
-  heard = rw (part-is (r row) (n h) (C h), row-length (s h .pre) (r row) (row .rows-test .taken), rhs-is row) at (c .propagate-row .ensures)
+  heard : (propagationOutcome (c .propagate-row-at .result) ≡ propagateRow (n h) A b (P row) .outcome) × (Q ≡ propagateRow (n h) A b (P row) .box)
+  heard = c .propagate-row-at .ensures
 
   left-valid : ValidBox (n h) Q
   left-valid = subst (ValidBox (n h)) (sym (heard .1)) (propagate-row-valid A b (row .before .rows .inv .2))
 
   left-length : length Q ≡ length (B h)
-  left-length = c .propagate-row .kept .1 .1 .0 ∙ row .before .rows .inv .3
+  left-length = c .propagate-row-at .kept .1 .1 .1 .1 .0 ∙ row .before .rows .inv .3
 
 enum-told : tie.Need-enum-told Inv-rows μ-rows Inv-passes μ-passes
 enum-told c = search needs
@@ -261,12 +227,11 @@ met c =
     ))
     (λ w.
     let i : tie.In-rows Inv-rows μ-rows Inv-passes μ-passes = record { before = record { before = record { before = q; passes-test = w .0 }; rows = w .1 }; rows-test = w .2 } in
-    let a : tie.After-propagate-row-arg3 Inv-rows μ-rows Inv-passes μ-passes = record { before = record { before = record { before = i; propagate-row-arg = w .3 }; propagate-row-arg2 = w .4 }; propagate-row-arg3 = w .5 } in
-    let d : tie.After-propagate-row Inv-rows μ-rows Inv-passes μ-passes = record { before = a; propagate-row = w .6 } in
-    let e = row-infeasible (n q) (r (row d)) (C q) (R q) (B q) _ (w .1 .inv .1) (heard d .0) (heard d .1) (m q) (w .2 .taken) (w .9 .given .1) in (
-      after-is (w .12) (w .11) (w .10)
+    let d : tie.After-propagate-row-at Inv-rows μ-rows Inv-passes μ-passes = record { before = record { before = i; propagate-row-at-arg = w .3 }; propagate-row-at = w .4 } in
+    let e = row-infeasible (n q) (r (row d)) (C q) (R q) (B q) _ (w .1 .inv .1) (heard d .0) (heard d .1) (m q) (w .2 .taken) (w .7 .given .1) in (
+      after-is (w .10) (w .9) (w .8)
           ∙ sym (whole q ∙ pass-infeasible (budget q) (made q) (n q) (m q) (C q) (R q) (B q) (w .0 .taken) (q .passes .inv .1) e),
-      ap length (w .10) ∙ left-length d ∙ q .passes .inv .3,
+      ap length (w .8) ∙ left-length d ∙ q .passes .inv .3,
     ))
     (c .passes-test .came)
 
@@ -296,15 +261,7 @@ propagate-spec =
     passes-holds
     add-passes
     rows-holds
-    mul-start
-    add-end
-    mul-propagate-row
-    sub-propagate-row
-    part-propagate-row-start
-    part-propagate-row-end
-    mul-propagate-row-2
-    shared-slice-copy-out-propagate-row
-    propagate-row-requires
+    propagate-row-at-requires
     enum-told
     enum-told-2
     enum-told-3

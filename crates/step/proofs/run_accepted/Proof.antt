@@ -9,7 +9,7 @@ use Rattle.model.specs.Valid.{ValidModel}
 use Rattle.semantics.specs.State.{callOf, hasRow, hasVariable, Kind, kindOf, propagatesRow, removes, stateOf, tightens}
 use Rattle.semantics.proofs.Accepted.{Accepted, accepted}
 use Rattle.step.proofs.StepLaws.{fault-probed, kind-removes, ran-probed, ran-remove, ran-settle, ran-tighten, ran-visit}
-use Rattle.propagation.proofs.PropagationLoops.{part-is, row-fits, row-length, row-rhs, valid-row}
+use Rattle.propagation.proofs.PropagationLoops.{part-is, row-fits, row-in, row-length, valid-row}
 use Rattle.step.proofs.run_accepted.Statement.{statement}
 use Rattle.step.proofs.run_accepted.Tie as tie
 
@@ -55,37 +55,13 @@ visit-row : (c : tie.At-match-keys1) → r (c .before .before) < m (c .before .b
 unfolding stateOf callOf hasRow
 visit-row c = is-accepted (c .before .before) propagatesRow (visits c) .row tt
 
-mul-start : tie.Need-mul-start
-mul-start c = let s = c .before .before in omega (arith, row-fits (valid s) (r s) (visit-row c))
-
-add-end : tie.Need-add-end
-add-end c = let s = c .before .before in omega (arith, row-fits (valid s) (r s) (visit-row c))
-
-mul-propagate-row : tie.Need-mul-propagate-row
-mul-propagate-row c = let s = c .before .before in omega (arith, row-fits (valid s) (r s) (visit-row c))
-
-sub-propagate-row : tie.Need-sub-propagate-row
-sub-propagate-row c = search needs
-
-part-propagate-row-start : tie.Need-part-propagate-row-start
-part-propagate-row-start c = search needs
-
-part-propagate-row-end : tie.Need-part-propagate-row-end
-part-propagate-row-end c = let s = c .before .before .before in omega (arith, row-fits (valid s) (r s) (visit-row (c .before)))
-
-mul-propagate-row-2 : tie.Need-mul-propagate-row-2
-mul-propagate-row-2 c = search needs
-
-slice-copy-out-propagate-row : tie.Need-slice-copy-out-propagate-row
-slice-copy-out-propagate-row c = let a = c .before .before in omega (arith, visit-row a, valid (a .before .before) .rhsLen)
-
-propagate-row-requires : tie.Need-propagate-row-requires
-propagate-row-requires c κs =
-    let a = c .before .before .before .before in
+propagate-row-at-requires : tie.Need-propagate-row-at-requires
+propagate-row-at-requires c κs =
+    let a = c .before .before .before in
     let s = a .before .before in
     let v = valid s in
     let h = visit-row a in
-    rw (part-is (r s) (n s) (C s), row-length v (r s) h, row-rhs v (r s) h) (valid-row v (r s) h (v .box))
+    (row-in v (r s) h, valid-row v (r s) h (v .box))
 
 class-of-row-requires : tie.Need-class-of-row-requires
 class-of-row-requires c κs = search needs
@@ -120,11 +96,11 @@ tighten-variable : (c : tie.At-match-keys4) → c .before .before .args .variabl
 unfolding stateOf callOf hasVariable
 tighten-variable c = is-accepted (c .before .before) tightens (tighten-is c) .variable tt
 
-mul-start-2 : tie.Need-mul-start-2
-mul-start-2 c = let s = c .before .before in omega (arith, row-fits (valid s) (r s) (tighten-row c))
+mul-start : tie.Need-mul-start
+mul-start c = let s = c .before .before in omega (arith, row-fits (valid s) (r s) (tighten-row c))
 
-add-end-2 : tie.Need-add-end-2
-add-end-2 c = let s = c .before .before in omega (arith, row-fits (valid s) (r s) (tighten-row c))
+add-end : tie.Need-add-end
+add-end c = let s = c .before .before in omega (arith, row-fits (valid s) (r s) (tighten-row c))
 
 mul-tighten-coefficient : tie.Need-mul-tighten-coefficient
 mul-tighten-coefficient c = let s = c .before .before in omega (arith, row-fits (valid s) (r s) (tighten-row c))
@@ -167,11 +143,11 @@ remove-row : (c : tie.At-match-rest) → r (c .before .before) < m (c .before .b
 unfolding stateOf callOf hasRow
 remove-row c = is-accepted (c .before .before) removes (remove-is c) .row tt
 
-mul-start-3 : tie.Need-mul-start-3
-mul-start-3 c = let s = c .before .before in omega (arith, row-fits (valid s) (r s) (remove-row c))
+mul-start-2 : tie.Need-mul-start-2
+mul-start-2 c = let s = c .before .before in omega (arith, row-fits (valid s) (r s) (remove-row c))
 
-add-end-3 : tie.Need-add-end-3
-add-end-3 c = let s = c .before .before in omega (arith, row-fits (valid s) (r s) (remove-row c))
+add-end-2 : tie.Need-add-end-2
+add-end-2 c = let s = c .before .before in omega (arith, row-fits (valid s) (r s) (remove-row c))
 
 mul-remove-redundant-row : tie.Need-mul-remove-redundant-row
 mul-remove-redundant-row c = let s = c .before .before in omega (arith, row-fits (valid s) (r s) (remove-row c))
@@ -210,23 +186,25 @@ same-length c = search needs
 same-length-2 : tie.Need-same-length-2
 same-length-2 c = search needs
 
-returns : tie.Need-returns
-returns c =
-    let a = c .before .before .before .before .before .before .before in
-    let s = a .before .before in
-    let h = visit-row a in
-    ran-visit (n s) (m s) (B s) (C s) (R s) (t s) (s .args .kind) (r s) (s .args .variable) (s .args .budget) (s .pre .1) (visits a)
-    (c .class-of-row .ensures)
-    (rw (part-is (r s) (n s) (C s), row-length (valid s) (r s) h, row-rhs (valid s) (r s) h) at (c .before .before .propagate-row .ensures))
-
 same-length-3 : tie.Need-same-length-3
 same-length-3 c = search needs
+
+returns : tie.Need-returns
+returns c =
+    let a = c .before .before .before .before .before .before in
+    let s = a .before .before in
+    ran-visit (n s) (m s) (B s) (C s) (R s) (t s) (s .args .kind) (r s) (s .args .variable) (s .args .budget) (s .pre .1) (visits a)
+    (c .class-of-row .ensures)
+    (c .before .before .propagate-row-at .ensures)
 
 same-length-4 : tie.Need-same-length-4
 same-length-4 c = search needs
 
 same-length-5 : tie.Need-same-length-5
 same-length-5 c = search needs
+
+same-length-6 : tie.Need-same-length-6
+same-length-6 c = search needs
 
 returns-2 : tie.Need-returns-2
 unfolding kindOf
@@ -235,9 +213,6 @@ returns-2 c =
     let s = a .before .before in
     ran-settle (n s) (m s) (B s) (C s) (R s) (t s) (s .args .kind) (r s) (s .args .variable) (s .args .budget) (s .pre .1) _ _ (rw (a .match .keys2))
     (c .class-of-propagation .ensures) (c .before .before .propagate .ensures)
-
-same-length-6 : tie.Need-same-length-6
-same-length-6 c = search needs
 
 same-length-7 : tie.Need-same-length-7
 same-length-7 c = search needs
@@ -248,6 +223,9 @@ same-length-8 c = search needs
 same-length-9 : tie.Need-same-length-9
 same-length-9 c = search needs
 
+same-length-10 : tie.Need-same-length-10
+same-length-10 c = search needs
+
 returns-3 : tie.Need-returns-3
 returns-3 c =
     let a = c .before .before .before .before .before .before .before .before in
@@ -255,14 +233,14 @@ returns-3 c =
     ran-probed (n s) (m s) (B s) (C s) (R s) (t s) (s .args .kind) (r s) (s .args .variable) (s .args .budget) (a .match .keys3)
     (c .before .before .before .run-probe .ensures)
 
-same-length-10 : tie.Need-same-length-10
-same-length-10 c = search needs
-
 same-length-11 : tie.Need-same-length-11
 same-length-11 c = search needs
 
 same-length-12 : tie.Need-same-length-12
 same-length-12 c = search needs
+
+same-length-13 : tie.Need-same-length-13
+same-length-13 c = search needs
 
 returns-4 : tie.Need-returns-4
 returns-4 c =
@@ -275,14 +253,14 @@ returns-4 c =
     (rw (part-is (r s) (n s) (C s), row-length (valid s) (r s) h) at (d .kept .0))
     (rw (part-is (r s) (n s) (C s), row-length (valid s) (r s) h) at (d .ensures))
 
-same-length-13 : tie.Need-same-length-13
-same-length-13 c = search needs
-
 same-length-14 : tie.Need-same-length-14
 same-length-14 c = search needs
 
 same-length-15 : tie.Need-same-length-15
 same-length-15 c = search needs
+
+same-length-16 : tie.Need-same-length-16
+same-length-16 c = search needs
 
 returns-5 : tie.Need-returns-5
 returns-5 c =
@@ -299,21 +277,13 @@ pub run-accepted-spec : {M : Type 1} → statement M
 run-accepted-spec =
     tie.close
     (tie.spec
-    mul-start
-    add-end
-    mul-propagate-row
-    sub-propagate-row
-    part-propagate-row-start
-    part-propagate-row-end
-    mul-propagate-row-2
-    slice-copy-out-propagate-row
-    propagate-row-requires
+    propagate-row-at-requires
     class-of-row-requires
     propagate-requires
     class-of-propagation-requires
     run-probe-requires
-    mul-start-2
-    add-end-2
+    mul-start
+    add-end
     mul-tighten-coefficient
     sub-tighten-coefficient
     part-tighten-coefficient-start
@@ -322,8 +292,8 @@ run-accepted-spec =
     index-1-tighten-coefficient
     tighten-coefficient-requires
     class-of-tightening-requires
-    mul-start-3
-    add-end-3
+    mul-start-2
+    add-end-2
     mul-remove-redundant-row
     sub-remove-redundant-row
     part-remove-redundant-row-start
@@ -334,21 +304,22 @@ run-accepted-spec =
     class-of-removal-requires
     same-length
     same-length-2
-    returns
     same-length-3
+    returns
     same-length-4
     same-length-5
-    returns-2
     same-length-6
+    returns-2
     same-length-7
     same-length-8
     same-length-9
-    returns-3
     same-length-10
+    returns-3
     same-length-11
     same-length-12
-    returns-4
     same-length-13
+    returns-4
     same-length-14
     same-length-15
+    same-length-16
     returns-5)

@@ -5,7 +5,6 @@ use borrow.Author.Needs.{needs}
 use lib.IntN.{ℤ}
 use mathlib.Core.List.{List, []}
 use mathlib.Core.Path.{_∙_, _≡_, sym}
-use native.Mathlib.Omega.{arith}
 use Rattle.model.specs.Box.{at}
 use Rattle.model.specs.Point.{rowOf}
 use Rattle.model.specs.Valid.{ValidModel}
@@ -16,7 +15,7 @@ use Rattle.semantics.specs.Perform.{Answer, perform, propagatedRow}
 use Rattle.semantics.specs.State.{Call, callOf, hasRow, hasTable, kindOf, State, stateOf}
 use Rattle.reducer.specs.OpenCalls.{performed, rowAnswer}
 use Rattle.reducer.proofs.OpenCallLaws.{on-row, perform-refused, promised, row-propagated}
-use Rattle.propagation.proofs.PropagationLoops.{part-is, row-fits, row-length, row-rhs, valid-row}
+use Rattle.propagation.proofs.PropagationLoops.{row-in, valid-row}
 use Rattle.reducer.proofs.calls.propagate_row.Statement.{statement}
 use Rattle.reducer.proofs.calls.propagate_row.Tie as tie
 
@@ -69,49 +68,25 @@ module _ (c : tie.Else1) where
   unfolding kindOf hasRow
   on = on-row n (s .args .m) B C R 1 r 0 tt no-fault
 
-mul-start : tie.Need-mul-start
-mul-start c = omega (arith, row-fits (on c .0) (r c) (on c .1))
-
-add-end : tie.Need-add-end
-add-end c = omega (arith, row-fits (on c .0) (r c) (on c .1))
-
-mul-propagate-row : tie.Need-mul-propagate-row
-mul-propagate-row c = omega (arith, row-fits (on c .0) (r c) (on c .1))
-
-sub-propagate-row : tie.Need-sub-propagate-row
-sub-propagate-row c = search needs
-
-part-propagate-row-start : tie.Need-part-propagate-row-start
-part-propagate-row-start c = search needs
-
-part-propagate-row-end : tie.Need-part-propagate-row-end
-part-propagate-row-end c = omega (arith, row-fits (on c .0) (r c) (on c .1))
-
-mul-propagate-row-2 : tie.Need-mul-propagate-row-2
-mul-propagate-row-2 c = search needs
-
-shared-slice-copy-out-propagate-row : tie.Need-shared-slice-copy-out-propagate-row
-shared-slice-copy-out-propagate-row c = let a = c .before in omega (arith, on a .1, on a .0 .rhsLen)
-
-propagate-row-requires : tie.Need-propagate-row-requires
-propagate-row-requires c κs =
-    let a = c .before .before .before in
+propagate-row-at-requires : tie.Need-propagate-row-at-requires
+propagate-row-at-requires c κs =
+    let a = c .before in
     let v = on a in
-    rw (part-is (r a) (n a) (C a), row-length (v .0) (r a) (v .1), row-rhs (v .0) (r a) (v .1)) (valid-row (v .0) (r a) (v .1) (v .0 .box))
+    (row-in (v .0) (r a) (v .1), valid-row (v .0) (r a) (v .1) (v .0 .box))
 
 -- what the row answers and leaves
-module _ (c : tie.After-propagate-row) where
+module _ (c : tie.After-propagate-row-at) where
   abbrev a : tie.Else1
-  a = c .before .before .before .before
+  a = c .before .before
 
   abbrev Q : List ℤ
-  Q = c .propagate-row .last .1 .1 .0
+  Q = c .propagate-row-at .last .1 .1 .1 .1 .0
 
   heard : let p = propagateRow (n a) (rowOf (n a) (C a) (r a)) (at (R a) (r a)) (B a) in
-      (propagationOutcome (c .propagate-row .result) ≡ p .outcome) × (Q ≡ p .box)
-  heard = rw (part-is (r a) (n a) (C a), row-length (on a .0) (r a) (on a .1), row-rhs (on a .0) (r a) (on a .1)) at (c .propagate-row .ensures)
+      (propagationOutcome (c .propagate-row-at .result) ≡ p .outcome) × (Q ≡ p .box)
+  heard = c .propagate-row-at .ensures
 
-  done : {x : Answer} → x ≡ propagatedRow (propagationOutcome (c .propagate-row .result)) → performed x (state (s a) Q) ≡ perform (before (s a)) (call (s a))
+  done : {x : Answer} → x ≡ propagatedRow (propagationOutcome (c .propagate-row-at .result)) → performed x (state (s a) Q) ≡ perform (before (s a)) (call (s a))
   done e = row-propagated (n a) (s a .args .m) (B a) (C a) (R a) (r a) (no-fault a) e heard
 
 enum-told : tie.Need-enum-told
@@ -151,15 +126,7 @@ propagate-row-spec =
     call-fault-requires
     same-length
     returns
-    mul-start
-    add-end
-    mul-propagate-row
-    sub-propagate-row
-    part-propagate-row-start
-    part-propagate-row-end
-    mul-propagate-row-2
-    shared-slice-copy-out-propagate-row
-    propagate-row-requires
+    propagate-row-at-requires
     enum-told
     enum-told-2
     enum-told-3

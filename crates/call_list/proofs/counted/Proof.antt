@@ -1,0 +1,51 @@
+-- `call_list::counted`: the class names the count that grows. Assumes nothing.
+use borrow.Author.Needs.{needs}
+use Rattle.semantics.specs.Run.{countCall}
+use Rattle.step.specs.Classes.{classIs}
+use Rattle.reducer.specs.CallLists.{countsOf}
+use Rattle.call_list.proofs.counted.Statement.{statement}
+use Rattle.call_list.proofs.counted.Tie as tie
+
+enum-told : tie.Need-enum-told
+enum-told c = search needs
+
+add-next : tie.Need-add-next
+add-next c = search needs
+
+enum-told-2 : tie.Need-enum-told-2
+enum-told-2 c = search needs
+
+add-next-2 : tie.Need-add-next-2
+add-next-2 c = search needs
+
+enum-told-3 : tie.Need-enum-told-3
+enum-told-3 c = search needs
+
+add-next-3 : tie.Need-add-next-3
+add-next-3 c = search needs
+
+enum-told-4 : tie.Need-enum-told-4
+enum-told-4 c = search needs
+
+add-next-4 : tie.Need-add-next-4
+add-next-4 c = search needs
+
+returns : tie.Need-returns
+unfolding classIs countsOf countCall
+returns c = rw (c .before .enum-told .given .1)
+
+returns-2 : tie.Need-returns-2
+unfolding classIs countsOf countCall
+returns-2 c = rw (c .before .enum-told2 .given .1)
+
+returns-3 : tie.Need-returns-3
+unfolding classIs countsOf countCall
+returns-3 c = rw (c .before .enum-told3 .given .1)
+
+returns-4 : tie.Need-returns-4
+unfolding classIs countsOf countCall
+returns-4 c = rw (c .before .enum-told4 .given .1)
+
+pub counted-spec : {M : Type 1} → statement M
+counted-spec =
+    tie.close (tie.spec enum-told add-next enum-told-2 add-next-2 enum-told-3 add-next-3 enum-told-4 add-next-4 returns returns-2 returns-3 returns-4)

@@ -1,0 +1,70 @@
+-- `call_list::run_next`: a refused list stays as it is; else the record is run and counted. Assumes nothing.
+use Prim.Native.Nat.{_+_, _<_, _^_}
+use borrow.Author.Needs.{needs}
+use mathlib.Core.Path.{_≡_}
+use Rattle.semantics.specs.Points.{ValidState}
+use Rattle.semantics.specs.State.{State}
+use Rattle.reducer.specs.CallLists.{countsOf, listAnswer, listRun}
+use Rattle.reducer.specs.declared.list.Counts.{Counts}
+use Rattle.reducer.specs.declared.list.RunAnswer.{RunAnswer}
+use Rattle.reducer.specs.declared.list.RunAnswer.the-variants.{Ran}
+use Rattle.call_list.specs.Records.{Runs, RunsAt, callOn, nextOf, runNext}
+use Rattle.call_list.proofs.run_next.Statement.{statement}
+use Rattle.call_list.proofs.run_next.Tie as tie
+
+enum-known-answer : tie.Need-enum-known-answer
+enum-known-answer c = search needs
+
+enum-told : tie.Need-enum-told
+enum-told c = search needs
+
+returns : tie.Need-returns
+unfolding listRun listAnswer runNext nextOf
+returns c = rw (c .enum-told .given .1)
+
+-- of a list that is run, what is required
+run-valid : {a : RunAnswer} {k : Counts} (s : State) → Runs (listRun a s) → a ≡ Ran k → ValidState s × (k .refused + k .infeasible + k .changed + k .unchanged < 2 ^ 63)
+unfolding Runs RunsAt listRun listAnswer countsOf
+run-valid s p e = let r = rw e at p in (r .valid, r .small)
+
+run-record-requires : tie.Need-run-record-requires
+run-record-requires c κs = let h = c .before .before .before .before .before in run-valid _ (h .before .before .before .pre) (h .answer .given .1) .0
+
+counted-requires : tie.Need-counted-requires
+counted-requires c κs =
+    let h = c .before .before .before .before .before .before .before .before .before .before .before in
+    run-valid _ (h .before .before .before .pre) (h .answer .given .1) .1
+
+same-length : tie.Need-same-length
+same-length c = search needs
+
+same-length-2 : tie.Need-same-length-2
+same-length-2 c = search needs
+
+same-length-3 : tie.Need-same-length-3
+same-length-3 c = search needs
+
+same-length-4 : tie.Need-same-length-4
+same-length-4 c = search needs
+
+returns-2 : tie.Need-returns-2
+unfolding listRun listAnswer runNext nextOf callOn
+returns-2 c =
+    let r = c .before .before .before .before .before .before in
+    let h = r .before .before .before .before .before .before in
+    rw (h .answer .given .1, c .counted .ensures, r .run-record .ensures .0, r .run-record .ensures .1)
+
+pub run-next-spec : {M : Type 1} → statement M
+run-next-spec =
+    tie.close
+    (tie.spec
+    enum-known-answer
+    enum-told
+    returns
+    run-record-requires
+    counted-requires
+    same-length
+    same-length-2
+    same-length-3
+    same-length-4
+    returns-2)

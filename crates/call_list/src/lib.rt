@@ -1,0 +1,134 @@
+// A call list as records (01's run sheet): the calls that `reducer::list` reads from flat numbers, one struct each. No function over a
+// slice of structs is covered, so reading a record and the loop over them are proved by hand; all else is in covered functions.
+use reducer::list::Counts;
+use reducer::list::RunAnswer;
+use step::CallClass;
+use step::run_record;
+ghost use mathlib.Core.List.{[]};
+ghost use mathlib.Core.Path.{_≡_};
+ghost use Prim.Native.Nat.{_+_, _<_, _^_};
+ghost use lib.ListN.{length, getD};
+ghost use Rattle.semantics.specs.CallList.{runList};
+ghost use Rattle.semantics.specs.Run.{countCall};
+ghost use Rattle.semantics.specs.State.{stateOf};
+ghost use Rattle.semantics.specs.TwoLists.{CountsAddUp, Demand3Lists};
+ghost use Rattle.step.specs.Classes.{classIs};
+ghost use Rattle.reducer.specs.CallLists.{countsOf, listRun};
+ghost use Rattle.call_list.specs.Records.{Runs, noCall, numbersOf, runNext};
+
+// kind, 1 propagate a row, 2 propagate, 3 probe, 4 tighten a coefficient, 5 remove a redundant row; row; variable; budget.
+pub struct Call {
+    pub kind: u32,
+    pub row: u32,
+    pub variable: u32,
+    pub budget: u32,
+}
+
+fn record_at(calls: &[Call], i: usize) -> Call
+    requires { ⌜ i < length (now calls) ⌝ }
+    ensures { λ r. ⌜ r ≡ getD (now (calls .entry)) i noCall ⌝ }
+{
+    calls[i]
+}
+
+// The answer before the first record, which is that of the empty list: the model and the table are checked.
+fn run_none<'a>(
+    n: usize,
+    m: usize,
+    bounds: &'a mut [i32],
+    coefs: &'a mut [i32],
+    rhs: &'a mut [i32],
+    table: &'a mut [u8],
+) -> RunAnswer
+    ensures { λ r. ⌜ listRun r (stateOf n m (now (bounds .exit)) (now (coefs .exit)) (now (rhs .exit)) (now (table .exit))) ≡ runList (stateOf n m (now (bounds .entry)) (now (coefs .entry)) (now (rhs .entry)) (now (table .entry))) [] ⌝ }
+{
+    let none: [u32; 0] = [];
+    reducer::list::run(n, m, bounds, coefs, rhs, table, &none)
+}
+
+// The counts with one call more.
+fn counted(counts: Counts, class: CallClass) -> Counts
+    requires { ⌜ counts .refused + counts .infeasible + counts .changed + counts .unchanged < 2 ^ 63 ⌝ }
+    ensures { λ r. ⌜ countsOf r ≡ countCall (classIs class) (countsOf counts) ⌝ }
+{
+    let mut next = counts;
+    match class {
+        CallClass::Refused => next.refused += 1,
+        CallClass::Infeasible => next.infeasible += 1,
+        CallClass::Changed => next.changed += 1,
+        CallClass::Unchanged => next.unchanged += 1,
+    }
+    next
+}
+
+// The answer with one record more. A list that is refused stays refused.
+fn run_next<'a>(
+    n: usize,
+    m: usize,
+    bounds: &'a mut [i32],
+    coefs: &'a mut [i32],
+    rhs: &'a mut [i32],
+    table: &'a mut [u8],
+    answer: RunAnswer,
+    call: Call,
+) -> RunAnswer
+    requires { ⌜ Runs (listRun answer (stateOf n m (now bounds) (now coefs) (now rhs) (now table))) ⌝ }
+    ensures { λ r. ⌜ listRun r (stateOf n m (now (bounds .exit)) (now (coefs .exit)) (now (rhs .exit)) (now (table .exit))) ≡ runNext (listRun answer (stateOf n m (now (bounds .entry)) (now (coefs .entry)) (now (rhs .entry)) (now (table .entry)))) call ⌝ }
+{
+    let RunAnswer::Ran(counts) = answer else {
+        return answer;
+    };
+    let class = run_record(
+        n,
+        m,
+        bounds,
+        coefs,
+        rhs,
+        table,
+        call.kind,
+        call.row,
+        call.variable,
+        call.budget,
+    );
+    RunAnswer::Ran(counted(counts, class))
+}
+
+// Runs a list of call records in their order. It goes on after a refused call.
+pub fn run(
+    n: usize,
+    m: usize,
+    bounds: &mut [i32],
+    coefs: &mut [i32],
+    rhs: &mut [i32],
+    table: &mut [u8],
+    calls: &[Call],
+) -> RunAnswer
+    ensures defined { λ r. ⌜ listRun r (stateOf n m (now (bounds .exit)) (now (coefs .exit)) (now (rhs .exit)) (now (table .exit))) ≡ runList (stateOf n m (now (bounds .entry)) (now (coefs .entry)) (now (rhs .entry)) (now (table .entry))) (numbersOf (now (calls .entry))) ⌝ }
+    ensures demand3 { λ r. ⌜ Demand3Lists ⌝ }
+    ensures sum { λ r. ⌜ CountsAddUp ⌝ }
+{
+    let mut answer = run_none(n, m, bounds, coefs, rhs, table);
+    let mut i = 0;
+    while i < calls.len() {
+        let call = record_at(calls, i);
+        answer = run_next(n, m, bounds, coefs, rhs, table, answer, call);
+        i += 1;
+    }
+    answer
+}
+
+// Runs four records that the caller holds by value: a function that lends a slice of records is proved by hand, and a caller of
+// this one is covered.
+pub fn run_four(
+    n: usize,
+    m: usize,
+    bounds: &mut [i32],
+    coefs: &mut [i32],
+    rhs: &mut [i32],
+    table: &mut [u8],
+    calls: [Call; 4],
+) -> RunAnswer
+    ensures defined { λ r. ⌜ listRun r (stateOf n m (now (bounds .exit)) (now (coefs .exit)) (now (rhs .exit)) (now (table .exit))) ≡ runList (stateOf n m (now (bounds .entry)) (now (coefs .entry)) (now (rhs .entry)) (now (table .entry))) (numbersOf calls) ⌝ }
+{
+    run(n, m, bounds, coefs, rhs, table, &calls)
+}

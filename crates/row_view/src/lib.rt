@@ -1,0 +1,85 @@
+// One row, read in place (01, "Row sums"): a view of its n coefficients in the matrix, with its right side. No function over a
+// struct that holds a reference is covered, so each is thin and proved by hand: it takes the view apart and leaves the work to a
+// function over plain slices.
+use row::activity::maximum_activity;
+use row::activity::minimum_activity;
+use row::propagation::RowPropagation;
+use row::propagation::propagate_row;
+ghost use mathlib.Core.Path.{_≡_};
+ghost use Prim.Native.Nat.{_*_, _+_, _≤_};
+ghost use lib.ListN.{length};
+ghost use Rattle.model.specs.Box.{at};
+ghost use Rattle.model.specs.Point.{rowOf};
+ghost use Rattle.row.specs.Activity.{minActivity, maxActivity};
+ghost use Rattle.row.specs.Answers.{propagationOutcome};
+ghost use Rattle.row.specs.Propagation.{propagateRow};
+ghost use Rattle.row.specs.ValidRow.{ValidCoefs, ValidRow};
+ghost use Rattle.row_view.specs.RowIn.{RowIn};
+
+pub struct Row<'a> {
+    pub coefs: &'a [i32],
+    pub b: i32,
+}
+
+impl<'a> Row<'a> {
+    // Lmin.
+    pub fn minimum_activity<'b>(self, bounds: &'b [i32]) -> i64
+        requires { ⌜ ValidCoefs (length (now (self .coefs))) (now (self .coefs)) (now bounds) ⌝ }
+        ensures { λ r. ⌜ r ≡ minActivity (length (now (self .entry .coefs))) (now (self .entry .coefs)) (now (bounds .entry)) ⌝ }
+    {
+        minimum_activity(self.coefs, bounds)
+    }
+
+    // Lmax.
+    pub fn maximum_activity<'b>(self, bounds: &'b [i32]) -> i64
+        requires { ⌜ ValidCoefs (length (now (self .coefs))) (now (self .coefs)) (now bounds) ⌝ }
+        ensures { λ r. ⌜ r ≡ maxActivity (length (now (self .entry .coefs))) (now (self .entry .coefs)) (now (bounds .entry)) ⌝ }
+    {
+        maximum_activity(self.coefs, bounds)
+    }
+
+    // 01's visit of the row, with the box lent.
+    pub fn propagate<'b>(self, bounds: &'b mut [i32]) -> RowPropagation
+        requires { ⌜ ValidRow (length (now (self .coefs))) (now (self .coefs)) (self .b) (now bounds) ⌝ }
+        ensures answer { λ r. ⌜ propagationOutcome r ≡ propagateRow (length (now (self .entry .coefs))) (now (self .entry .coefs)) (self .entry .b) (now (bounds .entry)) .outcome ⌝ }
+        ensures left { λ r. ⌜ now (bounds .exit) ≡ propagateRow (length (now (self .entry .coefs))) (now (self .entry .coefs)) (self .entry .b) (now (bounds .entry)) .box ⌝ }
+    {
+        propagate_row(self.coefs, self.b, bounds)
+    }
+}
+
+// The coefficients of row r.
+fn coefficients<'a>(n: usize, coefs: &'a [i32], r: usize) -> &'a [i32]
+    requires { ⌜ r * n + n ≤ length (now coefs) ⌝ }
+    ensures { λ row. ⌜ now row ≡ rowOf n (now (coefs .entry)) r ⌝ }
+{
+    let start = r * n;
+    let end = start + n;
+    &coefs[start..end]
+}
+
+// Row r of the matrix, with its right side.
+pub fn row_at<'a, 'b>(n: usize, coefs: &'a [i32], rhs: &'b [i32], r: usize) -> Row<'a>
+    requires { ⌜ RowIn n (now coefs) (now rhs) r ⌝ }
+    ensures { λ row. ⌜ (now (row .coefs) ≡ rowOf n (now (coefs .entry)) r) × (row .b ≡ at (now (rhs .entry)) r) ⌝ }
+{
+    Row {
+        coefs: coefficients(n, coefs, r),
+        b: rhs[r],
+    }
+}
+
+// Propagates row r of the matrix through its view: for callers with plain slices, which need no proof by hand.
+pub fn propagate_row_at<'a, 'b, 'c>(
+    n: usize,
+    coefs: &'a [i32],
+    rhs: &'b [i32],
+    r: usize,
+    bounds: &'c mut [i32],
+) -> RowPropagation
+    requires { ⌜ RowIn n (now coefs) (now rhs) r × ValidRow n (rowOf n (now coefs) r) (at (now rhs) r) (now bounds) ⌝ }
+    ensures answer { λ s. ⌜ propagationOutcome s ≡ propagateRow n (rowOf n (now (coefs .entry)) r) (at (now (rhs .entry)) r) (now (bounds .entry)) .outcome ⌝ }
+    ensures left { λ s. ⌜ now (bounds .exit) ≡ propagateRow n (rowOf n (now (coefs .entry)) r) (at (now (rhs .entry)) r) (now (bounds .entry)) .box ⌝ }
+{
+    row_at(n, coefs, rhs, r).propagate(bounds)
+}
