@@ -3,7 +3,7 @@
 //   model NAME                    writes the name
 //   all ROW VARIABLE BUDGET       the six calls, each on its own copy of the model
 //   1 ROW                         one of them, by the number of its kind; 2 BUDGET, 3 VARIABLE BUDGET, 4 ROW VARIABLE, 5 ROW, 6
-// Every other line is a comment.
+// Every other line is a comment. Last come call lists as records, which a script of numbers cannot hold.
 use script::Sizes;
 use script::bytes_part;
 use script::natural;
@@ -11,6 +11,7 @@ use script::number;
 use script::part;
 
 mod each;
+mod records;
 
 fn name(line: &[u8]) {
     if line.len() < 6 {
@@ -86,4 +87,5 @@ fn main() {
     let mut text = io::large_buffer();
     let len = io::read_full(0, &mut text);
     run(&text[..len]);
+    records::lists();
 }

@@ -53,7 +53,7 @@ fn four(word: &[u8], bounds: [i32; 4], coefs: [i32; 2], b: i32, calls: [Call; 4]
     ones(b"  table", &table);
 }
 
-fn main() {
+pub fn lists() {
     let binary = [0, 1, 0, 1];
     let kinds = [
         call(1, 0, 77, 77),
