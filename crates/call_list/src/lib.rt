@@ -1,19 +1,16 @@
 // A call list as records (01's run sheet): the calls that `reducer::list` reads from flat numbers, one struct each. No function over a
 // slice of structs is covered, so reading a record and the loop over them are proved by hand; all else is in covered functions.
-use reducer::list::Counts;
 use reducer::list::RunAnswer;
-use step::CallClass;
+use step::count;
 use step::run_record;
 ghost use mathlib.Core.List.{[]};
 ghost use mathlib.Core.Path.{_≡_};
-ghost use Prim.Native.Nat.{_+_, _<_, _^_};
+ghost use Prim.Native.Nat.{_<_};
 ghost use lib.ListN.{length, getD};
 ghost use Rattle.semantics.specs.CallList.{runList};
-ghost use Rattle.semantics.specs.Run.{countCall};
 ghost use Rattle.semantics.specs.State.{stateOf};
 ghost use Rattle.semantics.specs.TwoLists.{CountsAddUp, Demand3Lists};
-ghost use Rattle.step.specs.Classes.{classIs};
-ghost use Rattle.reducer.specs.CallLists.{countsOf, listRun};
+ghost use Rattle.reducer.specs.CallLists.{listRun};
 ghost use Rattle.call_list.specs.Records.{Runs, noCall, numbersOf, runNext};
 
 // kind, 1 propagate a row, 2 propagate, 3 probe, 4 tighten a coefficient, 5 remove a redundant row; row; variable; budget.
@@ -46,21 +43,6 @@ fn run_none<'a>(
     reducer::list::run(n, m, bounds, coefs, rhs, table, &none)
 }
 
-// The counts with one call more.
-fn counted(counts: Counts, class: CallClass) -> Counts
-    requires { ⌜ counts .refused + counts .infeasible + counts .changed + counts .unchanged < 2 ^ 63 ⌝ }
-    ensures { λ r. ⌜ countsOf r ≡ countCall (classIs class) (countsOf counts) ⌝ }
-{
-    let mut next = counts;
-    match class {
-        CallClass::Refused => next.refused += 1,
-        CallClass::Infeasible => next.infeasible += 1,
-        CallClass::Changed => next.changed += 1,
-        CallClass::Unchanged => next.unchanged += 1,
-    }
-    next
-}
-
 // The answer with one record more. A list that is refused stays refused.
 fn run_next<'a>(
     n: usize,
@@ -90,7 +72,7 @@ fn run_next<'a>(
         call.variable,
         call.budget,
     );
-    RunAnswer::Ran(counted(counts, class))
+    RunAnswer::Ran(count(counts, class))
 }
 
 // Runs a list of call records in their order. It goes on after a refused call.

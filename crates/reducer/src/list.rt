@@ -1,43 +1,18 @@
 // Call lists (01's run sheet): many calls on one model. The model and the table are checked once, before the first record; each
 // call leaves them valid, so only a record's own checks are made after that.
-use step::CallClass;
+use step::Counts;
+use step::count;
 use step::run_record;
 ghost use mathlib.Core.Path.{_≡_};
-ghost use Prim.Native.Nat.{_+_, _<_, _^_};
 ghost use Rattle.semantics.specs.CallList.{listFault, runList};
-ghost use Rattle.semantics.specs.Run.{countCall};
 ghost use Rattle.semantics.specs.State.{stateOf};
 ghost use Rattle.semantics.specs.TwoLists.{CountsAddUp, Demand3Lists};
-ghost use Rattle.step.specs.Classes.{classIs};
-ghost use Rattle.reducer.specs.CallLists.{countsOf, listRun};
-
-// The four counts of a call list; their sum is the number of its records.
-pub struct Counts {
-    pub refused: usize,
-    pub infeasible: usize,
-    pub changed: usize,
-    pub unchanged: usize,
-}
+ghost use Rattle.reducer.specs.CallLists.{listRun};
 
 // 01's answer of a run sheet: refused N as a whole, or the four counts.
 pub enum RunAnswer {
     Refused(u32),
     Ran(Counts),
-}
-
-// The counts with one call more.
-fn count(counts: Counts, class: CallClass) -> Counts
-    requires { ⌜ counts .refused + counts .infeasible + counts .changed + counts .unchanged < 2 ^ 63 ⌝ }
-    ensures { λ r. ⌜ countsOf r ≡ countCall (classIs class) (countsOf counts) ⌝ }
-{
-    let mut next = counts;
-    match class {
-        CallClass::Refused => next.refused += 1,
-        CallClass::Infeasible => next.infeasible += 1,
-        CallClass::Changed => next.changed += 1,
-        CallClass::Unchanged => next.unchanged += 1,
-    }
-    next
 }
 
 // The number by which a list is refused as a whole, 0 where it is run: 3, 5 (its own length among them), 6 to 10.

@@ -5,6 +5,7 @@ use Rattle.row.specs.Outcome.{Outcome, changed, infeasible, unchanged}
 use Rattle.semantics.specs.Run as runs
 use Rattle.propagation.specs.declared.Propagation.{Propagation}
 use Rattle.propagation.specs.declared.Propagation.the-variants as passes
+use Rattle.step.specs.declared.Counts.{Counts}
 use Rattle.step.specs.declared.CallClass.{CallClass}
 use Rattle.step.specs.declared.CallClass.the-variants.{Refused, Infeasible, Changed, Unchanged}
 
@@ -25,3 +26,7 @@ unfoldable pub propagationClass : Propagation → runs.CallClass
 propagationClass (passes.Infeasible p) = runs.infeasibleCall
 propagationClass (passes.Converged p) = cond (eqb p 1) runs.unchangedCall runs.changedCall
 propagationClass (passes.BudgetSpent p) = runs.changedCall
+
+-- refused, None, changed, unchanged
+unfoldable pub countsOf : Counts → runs.Counts
+countsOf k = record { refusals = k .refused; infeasibles = k .infeasible; changes = k .changed; unchanges = k .unchanged }

@@ -12,14 +12,15 @@ use row::tightening::CoefficientTightening;
 use row::tightening::tighten_coefficient;
 use row_view::propagate_row_at;
 ghost use mathlib.Core.Path.{_≡_};
+ghost use Prim.Native.Nat.{_+_, _<_, _^_};
 ghost use lib.ListN.{length};
 ghost use Rattle.model.specs.Box.{sameList};
 ghost use Rattle.row.specs.Answers.{propagationOutcome, removalOutcome, tighteningOutcome};
 ghost use Rattle.semantics.specs.CallChecks.{callFault};
 ghost use Rattle.semantics.specs.Points.{ValidState};
-ghost use Rattle.semantics.specs.Run.{classOf, step};
+ghost use Rattle.semantics.specs.Run.{classOf, countCall, step};
 ghost use Rattle.semantics.specs.State.{callOf, stateOf};
-ghost use Rattle.step.specs.Classes.{classIs, outcomeClass, propagationClass};
+ghost use Rattle.step.specs.Classes.{classIs, countsOf, outcomeClass, propagationClass};
 
 pub mod checks;
 
@@ -193,4 +194,27 @@ pub fn run_record(
         return CallClass::Refused;
     }
     run_accepted(n, m, bounds, coefs, rhs, table, kind, row, variable, budget)
+}
+
+// The four counts of a call list; their sum is the number of its records.
+pub struct Counts {
+    pub refused: usize,
+    pub infeasible: usize,
+    pub changed: usize,
+    pub unchanged: usize,
+}
+
+// The counts with one call more.
+pub fn count(counts: Counts, class: CallClass) -> Counts
+    requires { ⌜ counts .refused + counts .infeasible + counts .changed + counts .unchanged < 2 ^ 63 ⌝ }
+    ensures { λ r. ⌜ countsOf r ≡ countCall (classIs class) (countsOf counts) ⌝ }
+{
+    let mut next = counts;
+    match class {
+        CallClass::Refused => next.refused += 1,
+        CallClass::Infeasible => next.infeasible += 1,
+        CallClass::Changed => next.changed += 1,
+        CallClass::Unchanged => next.unchanged += 1,
+    }
+    next
 }

@@ -4,8 +4,9 @@ use borrow.Author.Needs.{needs}
 use mathlib.Core.Path.{_≡_}
 use Rattle.semantics.specs.Points.{ValidState}
 use Rattle.semantics.specs.State.{State}
-use Rattle.reducer.specs.CallLists.{countsOf, listAnswer, listRun}
-use Rattle.reducer.specs.declared.list.Counts.{Counts}
+use Rattle.step.specs.Classes.{countsOf}
+use Rattle.step.specs.declared.Counts.{Counts}
+use Rattle.reducer.specs.CallLists.{listAnswer, listRun}
 use Rattle.reducer.specs.declared.list.RunAnswer.{RunAnswer}
 use Rattle.reducer.specs.declared.list.RunAnswer.the-variants.{Ran}
 use Rattle.call_list.specs.Records.{Runs, RunsAt, callOn, nextOf, runNext}
@@ -30,8 +31,8 @@ run-valid s p e = let r = rw e at p in (r .valid, r .small)
 run-record-requires : tie.Need-run-record-requires
 run-record-requires c κs = let h = c .before .before .before .before .before in run-valid _ (h .before .before .before .pre) (h .answer .given .1) .0
 
-counted-requires : tie.Need-counted-requires
-counted-requires c κs =
+count-requires : tie.Need-count-requires
+count-requires c κs =
     let h = c .before .before .before .before .before .before .before .before .before .before .before in
     run-valid _ (h .before .before .before .pre) (h .answer .given .1) .1
 
@@ -52,7 +53,7 @@ unfolding listRun listAnswer runNext nextOf callOn
 returns-2 c =
     let r = c .before .before .before .before .before .before in
     let h = r .before .before .before .before .before .before in
-    rw (h .answer .given .1, c .counted .ensures, r .run-record .ensures .0, r .run-record .ensures .1)
+    rw (h .answer .given .1, c .count .ensures, r .run-record .ensures .0, r .run-record .ensures .1)
 
 pub run-next-spec : {M : Type 1} → statement M
 run-next-spec =
@@ -62,7 +63,7 @@ run-next-spec =
     enum-told
     returns
     run-record-requires
-    counted-requires
+    count-requires
     same-length
     same-length-2
     same-length-3

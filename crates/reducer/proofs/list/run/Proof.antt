@@ -10,7 +10,8 @@ use Rattle.semantics.specs.Points.{ValidState}
 use Rattle.semantics.specs.Run.{noCounts}
 use Rattle.semantics.specs.State.{callOf, State, stateOf}
 use Rattle.semantics.proofs.CallLists.{Along, along-end, along-more, along-start, counts-add-up, demand-3-lists, list-accepted, list-refused}
-use Rattle.reducer.specs.CallLists.{countsOf, listAnswer, listRun}
+use Rattle.step.specs.Classes.{countsOf}
+use Rattle.reducer.specs.CallLists.{listAnswer, listRun}
 use Rattle.reducer.proofs.list.run.Statement.{statement}
 use Rattle.reducer.proofs.list.run.Tie as tie
 

@@ -1,10 +1,9 @@
--- `reducer::list::count`: the class names the count that grows. Assumes nothing.
+-- `step::count`: the class names the count that grows. Assumes nothing.
 use borrow.Author.Needs.{needs}
 use Rattle.semantics.specs.Run.{countCall}
-use Rattle.step.specs.Classes.{classIs}
-use Rattle.reducer.specs.CallLists.{countsOf}
-use Rattle.reducer.proofs.list.count.Statement.{statement}
-use Rattle.reducer.proofs.list.count.Tie as tie
+use Rattle.step.specs.Classes.{classIs, countsOf}
+use Rattle.step.proofs.count.Statement.{statement}
+use Rattle.step.proofs.count.Tie as tie
 
 enum-told : tie.Need-enum-told
 enum-told c = search needs
