@@ -1,42 +1,41 @@
-// One line for each case: a label and the answer.
+// What is written behind a name: an answer, or whether two lists are the same.
 use book::SizesAnswer;
 use book::writing::WriteAnswer;
+use console::count;
+use console::text;
 
 fn refused(number: u32) {
-    io::write_all(1, b": refused ");
-    io::print_decimal(1, number as u64);
-    io::write_all(1, b"\n");
+    text(b": refused");
+    count(number as usize);
 }
 
-pub fn sizes(label: &[u8], answer: SizesAnswer) {
-    io::write_all(1, label);
+pub fn sizes(answer: SizesAnswer) {
     match answer {
         SizesAnswer::Refused(number) => refused(number),
         SizesAnswer::Sizes { n, m } => {
-            io::write_all(1, b": ");
-            io::print_decimal(1, n as u64);
-            io::write_all(1, b" variables, ");
-            io::print_decimal(1, m as u64);
-            io::write_all(1, b" rows\n");
+            text(b":");
+            count(n);
+            text(b" variables,");
+            count(m);
+            text(b" rows");
         }
     }
+    console::line();
 }
 
-pub fn writing(label: &[u8], answer: WriteAnswer) {
-    io::write_all(1, label);
+pub fn writing(answer: WriteAnswer) {
     match answer {
         WriteAnswer::Refused(number) => refused(number),
-        WriteAnswer::Written => {
-            io::write_all(1, b": written\n");
-        }
+        WriteAnswer::Written => text(b": written"),
     }
+    console::line();
 }
 
-pub fn same(label: &[u8], is_same: bool) {
-    io::write_all(1, label);
+pub fn same(is_same: bool) {
     if is_same {
-        io::write_all(1, b": the same\n");
+        text(b": the same");
     } else {
-        io::write_all(1, b": different\n");
+        text(b": different");
     }
+    console::line();
 }

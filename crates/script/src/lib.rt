@@ -1,4 +1,4 @@
-// Scripts on standard input, for the programs that run the calls on many models: lines, the numbers of a line, and a model in lent
+// Scripts on standard input, for the programs that run calls on many models: lines, the numbers of a line, and a model in lent
 // buffers that lines change. What a program then prints is compared with a stored output, not proved.
 mod model;
 mod parts;
@@ -12,6 +12,7 @@ pub use parts::bytes_part_mut;
 pub use parts::naturals_part;
 pub use parts::part;
 pub use parts::part_mut;
+pub use words::fill_bytes;
 pub use words::fill_naturals;
 pub use words::first;
 pub use words::lesser;

@@ -1,12 +1,11 @@
 // A model in lent buffers, and the lines that change it:
-//   size N M              the numbers of variables and of rows
-//   bounds LENGTH X ..    as many bounds, X .. over and over; coefs, rhs and table likewise
-//   put bounds PLACE X    one of them; coefs and rhs likewise
-// Every other line leaves it.
+//   size N M                    the numbers of variables and of rows
+//   bounds LENGTH X ..          as many bounds, X .. over and over; coefs, rhs and table likewise
+//   put bounds PLACE COUNT X .. as many from that place on; coefs, rhs and table likewise
+// Other bytes than a table's go by the word data. Every other line leaves the model.
 use crate::words::fill;
 use crate::words::fill_bytes;
 use crate::words::first;
-use crate::words::integer;
 use crate::words::number;
 use crate::words::second;
 
@@ -45,17 +44,26 @@ fn set_bytes(line: &[u8], xs: &mut [u8]) -> usize {
 
 fn put(line: &[u8], xs: &mut [i32]) {
     let place = number(line, 2).magnitude as usize;
-    if place < xs.len() {
-        let x = integer(number(line, 3));
-        xs[place] = x;
+    if place <= xs.len() {
+        let count = number(line, 3);
+        fill(line, count.next, count.magnitude as usize, &mut xs[place..]);
     }
 }
 
-fn put_one(line: &[u8], bounds: &mut [i32], coefs: &mut [i32], rhs: &mut [i32]) {
+fn put_bytes(line: &[u8], xs: &mut [u8]) {
+    let place = number(line, 2).magnitude as usize;
+    if place <= xs.len() {
+        let count = number(line, 3);
+        fill_bytes(line, count.next, count.magnitude as usize, &mut xs[place..]);
+    }
+}
+
+fn put_some(line: &[u8], bounds: &mut [i32], coefs: &mut [i32], rhs: &mut [i32], table: &mut [u8]) {
     match second(line) {
         b'b' => put(line, bounds),
         b'c' => put(line, coefs),
-        _ => put(line, rhs),
+        b'r' => put(line, rhs),
+        _ => put_bytes(line, table),
     }
 }
 
@@ -76,8 +84,8 @@ pub fn change(
         b'b' => sizes.bounds = set(line, bounds),
         b'c' => sizes.coefs = set(line, coefs),
         b'r' => sizes.rhs = set(line, rhs),
-        b't' => sizes.table = set_bytes(line, table),
-        b'p' => put_one(line, bounds, coefs, rhs),
+        b't' | b'd' => sizes.table = set_bytes(line, table),
+        b'p' => put_some(line, bounds, coefs, rhs, table),
         _ => {}
     }
     sizes

@@ -113,7 +113,7 @@ pub fn second(line: &[u8]) -> u8 {
     0
 }
 
-pub fn integer(x: Word) -> i32 {
+fn integer(x: Word) -> i32 {
     if 2_147_483_647 < x.magnitude {
         if x.is_negative {
             return -2_147_483_648;
@@ -134,7 +134,7 @@ pub fn natural(x: Word) -> u32 {
     x.magnitude as u32
 }
 
-pub fn byte(x: Word) -> u8 {
+fn byte(x: Word) -> u8 {
     if 255 < x.magnitude {
         return 255;
     }
