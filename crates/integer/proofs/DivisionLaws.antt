@@ -58,10 +58,6 @@ ceil-le p q {g} h =
           omega (zarith, f .1 l, neg-parts q, neg-parts (floorDiv (negℤ p) g))),
     )
 
-pub ceil-is : (p g : ℤ) → ceilDiv p g ≡ negℤ (floorDiv (negℤ p) g)
-unfolding ceilDiv
-ceil-is p g = refl
-
 -- ---- the machine's division, which rounds toward zero
 pub quot-parts : (p : ℤ) {g : ℤ} → pos 0 <ℤ g → (pp (quotZ p g) ≤ pp p) × (np (quotZ p g) ≤ np p)
 quot-parts (pos p) {g = pos n} h = omega (arith, div-le-self p n)

@@ -57,11 +57,6 @@ within-mul {m} {n} {a} {b} h k = record { abs = rw abs-mul (mul-le-mul (h .abs) 
 pub within-fits : (w : Width) {m : ℕ} {z : ℤ} → T (ltb m (2 ^ hbits w)) → Within m z → SFits w z
 within-fits w {m} {z} t h = fits w z (omega (arith, within-in h, ltb→lt m (2 ^ hbits w) t))
 
-pub within-floor : {m : ℕ} (p g : ℤ) → Within m p → Within m (floorDiv p g)
-unfolding floorDiv
-within-floor {m} (pos p) g h = record { abs = omega (arith, h .abs, div-le-self p (natAbs g)) }
-within-floor {m} (negsuc p) g h = record { abs = omega (arith, h .abs, div-le-self p (natAbs g)) }
-
 -- a number within m, as the machine reads it back
 pub back : (w : Width) {m : ℕ} {z : ℤ} → T (ltb m (2 ^ hbits w)) → Within m z → toZ w (ofZ w z) ≡ z
 back w t h = toZ-ofZ {w = w} (within-fits w t h)

@@ -24,9 +24,6 @@ pub ≤ℤ-trans : {a b c : ℤ} → a ≤ℤ b → b ≤ℤ c → a ≤ℤ c
 pub ≤ℤ-antisymm : {a b : ℤ} → a ≤ℤ b → b ≤ℤ a → a ≡ b
 ≤ℤ-antisymm {a} {b} h k = omega zarith
 
-pub ≤ℤ-of-eq : {a b : ℤ} → a ≡ b → a ≤ℤ b
-≤ℤ-of-eq {a} {b} e = omega zarith
-
 -- ---- min and max
 
 pub min-l : (x y : ℤ) → minZ x y ≤ℤ x
@@ -68,12 +65,6 @@ two-suc j = omega arith
 
 two-suc1 : (j : ℕ) → 2 * suc j + 1 ≡ suc (suc (2 * j + 1))
 two-suc1 j = omega arith
-
-pub lower-cons : (l u : ℤ) (B : List ℤ) (j : ℕ) → lower (l ∷ u ∷ B) (suc j) ≡ lower B j
-lower-cons l u B j = rw (two-suc j)
-
-pub upper-cons : (l u : ℤ) (B : List ℤ) (j : ℕ) → upper (l ∷ u ∷ B) (suc j) ≡ upper B j
-upper-cons l u B j = rw (two-suc1 j)
 
 pub lower-boxOf : (n : ℕ) (f g : ℕ → ℤ) (j : ℕ) → j < n → lower (boxOf n f g) j ≡ f j
 unfolding boxOf

@@ -95,12 +95,6 @@ literal-decides k v x = cases (decide (eqZ (at x k) (pos v)))
 
 -- ---- what is recorded of one variable
 
--- of a variable that was not free before the call nothing is recorded
-pub recordTo-skips : (j n k : ℕ) (B S0 S1 : List ℤ) (t : List ℕ) → T (not (isFree B j)) → recordTo (suc j) n k B S0 S1 t ≡ recordTo j n k B S0 S1 t
-unfolding recordTo
-recordTo-skips j n k B S0 S1 t f = cond-ind (not (eqb j k) && isFree B j) _ _ (λ (r : Table). r ≡ recordTo j n k B S0 S1 t)
-    (λ h. absurd (T-not (isFree B j) f (and-r (not (eqb j k)) (isFree B j) h))) (λ _. refl)
-
 -- ---- what one implication, and with it all that are recorded, keeps
 
 module _ (n k : ℕ) (P : Table → Type 0) where
