@@ -128,6 +128,6 @@ pub fn attempt(n: usize, code: usize, call: [u32; 4], marks: &[u8], lie: u32) ->
     let table = table_part(&mut table_room, n);
     put_model(code, bounds, coefs, rhs);
     let none = is_none(n, row_count(n), bounds, coefs, rhs, table, call);
-    spoil(lie, code, call[1], bounds, coefs, rhs, table);
+    spoil(lie, code, call, bounds, coefs, rhs, table);
     agrees(n, bounds, coefs, rhs, table, marks, none || lie == 5)
 }

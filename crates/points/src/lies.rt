@@ -2,7 +2,7 @@
 use crate::models;
 use crate::parts::lesser;
 
-// Whether a coefficient is above what it was: only a negative one that was tightened is.
+// Whether a coefficient is above what it was: after a sharpen only a negative one that was tightened is.
 fn is_raised(before: &[i32], coefs: &[i32]) -> bool {
     let len = lesser(before.len(), coefs.len());
     let mut i = 0;
@@ -15,8 +15,12 @@ fn is_raised(before: &[i32], coefs: &[i32]) -> bool {
     false
 }
 
-// The predecessor's mistake: the right side lowered with a negative coefficient, which is tightened by 1 here.
-fn lower(code: usize, row: usize, coefs: &[i32], rhs: &mut [i32]) {
+// The predecessor's mistake in a sharpen: the right side lowered with a negative coefficient, which can only go from -2 to -1 here.
+fn lower(code: usize, call: [u32; 4], coefs: &[i32], rhs: &mut [i32]) {
+    if call[0] != 4 {
+        return;
+    }
+    let row = call[1] as usize;
     let mut before = [0i32; 12];
     let mut less = [0i32; 3];
     models::coefficients(&mut before, code);
@@ -45,14 +49,14 @@ fn set_byte(table: &mut [u8], at: usize) {
 pub fn spoil(
     lie: u32,
     code: usize,
-    row: u32,
+    call: [u32; 4],
     bounds: &mut [i32],
     coefs: &[i32],
     rhs: &mut [i32],
     table: &mut [u8],
 ) {
     match lie {
-        1 => lower(code, row as usize, coefs, rhs),
+        1 => lower(code, call, coefs, rhs),
         2 => set_upper(bounds, 0),
         3 => set_upper(bounds, 3),
         4 => set_byte(table, bounds.len()),
