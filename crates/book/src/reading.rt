@@ -9,7 +9,7 @@ use crate::layout::row_place;
 use crate::layout::trailer_u16;
 use model::MAX_COEF;
 use model::MAX_RHS;
-ghost use mathlib.Core.List.{[], _∷_};
+ghost use mathlib.Core.List.{[]};
 ghost use mathlib.Core.Path.{_≡_};
 ghost use Prim.Native.Nat.{ℕ, _*_, _≤_};
 ghost use lib.ListN.{length};

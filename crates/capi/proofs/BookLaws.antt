@@ -7,7 +7,7 @@ use lib.IntN.{ℤ}
 use lib.ListN.{length}
 use mathlib.Core.Bool.{Bool, _&&_, cond, false}
 use mathlib.Core.List.{List, [], _++_, _∷_}
-use mathlib.Core.Path.{_∙_, _≡_, ap, ap₂, refl, sym}
+use mathlib.Core.Path.{_∙_, _≡_, ap, ap₂, sym}
 use native.Mathlib.Omega.{arith}
 use Rattle.book.specs.Answers.{Answer, readCall, readFault, refused, sizesAre, unless}
 use Rattle.book.specs.Book.{decode}
@@ -15,7 +15,7 @@ use Rattle.book.specs.BookChecks.{headChecks, modelNumberChecks, readChecks}
 use Rattle.book.proofs.AcceptLaws.{decoded-sizes, head-numbered, head-test, size-passed}
 use Rattle.model.specs.Checks.{Check, first, lengthChecks, must}
 use Rattle.model.proofs.CheckLaws.{fails, first-go, first-stop, first-zero-append, numbered}
-use Rattle.capi.specs.Exports.{BookExported, bookAnswered, bookExported, lentTo, wrongLength}
+use Rattle.capi.specs.Exports.{bookAnswered, bookExported, lentTo, wrongLength}
 use Rattle.capi.specs.Replies.{returned, written}
 use Rattle.capi.specs.declared.reply.Reply.{Reply}
 

@@ -1,14 +1,13 @@
 -- |z| ≤ m, and bounds that are put together as a term is: the way to show that a sum or a product fits.
 use mathlib.Core.Path.{_≡_, refl}
 use Prim.Native.Nat.{ℕ, zero, suc, _+_, _*_, _^_, _≤_}
-use native.Mathlib.Nat.{mul-le-mul, div-le-self}
+use native.Mathlib.Nat.{mul-le-mul}
 use native.Mathlib.Omega.{arith}
 use lib.Dec.{T, leb, ltb, leb→le, ltb→lt}
 use lib.IntN.{ℤ, pos, negsuc, negℤ, natAbs, _+ℤ_, _-ℤ_, _*ℤ_}
 use mir.Syntax.{Width}
 use mir.Val.{SFits, hbits, toZ, ofZ}
 use mir.Facts.{toZ-ofZ}
-use Rattle.integer.specs.Division.{floorDiv}
 use Rattle.integer.specs.Range.{Within}
 use Rattle.integer.proofs.Parts.{pp, np, zarith, add-parts, neg-parts, fits}
 

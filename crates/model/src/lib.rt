@@ -6,7 +6,7 @@ ghost use Prim.Native.Nat.{ℕ, _*_, _<_, _≤_};
 ghost use lib.Dec.{eqb};
 ghost use lib.ListN.{length};
 ghost use Rattle.model.specs.Box.{emptyBox, isEmpty};
-ghost use Rattle.model.specs.Checks.{first, inRange, ordered, bits, none, table as lent, sizeChecks, lengthChecks, tableLengthChecks, numberChecks, tableByteChecks, modelFault};
+ghost use Rattle.model.specs.Checks.{first, inRange, ordered, bits, none, table as lent, sizeChecks, lengthChecks, tableLengthChecks, numberChecks, modelFault};
 ghost use Rattle.model.specs.Valid.{ValidBox};
 
 pub const MAX_VARIABLES: usize = 128;

@@ -13,10 +13,10 @@ use Rattle.model.specs.Box.{isEmpty}
 use Rattle.semantics.specs.Perform.{act}
 use Rattle.semantics.specs.Points.{ValidState}
 use Rattle.semantics.specs.Run.{CallClass, classOf, run, step}
-use Rattle.semantics.specs.State.{Call, State, kindOf, withRow}
+use Rattle.semantics.specs.State.{Call, callOf, kindOf, State, withRow}
 use Rattle.semantics.proofs.CallLaws.{step-ind}
 use Rattle.semantics.proofs.Preserved.{Preserves, run-preserves}
-use Rattle.rounds.specs.Rounds.{Rounds, RoundsAnswer, RoundsEnding, SamePoints, after, andThen, anyChange, atLimit, callOn, dropCall, drops, ended, infeasible, isChange, nothingChanged, probes, refusedRounds, round, roundsFault, roundsFrom, runRounds, settleCall, sharpens, unlessEmpty, upwards}
+use Rattle.rounds.specs.Rounds.{Rounds, RoundsAnswer, RoundsEnding, SamePoints, after, andThen, anyChange, atLimit, dropCall, drops, ended, infeasible, isChange, nothingChanged, probes, refusedRounds, round, roundsFault, roundsFrom, runRounds, settleCall, sharpens, unlessEmpty, upwards}
 
 -- ---- where calls lead
 
@@ -124,18 +124,18 @@ module _ {count i : ℕ} {f : ℕ → State → List Call} {s t : State} {b : Bo
 -- ---- the phases of a round
 
 -- a drop leaves the box
-drop-box : (s : State) (r : ℕ) → step s (callOn s 5 r 0 0) .box ≡ s .box
-unfolding act callOn kindOf withRow
-drop-box s r = step-ind s (callOn s 5 r 0 0) (λ u. u .box ≡ s .box) (λ _. refl) refl
+drop-box : (s : State) (r : ℕ) → step s (callOf s 5 r 0 0) .box ≡ s .box
+unfolding act callOf kindOf withRow
+drop-box s r = step-ind s (callOf s 5 r 0 0) (λ u. u .box ≡ s .box) (λ _. refl) refl
 
 -- so the box of a loop over drops stays one that is not empty
 pub drop-turn : {count r : ℕ} {s t u : State} {k : CallClass} {b d e : Bool}
     → Turns count dropCall s t b r → isEmpty (t .n) (t .box) ≡ false → r < count
-    → (k ≡ classOf t (callOn t 5 r 0 0)) × (u ≡ step t (callOn t 5 r 0 0)) → d ≡ isChange k → e ≡ (b || d)
+    → (k ≡ classOf t (callOf t 5 r 0 0)) × (u ≡ step t (callOf t 5 r 0 0)) → d ≡ isChange k → e ≡ (b || d)
     → Turns count dropCall s u e (r + 1) × (isEmpty (t .n) (u .box) ≡ false)
 unfolding dropCall unlessEmpty
 drop-turn {count} {r} {t = t} w z h o g k = (
-  turn count dropCall w h (rw z (one-call (callOn t 5 r 0 0) o g)) k,
+  turn count dropCall w h (rw z (one-call (callOf t 5 r 0 0) o g)) k,
   ap (λ (B : List ℤ). isEmpty (t .n) B) (ap (λ (x : State). x .box) (o .1) ∙ drop-box t r) ∙ z,
 )
 

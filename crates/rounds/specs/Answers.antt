@@ -1,9 +1,4 @@
 -- What the enums that the code returns stand for in the definitions.
-use lib.IntN.{ℤ}
-use mathlib.Core.Bool.{Bool}
-use mathlib.Core.List.{List}
-use Prim.Native.Nat.{ℕ}
-use Rattle.semantics.specs.State.{Call, State}
 use Rattle.rounds.specs.Rounds as defined
 use Rattle.rounds.specs.declared.RoundsAnswer.{RoundsAnswer}
 use Rattle.rounds.specs.declared.RoundsAnswer.the-variants.{Refused, Infeasible, NothingChanged, AtLimit}

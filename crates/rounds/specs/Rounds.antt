@@ -11,12 +11,7 @@ use Rattle.model.specs.Box.{isEmpty, isFree}
 use Rattle.model.specs.Checks.{modelFault, table}
 use Rattle.semantics.specs.Points.{FractionalPointOf, PointOf}
 use Rattle.semantics.specs.Run.{CallClass, changedCall, classOf, infeasibleCall, refusedCall, run, step, unchangedCall}
-use Rattle.semantics.specs.State.{Call, State, lengthsOf}
-
--- a call on s that is lent buffers of the right lengths
-unfoldable pub callOn : State → ℕ → ℕ → ℕ → ℕ → Call
-callOn s kind row variable budget =
-    record { kind = kind; row = row; variable = variable; budget = budget; n = s .n; m = s .m; lengths = lengthsOf s }
+use Rattle.semantics.specs.State.{Call, State, callOf}
 
 -- ---- the calls of a round, each on the state that the calls before it left
 
@@ -34,17 +29,17 @@ unfoldable pub unlessEmpty : (State → List Call) → State → List Call
 unlessEmpty f s = cond (isEmpty (s .n) (s .box)) [] (f s)
 
 unfoldable pub settleCall : State → List Call
-settleCall s = callOn s 2 0 0 1000 ∷ []
+settleCall s = callOf s 2 0 0 1000 ∷ []
 
 unfoldable pub dropCall : ℕ → State → List Call
-dropCall r = unlessEmpty (λ s. callOn s 5 r 0 0 ∷ [])
+dropCall r = unlessEmpty (λ s. callOf s 5 r 0 0 ∷ [])
 
 -- "at each variable free then": free when its own turn comes
 unfoldable pub sharpenCall : ℕ → ℕ → State → List Call
-sharpenCall r k s = cond (isFree (s .box) k) (callOn s 4 r k 0 ∷ []) []
+sharpenCall r k s = cond (isFree (s .box) k) (callOf s 4 r k 0 ∷ []) []
 
 unfoldable pub probeCall : ℕ → State → List Call
-probeCall k s = cond (isFree (s .box) k) (callOn s 3 0 k 1000 ∷ []) []
+probeCall k s = cond (isFree (s .box) k) (callOf s 3 0 k 1000 ∷ []) []
 
 unfoldable pub drops : State → List Call
 drops s = upwards (s .m) dropCall s

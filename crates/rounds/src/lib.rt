@@ -5,7 +5,7 @@ use step::CallClass;
 use step::run_record;
 ghost use mathlib.Core.Path.{_≡_};
 ghost use Prim.Native.Nat.{_<_};
-ghost use Rattle.semantics.specs.Points.{PointOf, ValidState};
+ghost use Rattle.semantics.specs.Points.{ValidState};
 ghost use Rattle.semantics.specs.Run.{run as ran};
 ghost use Rattle.step.specs.Classes.{classIs};
 ghost use Rattle.semantics.specs.State.{stateOf};

@@ -7,7 +7,7 @@ use mathlib.Core.Path.{_∙_, _≡_, sym}
 use native.Mathlib.Omega.{arith}
 use Rattle.model.specs.Box.{isEmpty}
 use Rattle.semantics.specs.State.{callOf, stateOf}
-use Rattle.rounds.specs.Rounds.{callOn, dropCall, drops}
+use Rattle.rounds.specs.Rounds.{dropCall, drops}
 use Rattle.rounds.proofs.RoundsLaws.{Turns, all-turns, drop-turn, flag-kept, flag-raised, no-drops, no-turn, turns-lengths, turns-valid}
 use Rattle.rounds.proofs.remove_rows.Statement.{statement}
 use Rattle.rounds.proofs.remove_rows.Tie as tie
@@ -61,7 +61,7 @@ loop-less : tie.Need-loop-less Inv-loop μ-loop
 loop-less c = omega arith
 
 loop-again : tie.Need-loop-again Inv-loop μ-loop
-unfolding stateOf callOf callOn
+unfolding stateOf callOf
 loop-again c =
     let d = c .before .before .before .before .before .before .before in
     let t = d .before .before .before .before .before in

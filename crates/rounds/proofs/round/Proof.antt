@@ -4,7 +4,7 @@ use mathlib.Core.Bool.{Bool, _||_}
 use mathlib.Core.Logic.{⊎-elim}
 use mathlib.Core.Path.{_≡_, refl}
 use Rattle.semantics.specs.State.{callOf, State, stateOf}
-use Rattle.rounds.specs.Rounds.{andThen, callOn, drops, probes, round, settleCall, sharpens}
+use Rattle.rounds.specs.Rounds.{andThen, drops, probes, round, settleCall, sharpens}
 use Rattle.rounds.proofs.RoundsLaws.{Leads, SameLengths, flag-kept, flag-raised, in-order, leads-then, leads-valid, one-call, same-lengths}
 use Rattle.rounds.proofs.round.Statement.{statement}
 use Rattle.rounds.proofs.round.Tie as tie
@@ -30,10 +30,10 @@ module _ (c : tie.After-is-changed) where
       stateOf (a .n) (a .m) (l .1 .1 .0) (l .1 .1 .1 .0) (l .1 .1 .1 .1 .0) (l .1 .1 .1 .1 .1 .0)
 
   settle-leads : Leads (entry settle-start) (settleCall (entry settle-start)) settle-state (c .is-changed .result)
-  unfolding stateOf callOf callOn settleCall
+  unfolding stateOf callOf settleCall
   settle-leads =
       let d = c .before .before .before .before .before .before in
-      one-call (callOn (entry settle-start) 2 0 0 1000) (d .run-record .ensures) (c .is-changed .ensures)
+      one-call (callOf (entry settle-start) 2 0 0 1000) (d .run-record .ensures) (c .is-changed .ensures)
 
 remove-rows-requires : tie.Need-remove-rows-requires
 remove-rows-requires c κs = let d = c .before .before .before .before in leads-valid (settle-leads d) (settle-start d .pre)

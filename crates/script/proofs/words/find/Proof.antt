@@ -1,6 +1,5 @@
 -- `script::words::find` meets its contract: the index stays between where it starts and the length. Assumes nothing.
 use Prim.Native.Nat.{_-_, _≤_}
-use borrow.Author.Needs.{needs}
 use lib.ListN.{length}
 use native.Mathlib.Omega.{arith}
 use Rattle.script.proofs.words.find.Statement.{statement}

@@ -1,5 +1,5 @@
 -- `script::words::word_at` is safe and ends: the index is looked at only below the length. Assumes nothing.
-use Prim.Native.Nat.{_-_, _≤_}
+use Prim.Native.Nat.{_-_}
 use borrow.Author.Needs.{needs}
 use lib.ListN.{length}
 use native.Mathlib.Omega.{arith}
