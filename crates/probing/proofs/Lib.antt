@@ -1,4 +1,5 @@
 pub mod LocalBox
+pub mod MarkedLaws
 pub mod ImplicationLoops
 pub mod ProbingLoops
 pub mod RestLaws

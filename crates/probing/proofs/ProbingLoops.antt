@@ -73,7 +73,7 @@ fix-stores n B k v l h =
     high j (no e) = rw (ne-eqb j k e) (withBounds-other B k (pos v) (pos v) (2 * j + 1) (omega arith) (omega arith))
 
 -- a box with a free variable is not empty
-free-nonEmpty : (k : ℕ) {n : ℕ} {B : List ℤ} → k < n → T (isFree B k) → (B ≡ emptyBox n) ⊎ NonEmpty n B → NonEmpty n B
+pub free-nonEmpty : (k : ℕ) {n : ℕ} {B : List ℤ} → k < n → T (isFree B k) → (B ≡ emptyBox n) ⊎ NonEmpty n B → NonEmpty n B
 unfolding emptyBox
 free-nonEmpty k {n} {B} h f (inl e) =
     let l : lower B k ≡ pos 1 = rw e (lower-boxOf n (λ _. pos 1) (λ _. pos 0) k h) in

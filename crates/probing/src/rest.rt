@@ -3,11 +3,17 @@ use crate::is_free;
 use crate::sides::copy;
 use crate::sides::greater;
 use crate::sides::lesser;
+use crate::sides::refresh_marks;
 use crate::sides::try_side;
 use propagation::MAX_BUDGET;
 use propagation::Propagation;
+use propagation::index::fill_signs;
+use propagation::index::fill_steps;
 use propagation::propagate;
+ghost use mathlib.Core.Bool.{_||_, not};
 ghost use mathlib.Core.Path.{_≡_};
+ghost use Rattle.integer.specs.Index.{all};
+ghost use Rattle.probing.specs.Marked.{Marked};
 ghost use Prim.Native.Nat.{ℕ, _*_, _<_};
 ghost use lib.Dec.{T};
 ghost use lib.ListN.{length};
@@ -64,24 +70,102 @@ fn is_infeasible(p: Propagation) -> bool
 }
 
 // Whether both sides of k, propagated to their end, are not empty and span the box.
-fn sides_span(n: usize, m: usize, bounds: &[i32], coefs: &[i32], rhs: &[i32], k: usize) -> bool
+fn sides_span(
+    n: usize,
+    m: usize,
+    bounds: &[i32],
+    coefs: &[i32],
+    rhs: &[i32],
+    k: usize,
+    across: &[u8],
+    signs: &[u8],
+    marks: &[u8],
+) -> bool
     requires { ⌜ ValidModel n m (now bounds) (now coefs) (now rhs) ⌝ }
     requires { ⌜ T (isFree (now bounds) k) ⌝ }
     requires { ⌜ k < n ⌝ }
+    requires { ⌜ Marked n m (now bounds) (now coefs) (now rhs) (now across) (now signs) (now marks) ⌝ }
     ensures { λ r. ⌜ r ≡ sidesSpan n m (now (coefs .entry)) (now (rhs .entry)) (now (bounds .entry)) k ⌝ }
 {
     let len = bounds.len();
     let mut zero = [0i32; 256];
-    let s0 = try_side(n, m, bounds, coefs, rhs, k, 0, MAX_BUDGET, &mut zero[..len]);
+    let s0 = try_side(
+        n,
+        m,
+        bounds,
+        coefs,
+        rhs,
+        k,
+        0,
+        MAX_BUDGET,
+        across,
+        signs,
+        marks,
+        &mut zero[..len],
+    );
     if is_infeasible(s0) {
         return false;
     }
     let mut one = [0i32; 256];
-    let s1 = try_side(n, m, bounds, coefs, rhs, k, 1, MAX_BUDGET, &mut one[..len]);
+    let s1 = try_side(
+        n,
+        m,
+        bounds,
+        coefs,
+        rhs,
+        k,
+        1,
+        MAX_BUDGET,
+        across,
+        signs,
+        marks,
+        &mut one[..len],
+    );
     if is_infeasible(s1) {
         return false;
     }
     hull_is(&zero[..len], &one[..len], bounds)
+}
+
+// Whether the sides of each free variable span the box.
+fn all_span(
+    n: usize,
+    m: usize,
+    bounds: &[i32],
+    coefs: &[i32],
+    rhs: &[i32],
+    across: &[u8],
+    signs: &[u8],
+    marks: &[u8],
+) -> bool
+    requires { ⌜ ValidModel n m (now bounds) (now coefs) (now rhs) ⌝ }
+    requires { ⌜ Marked n m (now bounds) (now coefs) (now rhs) (now across) (now signs) (now marks) ⌝ }
+    ensures { λ r. ⌜ r ≡ all n (λ k. not (isFree (now (bounds .entry)) k) || sidesSpan n m (now (coefs .entry)) (now (rhs .entry)) (now (bounds .entry)) k) ⌝ }
+{
+    let mut k = 0;
+    while k < n {
+        if is_free(bounds, k) {
+            if !sides_span(n, m, bounds, coefs, rhs, k, across, signs, marks) {
+                return false;
+            }
+        }
+        k += 1;
+    }
+    true
+}
+
+// The same of a model of which nothing is known yet.
+fn every_side_spans(n: usize, m: usize, bounds: &[i32], coefs: &[i32], rhs: &[i32]) -> bool
+    requires { ⌜ ValidModel n m (now bounds) (now coefs) (now rhs) ⌝ }
+    ensures { λ r. ⌜ r ≡ all n (λ k. not (isFree (now (bounds .entry)) k) || sidesSpan n m (now (coefs .entry)) (now (rhs .entry)) (now (bounds .entry)) k) ⌝ }
+{
+    let mut across = [0u8; 15360];
+    fill_steps(n, m, coefs, &mut across);
+    let mut signs = [0u8; 15360];
+    fill_signs(n, m, coefs, &mut signs);
+    let mut marks = [0u8; 120];
+    refresh_marks(n, m, bounds, coefs, rhs, &across, &signs, &mut marks);
+    all_span(n, m, bounds, coefs, rhs, &across, &signs, &marks)
 }
 
 // Whether the box of a model that passed the checks is a probing fixpoint.
@@ -95,14 +179,5 @@ pub fn is_probing_fixpoint(n: usize, m: usize, bounds: &[i32], coefs: &[i32], rh
     if !is_fixpoint(n, m, bounds, coefs, rhs) {
         return false;
     }
-    let mut k = 0;
-    while k < n {
-        if is_free(bounds, k) {
-            if !sides_span(n, m, bounds, coefs, rhs, k) {
-                return false;
-            }
-        }
-        k += 1;
-    }
-    true
+    every_side_spans(n, m, bounds, coefs, rhs)
 }

@@ -1,7 +1,14 @@
 // Probe a free binary variable (01's probe): propagate with it at 0 and at 1, and keep what both sides say.
 use crate::implications::record_implications;
 use propagation::Propagation;
-use propagation::propagate;
+use propagation::index::fill_signs;
+use propagation::index::fill_steps;
+use propagation::marks::copy_box;
+use propagation::marks::copy_marks;
+use propagation::marks::refresh;
+use propagation::marks::remark;
+use propagation::marks::remark_at;
+use propagation::settle;
 ghost use mathlib.Core.Path.{_≡_};
 ghost use mathlib.Core.Bool.{_||_, cond};
 ghost use mathlib.Core.List.{[]};
@@ -9,14 +16,16 @@ ghost use mathlib.Core.Logic.{_⊎_};
 ghost use Prim.Native.Nat.{ℕ, _*_, _<_, _≤_};
 ghost use lib.Dec.{T};
 ghost use lib.IntN.{pos};
-ghost use lib.ListN.{length, take};
+ghost use lib.ListN.{getD, length, take};
 ghost use Rattle.integer.specs.Order.{maxZ, minZ};
 ghost use Rattle.model.specs.Box.{isEmpty, isFree};
 ghost use Rattle.model.specs.Valid.{ValidBox, ValidModel, ValidTable};
 ghost use Rattle.semantics.specs.Propagate.{propagate as propagated};
 ghost use Rattle.semantics.specs.Probe.{fix, hull as hulled, joinSides, probe as probed, sideOf};
 ghost use Rattle.propagation.specs.Results.{propagationOf};
+ghost use Rattle.propagation.specs.Marks.{Unread};
 ghost use Rattle.probing.specs.Results.{probingOf, reportOf, Joinable};
+ghost use Rattle.probing.specs.Marked.{Marked, SideReady};
 
 // A side's passes, and whether its budget was spent.
 pub struct Side {
@@ -90,7 +99,30 @@ fn hull(zero: &[i32], one: &[i32], bounds: &mut [i32])
     }
 }
 
-// Side v of k, in the lent buffer: the box with k fixed at v, propagated with the budget.
+// The box of a side, fixed already, propagated: rows clean in the box before stay so, but for those that read the bound that moved.
+fn settle_side(
+    n: usize,
+    m: usize,
+    bounds: &[i32],
+    coefs: &[i32],
+    rhs: &[i32],
+    k: usize,
+    budget: u32,
+    across: &[u8],
+    signs: &[u8],
+    seen: &mut [i32],
+    marks: &mut [u8],
+    side: &mut [i32],
+) -> Propagation
+    requires { ⌜ SideReady n m (now bounds) (now coefs) (now rhs) k (now across) (now signs) (now seen) (now marks) (now side) ⌝ }
+    ensures answer { λ r. ⌜ propagationOf r (now (side .exit)) ≡ propagated budget n m (now (coefs .entry)) (now (rhs .entry)) (now (side .entry)) ⌝ }
+{
+    copy_box(bounds, seen);
+    remark_at(m, signs, k, seen, side, marks);
+    settle(n, m, side, coefs, rhs, budget, across, signs, seen, marks)
+}
+
+// Side v of k, in the lent buffer: the box with k fixed at v, propagated with the budget, by the index and the marks of the box.
 pub fn try_side(
     n: usize,
     m: usize,
@@ -100,6 +132,9 @@ pub fn try_side(
     k: usize,
     v: i32,
     budget: u32,
+    across: &[u8],
+    signs: &[u8],
+    clean: &[u8],
     side: &mut [i32],
 ) -> Propagation
     requires { ⌜ ValidModel n m (now bounds) (now coefs) (now rhs) ⌝ }
@@ -107,12 +142,30 @@ pub fn try_side(
     requires { ⌜ k < n ⌝ }
     requires { ⌜ (v ≡ pos 0) ⊎ (v ≡ pos 1) ⌝ }
     requires { ⌜ length (now side) ≡ length (now bounds) ⌝ }
+    requires { ⌜ Marked n m (now bounds) (now coefs) (now rhs) (now across) (now signs) (now clean) ⌝ }
     ensures { λ r. ⌜ ((w : ℕ) → v ≡ pos w → propagationOf r (now (side .exit)) ≡ propagated budget n m (now (coefs .entry)) (now (rhs .entry)) (fix n (now (bounds .entry)) k w)) ⌝ }
 {
     copy(bounds, side);
     side[2 * k] = v;
     side[2 * k + 1] = v;
-    propagate(n, m, side, coefs, rhs, budget)
+    let len = bounds.len();
+    let mut seen = [0i32; 256];
+    let mut marks = [0u8; 120];
+    copy_marks(clean, &mut marks);
+    settle_side(
+        n,
+        m,
+        bounds,
+        coefs,
+        rhs,
+        k,
+        budget,
+        across,
+        signs,
+        &mut seen[..len],
+        &mut marks,
+        side,
+    )
 }
 
 // Of the two side buffers, the part of the one whose box is not empty, handed on with its lifetime.
@@ -160,7 +213,143 @@ fn join<'a>(
     Probing::Infeasible(side0, side1)
 }
 
-// Probes the free binary variable k of a model that passed the checks. The two sides' boxes are working memory of this call.
+// The marks of the box `old` become those of the box `bounds` inside it.
+fn keep_marks(n: usize, m: usize, signs: &[u8], old: &mut [i32], bounds: &[i32], marks: &mut [u8])
+    requires { ⌜ (n ≤ 128) × (length (now old) ≡ 2 * n) × (length (now bounds) ≡ 2 * n) × (n * m ≤ length (now signs)) × (m ≤ length (now marks)) ⌝ }
+    ensures { λ _. ⌜ ((r : ℕ) → r < m → getD (now (marks .exit)) r 0 ≡ 1 → (getD (now (marks .entry)) r 0 ≡ 1) × ((j : ℕ) → j < n → Unread m (now (signs .entry)) r (now (old .entry)) (now (bounds .entry)) j)) ⌝ }
+{
+    let ones = [1u8; 128];
+    remark(n, m, signs, &ones, 0, old, bounds, marks);
+}
+
+// What the two propagated sides come to, and the marks of the box that is left.
+fn join_marked<'a>(
+    n: usize,
+    m: usize,
+    k: usize,
+    s0: Propagation,
+    s1: Propagation,
+    zero: &'a [i32],
+    one: &'a [i32],
+    bounds: &mut [i32],
+    table: &mut [u8],
+    signs: &[u8],
+    marks: &mut [u8],
+) -> Probing
+    requires { ⌜ Joinable n k s0 s1 (now zero) (now one) (now bounds) (now table) ⌝ }
+    requires { ⌜ (n * m ≤ length (now signs)) × (m ≤ length (now marks)) ⌝ }
+    ensures answer { λ r. ⌜ probingOf r (now (bounds .exit)) (now (table .exit)) ≡ joinSides n k (now (bounds .entry)) (now (table .entry)) (propagationOf s0 (take (2 * n) (now (zero .entry)))) (propagationOf s1 (take (2 * n) (now (one .entry)))) ⌝ }
+    ensures marks { λ _. ⌜ ((r : ℕ) → r < m → getD (now (marks .exit)) r 0 ≡ 1 → (getD (now (marks .entry)) r 0 ≡ 1) × ((j : ℕ) → j < n → Unread m (now (signs .entry)) r (now (bounds .entry)) (now (bounds .exit)) j)) ⌝ }
+{
+    let len = bounds.len();
+    let mut old = [0i32; 256];
+    copy(bounds, &mut old[..len]);
+    let answer = join(n, k, s0, s1, zero, one, bounds, table);
+    keep_marks(n, m, signs, &mut old[..len], bounds, marks);
+    answer
+}
+
+// Marks each row clean of which a visit moves nothing; the box of the trial visits is working memory.
+pub fn refresh_marks(
+    n: usize,
+    m: usize,
+    bounds: &[i32],
+    coefs: &[i32],
+    rhs: &[i32],
+    across: &[u8],
+    signs: &[u8],
+    marks: &mut [u8],
+)
+    requires { ⌜ ValidModel n m (now bounds) (now coefs) (now rhs) ⌝ }
+    requires { ⌜ Marked n m (now bounds) (now coefs) (now rhs) (now across) (now signs) (now marks) ⌝ }
+    ensures { λ _. ⌜ Marked n m (now (bounds .entry)) (now (coefs .entry)) (now (rhs .entry)) (now (across .entry)) (now (signs .entry)) (now (marks .exit)) ⌝ }
+{
+    let len = bounds.len();
+    let mut trial = [0i32; 256];
+    refresh(
+        n,
+        m,
+        bounds,
+        coefs,
+        rhs,
+        across,
+        signs,
+        &mut trial[..len],
+        marks,
+    );
+}
+
+// Probes the free binary variable k of a model that passed the checks, by its index and the marks of its box, which become those of
+// the box that is left. The two sides' boxes are working memory of this call.
+pub fn probe_by(
+    n: usize,
+    m: usize,
+    bounds: &mut [i32],
+    coefs: &[i32],
+    rhs: &[i32],
+    table: &mut [u8],
+    k: usize,
+    budget: u32,
+    across: &[u8],
+    signs: &[u8],
+    marks: &mut [u8],
+) -> Probing
+    requires { ⌜ ValidModel n m (now bounds) (now coefs) (now rhs) ⌝ }
+    requires { ⌜ ValidTable n (now table) ⌝ }
+    requires { ⌜ T (isEmpty n (now bounds) || isFree (now bounds) k) ⌝ }
+    requires { ⌜ k < n ⌝ }
+    requires { ⌜ Marked n m (now bounds) (now coefs) (now rhs) (now across) (now signs) (now marks) ⌝ }
+    ensures answer { λ r. ⌜ probingOf r (now (bounds .exit)) (now (table .exit)) ≡ probed k budget n m (now (coefs .entry)) (now (rhs .entry)) (now (bounds .entry)) (now (table .entry)) ⌝ }
+    ensures marks { λ r. ⌜ Marked n m (now (bounds .exit)) (now (coefs .entry)) (now (rhs .entry)) (now (across .entry)) (now (signs .entry)) (now (marks .exit)) ⌝ }
+{
+    if model::is_empty(bounds) {
+        return Probing::Infeasible(
+            Side {
+                passes: 0,
+                spent: false,
+            },
+            Side {
+                passes: 0,
+                spent: false,
+            },
+        );
+    }
+    refresh_marks(n, m, bounds, coefs, rhs, across, signs, marks);
+    let len = bounds.len();
+    let mut zero = [0i32; 256];
+    let s0 = try_side(
+        n,
+        m,
+        bounds,
+        coefs,
+        rhs,
+        k,
+        0,
+        budget,
+        across,
+        signs,
+        marks,
+        &mut zero[..len],
+    );
+    let mut one = [0i32; 256];
+    let s1 = try_side(
+        n,
+        m,
+        bounds,
+        coefs,
+        rhs,
+        k,
+        1,
+        budget,
+        across,
+        signs,
+        marks,
+        &mut one[..len],
+    );
+    join_marked(n, m, k, s0, s1, &zero, &one, bounds, table, signs, marks)
+}
+
+// The same of a model of which nothing is known yet.
 pub fn probe(
     n: usize,
     m: usize,
@@ -177,22 +366,22 @@ pub fn probe(
     requires { ⌜ k < n ⌝ }
     ensures { λ r. ⌜ probingOf r (now (bounds .exit)) (now (table .exit)) ≡ probed k budget n m (now (coefs .entry)) (now (rhs .entry)) (now (bounds .entry)) (now (table .entry)) ⌝ }
 {
-    if model::is_empty(bounds) {
-        return Probing::Infeasible(
-            Side {
-                passes: 0,
-                spent: false,
-            },
-            Side {
-                passes: 0,
-                spent: false,
-            },
-        );
-    }
-    let len = bounds.len();
-    let mut zero = [0i32; 256];
-    let s0 = try_side(n, m, bounds, coefs, rhs, k, 0, budget, &mut zero[..len]);
-    let mut one = [0i32; 256];
-    let s1 = try_side(n, m, bounds, coefs, rhs, k, 1, budget, &mut one[..len]);
-    join(n, k, s0, s1, &zero, &one, bounds, table)
+    let mut across = [0u8; 15360];
+    fill_steps(n, m, coefs, &mut across);
+    let mut signs = [0u8; 15360];
+    fill_signs(n, m, coefs, &mut signs);
+    let mut marks = [0u8; 120];
+    probe_by(
+        n,
+        m,
+        bounds,
+        coefs,
+        rhs,
+        table,
+        k,
+        budget,
+        &across,
+        &signs,
+        &mut marks,
+    )
 }

@@ -1,1 +1,5 @@
 pub mod PropagationLoops
+pub mod IndexLoops
+pub mod MarkLaws
+pub mod LocalBox
+pub mod LocalIndex

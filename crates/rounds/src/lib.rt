@@ -1,10 +1,14 @@
 // The rounds of `reduce`: propagate, remove redundant rows, tighten coefficients and probe, again until a round changes nothing.
 // The model and the table are checked once; each call leaves them valid.
 use probing::is_free;
+use propagation::index::fill_signs;
+use propagation::index::fill_steps;
 use step::CallClass;
+use step::run_probe_record;
 use step::run_record;
 ghost use mathlib.Core.Path.{_≡_};
 ghost use Prim.Native.Nat.{_<_};
+ghost use Rattle.probing.specs.Marked.{Marked};
 ghost use Rattle.semantics.specs.Points.{ValidState};
 ghost use Rattle.semantics.specs.Run.{run as ran};
 ghost use Rattle.step.specs.Classes.{classIs};
@@ -111,7 +115,49 @@ fn tighten_rows(
     changed
 }
 
-// Probes each variable that is free when its turn comes, upwards; says whether a bound or a table byte changed.
+// Probes each variable that is free when its turn comes, upwards, by the index of the rows and the marks of the box; says whether a bound or a table byte changed.
+fn probe_variables_by(
+    n: usize,
+    m: usize,
+    bounds: &mut [i32],
+    coefs: &[i32],
+    rhs: &[i32],
+    table: &mut [u8],
+    across: &[u8],
+    signs: &[u8],
+    marks: &mut [u8],
+) -> bool
+    requires { ⌜ ValidState (stateOf n m (now bounds) (now coefs) (now rhs) (now table)) ⌝ }
+    requires { ⌜ Marked n m (now bounds) (now coefs) (now rhs) (now across) (now signs) (now marks) ⌝ }
+    ensures left { λ r. ⌜ stateOf n m (now (bounds .exit)) (now (coefs .entry)) (now (rhs .entry)) (now (table .exit)) ≡ ran (stateOf n m (now (bounds .entry)) (now (coefs .entry)) (now (rhs .entry)) (now (table .entry))) (probes (stateOf n m (now (bounds .entry)) (now (coefs .entry)) (now (rhs .entry)) (now (table .entry)))) ⌝ }
+    ensures changed { λ r. ⌜ r ≡ anyChange (stateOf n m (now (bounds .entry)) (now (coefs .entry)) (now (rhs .entry)) (now (table .entry))) (probes (stateOf n m (now (bounds .entry)) (now (coefs .entry)) (now (rhs .entry)) (now (table .entry)))) ⌝ }
+{
+    let mut changed = false;
+    let mut k: u32 = 0;
+    while (k as usize) < n {
+        if is_free(bounds, k as usize) {
+            if is_changed(run_probe_record(
+                n,
+                m,
+                bounds,
+                coefs,
+                rhs,
+                table,
+                k,
+                PASSES,
+                across,
+                signs,
+                marks,
+            )) {
+                changed = true;
+            }
+        }
+        k += 1;
+    }
+    changed
+}
+
+// The same, with the index made once: no probe changes a row.
 fn probe_variables(
     n: usize,
     m: usize,
@@ -124,17 +170,12 @@ fn probe_variables(
     ensures left { λ r. ⌜ stateOf n m (now (bounds .exit)) (now (coefs .exit)) (now (rhs .exit)) (now (table .exit)) ≡ ran (stateOf n m (now (bounds .entry)) (now (coefs .entry)) (now (rhs .entry)) (now (table .entry))) (probes (stateOf n m (now (bounds .entry)) (now (coefs .entry)) (now (rhs .entry)) (now (table .entry)))) ⌝ }
     ensures changed { λ r. ⌜ r ≡ anyChange (stateOf n m (now (bounds .entry)) (now (coefs .entry)) (now (rhs .entry)) (now (table .entry))) (probes (stateOf n m (now (bounds .entry)) (now (coefs .entry)) (now (rhs .entry)) (now (table .entry)))) ⌝ }
 {
-    let mut changed = false;
-    let mut k: u32 = 0;
-    while (k as usize) < n {
-        if is_free(bounds, k as usize) {
-            if is_changed(run_record(n, m, bounds, coefs, rhs, table, 3, 0, k, PASSES)) {
-                changed = true;
-            }
-        }
-        k += 1;
-    }
-    changed
+    let mut across = [0u8; 15360];
+    fill_steps(n, m, coefs, &mut across);
+    let mut signs = [0u8; 15360];
+    fill_signs(n, m, coefs, &mut signs);
+    let mut marks = [0u8; 120];
+    probe_variables_by(n, m, bounds, coefs, rhs, table, &across, &signs, &mut marks)
 }
 
 // One round; says whether anything changed. After None the box is empty, and no further call is made.

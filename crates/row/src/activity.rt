@@ -7,7 +7,7 @@ ghost use Rattle.row.specs.Activity.{minTerm, minActivity, maxActivity};
 ghost use Rattle.row.specs.ValidRow.{ValidCoefs};
 
 // a · low for a above 0, else a · high.
-fn term(a: i32, low: i32, high: i32) -> i64
+pub fn term(a: i32, low: i32, high: i32) -> i64
     requires { ⌜ Within 1000000 a ⌝ }
     requires { ⌜ Within 32768 low ⌝ }
     requires { ⌜ Within 32768 high ⌝ }

@@ -51,7 +51,7 @@ fn new_lower(a: i32, b: i64, least: i64, l: i32, u: i32) -> i32
 }
 
 // Gives variable j the bounds that its coefficient a implies, and says whether one moved.
-fn tighten_bounds_at(a: i32, b: i64, least: i64, bounds: &mut [i32], j: usize) -> bool
+pub fn tighten_bounds_at(a: i32, b: i64, least: i64, bounds: &mut [i32], j: usize) -> bool
     requires { ⌜ ImpliesBounds a b least (lower (now bounds) j) (upper (now bounds) j) ⌝ }
     requires { ⌜ 2 * j + 1 < length (now bounds) ⌝ }
     ensures left { λ r. ⌜ now (bounds .exit) ≡ withBounds (now (bounds .entry)) j (newLower a b least (lower (now (bounds .entry)) j) (upper (now (bounds .entry)) j)) (newUpper a b least (lower (now (bounds .entry)) j) (upper (now (bounds .entry)) j)) ⌝ }

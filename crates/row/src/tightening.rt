@@ -32,6 +32,9 @@ pub fn tighten_coefficient(
     if model::is_empty(bounds) {
         return CoefficientTightening::Infeasible;
     }
+    if coefs[k] == 0 {
+        return CoefficientTightening::Unchanged;
+    }
     let most = maximum_activity(coefs, bounds);
     let rhs = *b as i64;
     if most <= rhs {

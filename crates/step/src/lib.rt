@@ -2,8 +2,10 @@
 // valid, so a list or a round of calls checks the model once.
 use probing::sides::Probing;
 use probing::sides::copy;
-use probing::sides::probe;
+use probing::sides::probe_by;
 use propagation::Propagation;
+use propagation::index::fill_signs;
+use propagation::index::fill_steps;
 use propagation::propagate;
 use row::propagation::RowPropagation;
 use row::redundancy::RowRemoval;
@@ -16,6 +18,7 @@ ghost use Prim.Native.Nat.{_+_, _<_, _^_};
 ghost use lib.ListN.{length};
 ghost use Rattle.model.specs.Box.{sameList};
 ghost use Rattle.row.specs.Answers.{propagationOutcome, removalOutcome, tighteningOutcome};
+ghost use Rattle.probing.specs.Marked.{Marked};
 ghost use Rattle.semantics.specs.CallChecks.{callFault};
 ghost use Rattle.semantics.specs.Points.{ValidState};
 ghost use Rattle.semantics.specs.Run.{classOf, countCall, step};
@@ -96,8 +99,59 @@ fn same_box(xs: &[i32], ys: &[i32]) -> bool
     true
 }
 
-// An accepted probe. Where both sides are feasible it changed something if a table byte became 1 or the hull is smaller than the
+// An accepted probe, by the index of the rows and the marks of the box, which become those of the box that is left. Where both sides are feasible it changed something if a table byte became 1 or the hull is smaller than the
 // box before, of which a copy is kept.
+pub fn run_probe_by(
+    n: usize,
+    m: usize,
+    bounds: &mut [i32],
+    coefs: &[i32],
+    rhs: &[i32],
+    table: &mut [u8],
+    variable: u32,
+    budget: u32,
+    across: &[u8],
+    signs: &[u8],
+    marks: &mut [u8],
+) -> CallClass
+    requires { ⌜ ValidState (stateOf n m (now bounds) (now coefs) (now rhs) (now table)) ⌝ }
+    requires { ⌜ callFault (stateOf n m (now bounds) (now coefs) (now rhs) (now table)) (callOf (stateOf n m (now bounds) (now coefs) (now rhs) (now table)) 3 0 variable budget) ≡ 0 ⌝ }
+    requires { ⌜ Marked n m (now bounds) (now coefs) (now rhs) (now across) (now signs) (now marks) ⌝ }
+    ensures class { λ r. ⌜ classIs r ≡ classOf (stateOf n m (now (bounds .entry)) (now (coefs .entry)) (now (rhs .entry)) (now (table .entry))) (callOf (stateOf n m (now (bounds .entry)) (now (coefs .entry)) (now (rhs .entry)) (now (table .entry))) 3 0 variable budget) ⌝ }
+    ensures left { λ r. ⌜ stateOf n m (now (bounds .exit)) (now (coefs .entry)) (now (rhs .entry)) (now (table .exit)) ≡ step (stateOf n m (now (bounds .entry)) (now (coefs .entry)) (now (rhs .entry)) (now (table .entry))) (callOf (stateOf n m (now (bounds .entry)) (now (coefs .entry)) (now (rhs .entry)) (now (table .entry))) 3 0 variable budget) ⌝ }
+    ensures marks { λ r. ⌜ Marked n m (now (bounds .exit)) (now (coefs .entry)) (now (rhs .entry)) (now (across .entry)) (now (signs .entry)) (now (marks .exit)) ⌝ }
+{
+    let len = bounds.len();
+    let mut before = [0i32; 256];
+    copy(bounds, &mut before[..len]);
+    match probe_by(
+        n,
+        m,
+        bounds,
+        coefs,
+        rhs,
+        table,
+        variable as usize,
+        budget,
+        across,
+        signs,
+        marks,
+    ) {
+        Probing::Infeasible(_, _) => CallClass::Infeasible,
+        Probing::Fixed(_, _, _) => CallClass::Changed,
+        Probing::BothFeasible(added, _, _) => {
+            if added != 0 {
+                return CallClass::Changed;
+            }
+            if same_box(&before[..len], bounds) {
+                return CallClass::Unchanged;
+            }
+            CallClass::Changed
+        }
+    }
+}
+
+// The same of a model of which nothing is known yet.
 fn run_probe(
     n: usize,
     m: usize,
@@ -113,22 +167,24 @@ fn run_probe(
     ensures class { λ r. ⌜ classIs r ≡ classOf (stateOf n m (now (bounds .entry)) (now (coefs .entry)) (now (rhs .entry)) (now (table .entry))) (callOf (stateOf n m (now (bounds .entry)) (now (coefs .entry)) (now (rhs .entry)) (now (table .entry))) 3 0 variable budget) ⌝ }
     ensures left { λ r. ⌜ stateOf n m (now (bounds .exit)) (now (coefs .entry)) (now (rhs .entry)) (now (table .exit)) ≡ step (stateOf n m (now (bounds .entry)) (now (coefs .entry)) (now (rhs .entry)) (now (table .entry))) (callOf (stateOf n m (now (bounds .entry)) (now (coefs .entry)) (now (rhs .entry)) (now (table .entry))) 3 0 variable budget) ⌝ }
 {
-    let len = bounds.len();
-    let mut before = [0i32; 256];
-    copy(bounds, &mut before[..len]);
-    match probe(n, m, bounds, coefs, rhs, table, variable as usize, budget) {
-        Probing::Infeasible(_, _) => CallClass::Infeasible,
-        Probing::Fixed(_, _, _) => CallClass::Changed,
-        Probing::BothFeasible(added, _, _) => {
-            if added != 0 {
-                return CallClass::Changed;
-            }
-            if same_box(&before[..len], bounds) {
-                return CallClass::Unchanged;
-            }
-            CallClass::Changed
-        }
-    }
+    let mut across = [0u8; 15360];
+    fill_steps(n, m, coefs, &mut across);
+    let mut signs = [0u8; 15360];
+    fill_signs(n, m, coefs, &mut signs);
+    let mut marks = [0u8; 120];
+    run_probe_by(
+        n,
+        m,
+        bounds,
+        coefs,
+        rhs,
+        table,
+        variable,
+        budget,
+        &across,
+        &signs,
+        &mut marks,
+    )
 }
 
 // An accepted call of any kind.
@@ -194,6 +250,45 @@ pub fn run_record(
         return CallClass::Refused;
     }
     run_accepted(n, m, bounds, coefs, rhs, table, kind, row, variable, budget)
+}
+
+// A record that asks for a probe, by the index of the rows and the marks of the box: refused by its own checks, or run.
+pub fn run_probe_record(
+    n: usize,
+    m: usize,
+    bounds: &mut [i32],
+    coefs: &[i32],
+    rhs: &[i32],
+    table: &mut [u8],
+    variable: u32,
+    budget: u32,
+    across: &[u8],
+    signs: &[u8],
+    marks: &mut [u8],
+) -> CallClass
+    requires { ⌜ ValidState (stateOf n m (now bounds) (now coefs) (now rhs) (now table)) ⌝ }
+    requires { ⌜ Marked n m (now bounds) (now coefs) (now rhs) (now across) (now signs) (now marks) ⌝ }
+    ensures class { λ r. ⌜ classIs r ≡ classOf (stateOf n m (now (bounds .entry)) (now (coefs .entry)) (now (rhs .entry)) (now (table .entry))) (callOf (stateOf n m (now (bounds .entry)) (now (coefs .entry)) (now (rhs .entry)) (now (table .entry))) 3 0 variable budget) ⌝ }
+    ensures left { λ r. ⌜ stateOf n m (now (bounds .exit)) (now (coefs .entry)) (now (rhs .entry)) (now (table .exit)) ≡ step (stateOf n m (now (bounds .entry)) (now (coefs .entry)) (now (rhs .entry)) (now (table .entry))) (callOf (stateOf n m (now (bounds .entry)) (now (coefs .entry)) (now (rhs .entry)) (now (table .entry))) 3 0 variable budget) ⌝ }
+    ensures marks { λ r. ⌜ Marked n m (now (bounds .exit)) (now (coefs .entry)) (now (rhs .entry)) (now (across .entry)) (now (signs .entry)) (now (marks .exit)) ⌝ }
+{
+    let fault = record_fault(n, m, bounds, 3, 0, variable, budget);
+    if fault != 0 {
+        return CallClass::Refused;
+    }
+    run_probe_by(
+        n,
+        m,
+        bounds,
+        coefs,
+        rhs,
+        table,
+        variable,
+        budget,
+        across,
+        signs,
+        marks,
+    )
 }
 
 // The four counts of a call list; their sum is the number of its records.

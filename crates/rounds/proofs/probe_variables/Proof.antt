@@ -1,111 +1,76 @@
--- `rounds::probe_variables`: the invariant says that the calls so far were made; a variable that is not free is passed over.
--- Assumes nothing.
-use Prim.Native.Nat.{_-_}
-use mathlib.Core.Logic.{⊎-elim}
-use mathlib.Core.Path.{_∙_, refl, sym}
+-- `rounds::probe_variables`: the index is made and no row is clean. Assumes nothing.
 use native.Mathlib.Omega.{arith}
-use Rattle.model.specs.Box.{isFree}
-use Rattle.semantics.specs.State.{callOf, stateOf}
-use Rattle.rounds.specs.Rounds.{probeCall, probes}
-use Rattle.rounds.proofs.RoundsLaws.{Turns, all-turns, call-turn, flag-kept, flag-raised, no-turn, skip-turn, turns-lengths, turns-valid}
+use Rattle.semantics.specs.State.{stateOf}
+use Rattle.propagation.proofs.LocalIndex.{cells, cells-across}
+use Rattle.probing.proofs.MarkedLaws.{marked-none}
+use borrow.Author.Needs.{needs}
 use Rattle.rounds.proofs.probe_variables.Statement.{statement}
 use Rattle.rounds.proofs.probe_variables.Tie as tie
+use Rattle.rounds.proofs.probe_variables.Reads as reads
+use Rattle.rounds.proofs.probe_variables.Lts as lts
+use Rattle.propagation.proofs.index.fill_signs.Reads as fill-signs-reads
+use Rattle.propagation.proofs.index.fill_steps.Reads as fill-steps-reads
+use Rattle.rounds.proofs.probe_variables_by.Reads as probe-variables-by-reads
 
-abbrev Inv-loop : tie.InvT-loop
-Inv-loop n m bounds₀ coefs₀ rhs₀ table₀ changed₀ k₀ bounds coefs rhs table changed k =
-    Turns n probeCall (stateOf n m bounds₀ coefs₀ rhs₀ table₀) (stateOf n m bounds coefs rhs table) changed k
+slice-aggregate-fill-steps : tie.Need-slice-aggregate-fill-steps
+slice-aggregate-fill-steps c = search needs
 
-abbrev μ-loop : tie.MeasureT-loop
-μ-loop n m bounds₀ coefs₀ rhs₀ table₀ changed₀ k₀ bounds coefs rhs table changed k = n - k
-
-loop-holds : tie.Need-loop-holds Inv-loop μ-loop
+fill-steps-requires : tie.Need-fill-steps-requires
 unfolding stateOf
-loop-holds c = let s = c .before in no-turn (s .args .n) probeCall (s .pre)
+fill-steps-requires c κs = let p = c .before .before .before .pre .model in (p .few, omega (arith, p .coefsLen), cells p)
 
-cast-loop : tie.Need-cast-loop Inv-loop μ-loop
-cast-loop c = omega arith
+slice-aggregate-fill-signs : tie.Need-slice-aggregate-fill-signs
+slice-aggregate-fill-signs c = search needs
 
-cast-is-free : tie.Need-cast-is-free Inv-loop μ-loop
-cast-is-free c = omega arith
-
-is-free-requires : tie.Need-is-free-requires Inv-loop μ-loop
+fill-signs-requires : tie.Need-fill-signs-requires
 unfolding stateOf
-is-free-requires c κs =
-    let t = c .before in omega (arith, t .loop-test .taken, turns-valid (t .before .loop .inv) .model .box .len)
+fill-signs-requires c κs = let p = c .before .before .before .before .before .before .before .pre .model in (omega (arith, p .coefsLen), cells-across p)
 
-run-record-requires : tie.Need-run-record-requires Inv-loop μ-loop
-run-record-requires c κs = turns-valid (c .before .before .before .before .before .before .before .before .loop .inv)
+slice-aggregate-probe-variables-by : tie.Need-slice-aggregate-probe-variables-by
+slice-aggregate-probe-variables-by c = search needs
 
-is-changed-requires : tie.Need-is-changed-requires Inv-loop μ-loop
-is-changed-requires c κs = tt
+slice-aggregate-probe-variables-by-2 : tie.Need-slice-aggregate-probe-variables-by-2
+slice-aggregate-probe-variables-by-2 c = search needs
 
-add-k : tie.Need-add-k Inv-loop μ-loop
+slice-aggregate-probe-variables-by-3 : tie.Need-slice-aggregate-probe-variables-by-3
+slice-aggregate-probe-variables-by-3 c = search needs
+
+probe-variables-by-requires : tie.Need-probe-variables-by-requires
 unfolding stateOf
-add-k c =
-    let t = c .before .before .before in omega (arith, t .loop-test .taken, turns-valid (t .before .loop .inv) .model .few)
+probe-variables-by-requires c κs =
+    let p = c .before .before .before .before .before .before .before .before .before .before .before .before .before .before .before .before .pre in
+    let v = p .model in
+    let steps = c .before .before .before .before .before .before .before .before .before .before .before .before .fill-steps in
+    let signs = c .before .before .before .before .before .before .before .before .fill-signs in
+    (p, marked-none v (steps .last .1 .1 .1 .0) (signs .last .1 .1 .1 .0) (steps .kept .1 .1 .1 .0) (signs .kept .1 .1 .1 .0) (steps .ensures) (signs .ensures))
 
-loop-less : tie.Need-loop-less Inv-loop μ-loop
-loop-less c = omega arith
+same-length : tie.Need-same-length
+same-length c = search needs
 
-loop-again : tie.Need-loop-again Inv-loop μ-loop
-unfolding stateOf callOf probeCall
-loop-again c =
-    let t = c .before .before .before in
-    let s = t .before .before .before in
-    let l = t .before .loop in
-    let known = sym (c .before .is-free .ensures) in
-    let free = isFree (l .bounds) (l .k) in
-    let call = callOf (stateOf (s .args .n) (s .args .m) (l .bounds) (l .coefs) (l .rhs) (l .table)) 3 0 (l .k) 1000 in
-    let f = probeCall in
-    let h = t .loop-test .taken in
-    ⊎-elim
-    (λ w. rw (w .13, w .14, w .15, w .16)
-    (call-turn (s .args .n) f (l .inv) free call refl h (known ∙ w .0 .taken) (w .5 .ensures) (w .11 .ensures)
-    (flag-raised (l .changed) (w .12 .taken) (w .17))))
-    (⊎-elim
-    (λ w. rw (w .13, w .14, w .15, w .16)
-    (call-turn (s .args .n) f (l .inv) free call refl h (known ∙ w .0 .taken) (w .5 .ensures) (w .11 .ensures)
-    (flag-kept (l .changed) (w .12 .left) (w .17))))
-    (λ w. rw (w .1, w .2, w .3, w .4) (skip-turn (s .args .n) f (l .inv) free call refl h (known ∙ w .0 .left) (w .5))))
-    (c .if1 .came)
+same-length-2 : tie.Need-same-length-2
+same-length-2 c = search needs
 
-same-length : tie.Need-same-length Inv-loop μ-loop
-unfolding stateOf
-same-length c = turns-lengths (c .before .loop .inv) .box
+same-length-3 : tie.Need-same-length-3
+same-length-3 c = search needs
 
-same-length-2 : tie.Need-same-length-2 Inv-loop μ-loop
-unfolding stateOf
-same-length-2 c = turns-lengths (c .before .loop .inv) .coefs
+same-length-4 : tie.Need-same-length-4
+same-length-4 c = search needs
 
-same-length-3 : tie.Need-same-length-3 Inv-loop μ-loop
-unfolding stateOf
-same-length-3 c = turns-lengths (c .before .loop .inv) .rhs
-
-same-length-4 : tie.Need-same-length-4 Inv-loop μ-loop
-unfolding stateOf
-same-length-4 c = turns-lengths (c .before .loop .inv) .table
-
-returns : tie.Need-returns Inv-loop μ-loop
-unfolding stateOf probes
-returns c =
-    let s = c .before .before .before in
-    let p = all-turns (s .args .n) probeCall (c .before .loop .inv) (c .loop-test .left) in (p .left, p .changed)
+returns : tie.Need-returns
+returns c = c .before .before .before .before .probe-variables-by .ensures
 
 pub probe-variables-spec : {M : Type 1} → statement M
 probe-variables-spec =
     tie.close
     (tie.spec
-    Inv-loop
-    μ-loop
-    loop-holds
-    cast-loop
-    cast-is-free
-    is-free-requires
-    run-record-requires
-    is-changed-requires
-    add-k
-    loop-less
-    loop-again
+    slice-aggregate-fill-steps
+    fill-steps-requires
+    slice-aggregate-fill-signs
+    fill-signs-requires
+    slice-aggregate-probe-variables-by
+    slice-aggregate-probe-variables-by-2
+    slice-aggregate-probe-variables-by-3
+    probe-variables-by-requires
     same-length
     same-length-2
     same-length-3

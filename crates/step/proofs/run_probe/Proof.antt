@@ -1,86 +1,48 @@
--- `step::run_probe`: the copy is the box before, so the probing's case, its new bytes and the comparison give the class of the
--- call. Assumes nothing.
-use Prim.Native.Nat.{ℕ}
+-- `step::run_probe`: the index is made and no row is clean. Assumes nothing.
+use native.Mathlib.Omega.{arith}
+use Rattle.semantics.specs.State.{stateOf}
+use Rattle.propagation.proofs.LocalIndex.{cells, cells-across}
+use Rattle.probing.proofs.MarkedLaws.{marked-none}
 use borrow.Author.Needs.{needs}
-use lib.Dec.{eqb}
-use lib.IntN.{ℤ}
-use lib.ListN.{length}
-use mathlib.Core.Bool.{_&&_}
-use mathlib.Core.List.{List}
-use mathlib.Core.Path.{_∙_, _≡_, ap, refl, sym}
-use Rattle.integer.proofs.Tests.{eqb-test, test-false}
-use Rattle.model.specs.Box.{sameList}
-use Rattle.semantics.specs.Run.{CallClass, probeInfeasible}
-use Rattle.semantics.specs.State.{callOf, hasVariable, kindOf, stateOf}
-use Rattle.semantics.proofs.Accepted.{accepted}
-use Rattle.semantics.proofs.ClassLaws.{addsNone, classBy}
-use Rattle.step.specs.Classes.{classIs}
-use Rattle.probing.specs.Results.{probingOf}
-use Rattle.probing.specs.declared.sides.Probing.{Probing}
-use Rattle.step.proofs.StepLaws.{Ran, ran-probe}
-use Rattle.probing.proofs.LocalBox.{box-room, box-small, held, held-fits, held-length}
 use Rattle.step.proofs.run_probe.Statement.{statement}
 use Rattle.step.proofs.run_probe.Tie as tie
+use Rattle.step.proofs.run_probe.Reads as reads
+use Rattle.step.proofs.run_probe.Lts as lts
+use Rattle.propagation.proofs.index.fill_signs.Reads as fill-signs-reads
+use Rattle.propagation.proofs.index.fill_steps.Reads as fill-steps-reads
+use Rattle.step.proofs.run_probe_by.Reads as run-probe-by-reads
 
-array-borrow-prefix-before : tie.Need-array-borrow-prefix-before
+slice-aggregate-fill-steps : tie.Need-slice-aggregate-fill-steps
+slice-aggregate-fill-steps c = search needs
+
+fill-steps-requires : tie.Need-fill-steps-requires
 unfolding stateOf
-array-borrow-prefix-before c = box-small (c .before .before .pre .0 .model)
+fill-steps-requires c κs = let p = c .before .before .pre .0 .model in (p .few, omega (arith, p .coefsLen), cells p)
 
-slice-aggregate-copy : tie.Need-slice-aggregate-copy
+slice-aggregate-fill-signs : tie.Need-slice-aggregate-fill-signs
+slice-aggregate-fill-signs c = search needs
+
+fill-signs-requires : tie.Need-fill-signs-requires
 unfolding stateOf
-slice-aggregate-copy c = sym (box-room (c .before .before .before .pre .0 .model))
+fill-signs-requires c κs = let p = c .before .before .before .before .before .pre .0 .model in (omega (arith, p .coefsLen), cells-across p)
 
-copy-requires : tie.Need-copy-requires
+slice-aggregate-run-probe-by : tie.Need-slice-aggregate-run-probe-by
+slice-aggregate-run-probe-by c = search needs
+
+slice-aggregate-run-probe-by-2 : tie.Need-slice-aggregate-run-probe-by-2
+slice-aggregate-run-probe-by-2 c = search needs
+
+slice-aggregate-run-probe-by-3 : tie.Need-slice-aggregate-run-probe-by-3
+slice-aggregate-run-probe-by-3 c = search needs
+
+run-probe-by-requires : tie.Need-run-probe-by-requires
 unfolding stateOf
-copy-requires c κs = sym (box-room (c .before .before .before .pre .0 .model))
-
-probe-requires : tie.Need-probe-requires
-unfolding stateOf callOf kindOf hasVariable
-probe-requires c κs =
-    let s = c .before .before .before .before .before .before .before in
-    let a = accepted _ _ (s .pre .1) in
-    (s .pre .0 .model, (s .pre .0 .table, (a .free tt, a .variable tt)))
-
--- what the probing answers and leaves
-module _ (d : tie.After-probe) where
-  abbrev s : tie.Start
-  s = d .before .before .before .before .before .before .before .before
-
-  abbrev B : List ℤ
-  B = s .args .bounds .now
-
-  abbrev Q : List ℤ
-  Q = d .probe .last .1 .1 .0
-
-  abbrev t : List ℕ
-  t = d .probe .last .1 .1 .1 .1 .1 .0
-
-  done : {v : Probing} {k : CallClass} → d .probe .result ≡ v → let w = probingOf v Q t in
-      k ≡ classBy (probeInfeasible (w .ending)) (addsNone (w .ending) && sameList B (w .box))
-      → let a = s .args in
-      Ran (a .n) (a .m) B (a .coefs .now) (a .rhs .now) (a .table .now) 3 0 (a .variable) (a .budget) k
-      (stateOf (a .n) (a .m) (w .box) (a .coefs .now) (a .rhs .now) (w .table))
-  unfolding kindOf
-  done e h =
-      let a = s .args in
-      ran-probe (a .n) (a .m) B (a .coefs .now) (a .rhs .now) (a .table .now) 3 0 (a .variable) (a .budget) (s .pre .1) _ refl h
-      (ap (λ v. probingOf v Q t) (sym e) ∙ d .probe .ensures)
-
-  -- the copy
-  abbrev P : List ℤ
-  P = d .before .before .before .before .copy .last .1 .0
-
-  copied : P ≡ B
-  copied = d .before .before .before .before .copy .ensures
-
-enum-told : tie.Need-enum-told
-enum-told c = search needs
-
-enum-told-2 : tie.Need-enum-told-2
-enum-told-2 c = search needs
-
-enum-known-added : tie.Need-enum-known-added
-enum-known-added c = search needs
+run-probe-by-requires c κs =
+    let p = c .before .before .before .before .before .before .before .before .before .before .before .before .pre in
+    let v = p .0 .model in
+    let steps = c .before .before .before .before .before .before .before .before .before .fill-steps in
+    let signs = c .before .before .before .before .before .before .fill-signs in
+    (p .0, (p .1, marked-none v (steps .last .1 .1 .1 .0) (signs .last .1 .1 .1 .0) (steps .kept .1 .1 .1 .0) (signs .kept .1 .1 .1 .0) (steps .ensures) (signs .ensures)))
 
 same-length : tie.Need-same-length
 same-length c = search needs
@@ -89,99 +51,20 @@ same-length-2 : tie.Need-same-length-2
 same-length-2 c = search needs
 
 returns : tie.Need-returns
-unfolding classIs probingOf probeInfeasible addsNone
-returns c = let d = c .before .before .before .before .before .before .before in done d (c .before .before .added .given .1) (rw (test-false (eqb (c .before .before .added .given .0 .0) 0) (eqb-test _ 0) (c .if1 .taken)))
-
-array-share-prefix-before : tie.Need-array-share-prefix-before
-array-share-prefix-before c = let d = c .before .before .before .before .before .before .before in held-fits (P d) (length (B d)) (ap length (copied d))
-
-slice-aggregate-same-box : tie.Need-slice-aggregate-same-box
-slice-aggregate-same-box c = let d = c .before .before .before .before .before .before .before .before in sym (held-length (P d) (length (B d)) (ap length (copied d)))
-
-same-box-requires : tie.Need-same-box-requires
-same-box-requires c κs =
-    let d = c .before .before .before .before .before .before .before .before .before in
-    held-length (P d) (length (B d)) (ap length (copied d)) ∙ sym (d .probe .kept .1 .1 .0)
-
--- the comparison is of the box before and the box after
-compared : (c : tie.After-same-box) → let d = c .before .before .before .before .before .before .before .before .before .before in
-    c .same-box .result ≡ sameList (B d) (Q d)
-compared c =
-    let d = c .before .before .before .before .before .before .before .before .before .before in
-    c .same-box .ensures ∙ ap (λ (z : List ℤ). sameList z (Q d)) (held (P d) (length (B d)) (ap length (copied d)) ∙ copied d)
-
-same-length-3 : tie.Need-same-length-3
-same-length-3 c = search needs
-
-same-length-4 : tie.Need-same-length-4
-same-length-4 c = search needs
-
-returns-2 : tie.Need-returns-2
-unfolding classIs probingOf probeInfeasible addsNone
-returns-2 c =
-    let d = c .before .before .before .before .before .before .before .before .before .before .before in
-    done d (c .before .before .before .before .before .before .added .given .1)
-    (rw (c .before .before .before .before .if1 .left, sym (compared (c .before)), c .if2 .taken))
-
-same-length-5 : tie.Need-same-length-5
-same-length-5 c = search needs
-
-same-length-6 : tie.Need-same-length-6
-same-length-6 c = search needs
-
-returns-3 : tie.Need-returns-3
-unfolding classIs probingOf probeInfeasible
-returns-3 c = done (c .before .before .before .before .before) (c .enum-told .given .1) refl
-
-same-length-7 : tie.Need-same-length-7
-same-length-7 c = search needs
-
-same-length-8 : tie.Need-same-length-8
-same-length-8 c = search needs
-
-returns-4 : tie.Need-returns-4
-unfolding classIs probingOf probeInfeasible addsNone
-returns-4 c = done (c .before .before .before .before .before) (c .enum-told2 .given .1) refl
-
-same-length-9 : tie.Need-same-length-9
-same-length-9 c = search needs
-
-same-length-10 : tie.Need-same-length-10
-same-length-10 c = search needs
-
-returns-5 : tie.Need-returns-5
-unfolding classIs probingOf probeInfeasible addsNone
-returns-5 c =
-    let d = c .before .before .before .before .before .before .before .before .before .before .before in
-    done d (c .before .before .before .before .before .before .added .given .1)
-    (rw (c .before .before .before .before .if1 .left, sym (compared (c .before)), c .if2 .left))
+returns c = let e = c .before .before .before .before .run-probe-by .ensures in (e .0, e .1 .0)
 
 pub run-probe-spec : {M : Type 1} → statement M
 run-probe-spec =
     tie.close
     (tie.spec
-    array-borrow-prefix-before
-    slice-aggregate-copy
-    copy-requires
-    probe-requires
-    enum-told
-    enum-told-2
-    enum-known-added
+    slice-aggregate-fill-steps
+    fill-steps-requires
+    slice-aggregate-fill-signs
+    fill-signs-requires
+    slice-aggregate-run-probe-by
+    slice-aggregate-run-probe-by-2
+    slice-aggregate-run-probe-by-3
+    run-probe-by-requires
     same-length
     same-length-2
-    returns
-    array-share-prefix-before
-    slice-aggregate-same-box
-    same-box-requires
-    same-length-3
-    same-length-4
-    returns-2
-    same-length-5
-    same-length-6
-    returns-3
-    same-length-7
-    same-length-8
-    returns-4
-    same-length-9
-    same-length-10
-    returns-5)
+    returns)

@@ -26,21 +26,21 @@ array-borrow-prefix-zero : tie.Need-array-borrow-prefix-zero
 array-borrow-prefix-zero c = search needs
 
 slice-aggregate-try-side : tie.Need-slice-aggregate-try-side
-slice-aggregate-try-side c = sym (box-room (c .before .pre .0))
+slice-aggregate-try-side c = sym (box-room (c .before .before .before .before .pre .0))
 
 try-side-requires : tie.Need-try-side-requires
-try-side-requires c κs = let p = c .before .pre in (p .0, (p .1 .0, (p .1 .1, (inl refl, box-room (p .0)))))
+try-side-requires c κs = let p = c .before .before .before .before .pre in (p .0, (p .1 .0, (p .1 .1 .0, (inl refl, (box-room (p .0), p .1 .1 .1)))))
 
 -- side 0, in its array
 module _ (c : tie.After-try-side) where
   abbrev s0 : tie.Start
-  s0 = c .before .before
+  s0 = c .before .before .before .before .before
 
   abbrev zero : List ℤ
-  zero = c .try-side .last .1 .1 .1 .1 .1 .1 .1 .1 .0
+  zero = c .try-side .last .1 .1 .1 .1 .1 .1 .1 .1 .1 .1 .1 .0
 
   zero-length : length zero ≡ length (s0 .args .bounds .now)
-  zero-length = c .try-side .kept .1 .1 .1 .1 .1 .1 .1 .1 .0 ∙ box-room (s0 .pre .0)
+  zero-length = c .try-side .kept .1 .1 .1 .1 .1 .1 .1 .1 .1 .1 .1 .0 ∙ box-room (s0 .pre .0)
 
   zero-told : (isNone (propagationOf (c .try-side .result) [] .ending) ≡ isNone (side s0 0 .ending)) × (zero ≡ side s0 0 .box)
   zero-told = answered (c .try-side .result) zero (c .try-side .ensures 0 refl)
@@ -64,7 +64,7 @@ slice-aggregate-try-side-2 c = sym (box-room (s0 (c .before .before .before .bef
 try-side-requires-2 : tie.Need-try-side-requires-2
 try-side-requires-2 c κs =
     let p = s0 (c .before .before .before .before) .pre in
-    (p .0, (p .1 .0, (p .1 .1, (inr refl, box-room (p .0)))))
+    (p .0, (p .1 .0, (p .1 .1 .0, (inr refl, (box-room (p .0), p .1 .1 .1)))))
 
 -- side 1, in its array
 module _ (c : tie.After-try-side2) where
@@ -75,10 +75,10 @@ module _ (c : tie.After-try-side2) where
   s = s0 (first .before .before)
 
   abbrev one : List ℤ
-  one = c .try-side2 .last .1 .1 .1 .1 .1 .1 .1 .1 .0
+  one = c .try-side2 .last .1 .1 .1 .1 .1 .1 .1 .1 .1 .1 .1 .0
 
   one-length : length one ≡ length (s .args .bounds .now)
-  one-length = c .try-side2 .kept .1 .1 .1 .1 .1 .1 .1 .1 .0 ∙ box-room (s .pre .0)
+  one-length = c .try-side2 .kept .1 .1 .1 .1 .1 .1 .1 .1 .1 .1 .1 .0 ∙ box-room (s .pre .0)
 
   one-told : (isNone (propagationOf (c .try-side2 .result) [] .ending) ≡ isNone (side s 1 .ending)) × (one ≡ side s 1 .box)
   one-told = answered (c .try-side2 .result) one (c .try-side2 .ensures 1 refl)

@@ -1,186 +1,67 @@
--- `probing::sides::probe`: each side stands in the front of its array, as the propagated fix, and the two are joined. Assumes
--- nothing.
-use Prim.Native.Nat.{_*_, ℕ}
-use borrow.Author.Needs.{needs}
-use lib.Dec.{T}
-use lib.IntN.{ℤ}
-use lib.ListN.{drop, length, take}
-use lib.Seq.{length-front, take-at}
-use mathlib.Core.Bool.{false}
-use mathlib.Core.List.{List, _++_}
-use mathlib.Core.Logic.{inl, inr}
-use mathlib.Core.Path.{_∙_, _≡_, ap, ap₂, refl, sym}
+-- `probing::sides::probe`: the index is made and no row is clean. Assumes nothing.
 use native.Mathlib.Omega.{arith}
-use Rattle.integer.proofs.Tests.{false→T, or-r}
-use Rattle.model.specs.Box.{isEmpty, isFree}
-use Rattle.semantics.specs.Probe.{fix, joinSides, probe}
-use Rattle.semantics.specs.Propagate.{Propagation, propagate}
-use Rattle.probing.specs.Results.{probingOf, reportOf}
-use Rattle.propagation.specs.Results.{propagationOf}
-use Rattle.probing.proofs.LocalBox.{blank, box-room}
-use Rattle.probing.proofs.ProbingLoops.{fix-model, side-none, side-valid}
+use Rattle.propagation.proofs.LocalIndex.{cells, cells-across}
+use Rattle.probing.proofs.MarkedLaws.{marked-none}
+use borrow.Author.Needs.{needs}
 use Rattle.probing.proofs.sides.probe.Statement.{statement}
 use Rattle.probing.proofs.sides.probe.Tie as tie
+use Rattle.probing.proofs.sides.probe.Reads as reads
+use Rattle.probing.proofs.sides.probe.Lts as lts
+use Rattle.probing.proofs.sides.probe_by.Reads as probe-by-reads
+use Rattle.propagation.proofs.index.fill_signs.Reads as fill-signs-reads
+use Rattle.propagation.proofs.index.fill_steps.Reads as fill-steps-reads
 
--- side v of k, propagated
-abbrev side : tie.Start → ℕ → Propagation
-side s v = let a = s .args in propagate (a .budget) (a .n) (a .m) (a .coefs .now) (a .rhs .now) (fix (a .n) (a .bounds .now) (a .k) v)
+slice-aggregate-fill-steps : tie.Need-slice-aggregate-fill-steps
+slice-aggregate-fill-steps c = search needs
 
-is-empty-requires : tie.Need-is-empty-requires
-is-empty-requires c κs = search needs
+fill-steps-requires : tie.Need-fill-steps-requires
+fill-steps-requires c κs = let p = c .before .before .pre .0 in (p .few, omega (arith, p .coefsLen), cells p)
+
+slice-aggregate-fill-signs : tie.Need-slice-aggregate-fill-signs
+slice-aggregate-fill-signs c = search needs
+
+fill-signs-requires : tie.Need-fill-signs-requires
+fill-signs-requires c κs = let p = c .before .before .before .before .before .pre .0 in (omega (arith, p .coefsLen), cells-across p)
+
+slice-aggregate-probe-by : tie.Need-slice-aggregate-probe-by
+slice-aggregate-probe-by c = search needs
+
+slice-aggregate-probe-by-2 : tie.Need-slice-aggregate-probe-by-2
+slice-aggregate-probe-by-2 c = search needs
+
+slice-aggregate-probe-by-3 : tie.Need-slice-aggregate-probe-by-3
+slice-aggregate-probe-by-3 c = search needs
+
+probe-by-requires : tie.Need-probe-by-requires
+probe-by-requires c κs =
+    let p = c .before .before .before .before .before .before .before .before .before .before .before .before .pre in
+    let v = p .0 in
+    let steps = c .before .before .before .before .before .before .before .before .before .fill-steps in
+    let signs = c .before .before .before .before .before .before .fill-signs in
+    let none = marked-none v (steps .last .1 .1 .1 .0) (signs .last .1 .1 .1 .0) (steps .kept .1 .1 .1 .0) (signs .kept .1 .1 .1 .0) (steps .ensures) (signs .ensures) in
+    (v, (p .1 .0, (p .1 .1 .0, (p .1 .1 .1, none))))
 
 same-length : tie.Need-same-length
 same-length c = search needs
 
-returns : tie.Need-returns
-unfolding probe probingOf reportOf
-returns c =
-    let s = c .before .before .before .before in
-    rw (sym (c .before .is-empty .ensures _ (s .pre .0 .some) (s .pre .0 .box)) ∙ c .if1 .taken) refl
-
--- the box is not empty, so k is free
-module _ (c : tie.Else1) where
-  abbrev start : tie.Start
-  start = c .before .before .before .before
-
-  some : isEmpty (start .args .n) (start .args .bounds .now) ≡ false
-  some = sym (c .before .is-empty .ensures _ (start .pre .0 .some) (start .pre .0 .box)) ∙ c .if1 .left
-
-  free : T (isFree (start .args .bounds .now) (start .args .k))
-  free =
-      let a = start .args in
-      let e = isEmpty (a .n) (a .bounds .now) in
-      or-r e (isFree (a .bounds .now) (a .k)) (start .pre .1 .1 .0) (false→T e some)
-
-array-borrow-prefix-zero : tie.Need-array-borrow-prefix-zero
-array-borrow-prefix-zero c = search needs
-
-slice-aggregate-try-side : tie.Need-slice-aggregate-try-side
-slice-aggregate-try-side c = sym (box-room (start (c .before .before) .pre .0))
-
-try-side-requires : tie.Need-try-side-requires
-try-side-requires c κs =
-    let e = c .before .before in
-    let p = start e .pre in
-    (p .0, (free e, (p .1 .1 .1, (inl refl, box-room (p .0)))))
-
-array-borrow-prefix-one : tie.Need-array-borrow-prefix-one
-array-borrow-prefix-one c = search needs
-
--- side 0, in the front of its array
-module _ (c : tie.After-try-side) where
-  abbrev e0 : tie.Else1
-  e0 = c .before .before .before
-
-  abbrev s0 : tie.Start
-  s0 = start e0
-
-  abbrev zero : List ℤ
-  zero = c .try-side .last .1 .1 .1 .1 .1 .1 .1 .1 .0
-
-  abbrev zero-array : List ℤ
-  zero-array = zero ++ drop (length (s0 .args .bounds .now)) blank
-
-  zero-length : length zero ≡ length (take (length (s0 .args .bounds .now)) blank)
-  zero-length = c .try-side .kept .1 .1 .1 .1 .1 .1 .1 .1 .0
-
-  zero-whole : length zero-array ≡ 256
-  zero-whole = length-front blank zero (length (s0 .args .bounds .now)) zero-length
-
-  zero-is : propagationOf (c .try-side .result) (take (2 * s0 .args .n) zero-array) ≡ side s0 0
-  zero-is =
-      ap (propagationOf (c .try-side .result)) (take-at zero _ (2 * s0 .args .n) (zero-length ∙ box-room (s0 .pre .0) ∙ s0 .pre .0 .box .len))
-      ∙ c .try-side .ensures 0 refl
-
-slice-aggregate-try-side-2 : tie.Need-slice-aggregate-try-side-2
-slice-aggregate-try-side-2 c = sym (box-room (s0 (c .before .before .before) .pre .0))
-
-try-side-requires-2 : tie.Need-try-side-requires-2
-try-side-requires-2 c κs =
-    let e = e0 (c .before .before .before) in
-    let p = start e .pre in
-    (p .0, (free e, (p .1 .1 .1, (inr refl, box-room (p .0)))))
-
--- side 1, in the front of its array
-module _ (c : tie.After-try-side2) where
-  abbrev first : tie.After-try-side
-  first = c .before .before .before .before
-
-  abbrev s : tie.Start
-  s = s0 first
-
-  abbrev one : List ℤ
-  one = c .try-side2 .last .1 .1 .1 .1 .1 .1 .1 .1 .0
-
-  abbrev one-array : List ℤ
-  one-array = one ++ drop (length (s .args .bounds .now)) blank
-
-  one-length : length one ≡ length (take (length (s .args .bounds .now)) blank)
-  one-length = c .try-side2 .kept .1 .1 .1 .1 .1 .1 .1 .1 .0
-
-  one-whole : length one-array ≡ 256
-  one-whole = length-front blank one (length (s .args .bounds .now)) one-length
-
-  one-is : propagationOf (c .try-side2 .result) (take (2 * s .args .n) one-array) ≡ side s 1
-  one-is =
-      ap (propagationOf (c .try-side2 .result)) (take-at one _ (2 * s .args .n) (one-length ∙ box-room (s .pre .0) ∙ s .pre .0 .box .len))
-      ∙ c .try-side2 .ensures 1 refl
-
-slice-aggregate-join : tie.Need-slice-aggregate-join
-slice-aggregate-join c = sym (zero-whole (first (c .before .before)))
-
-slice-aggregate-join-2 : tie.Need-slice-aggregate-join-2
-slice-aggregate-join-2 c = sym (one-whole (c .before .before .before))
-
-join-requires : tie.Need-join-requires
-join-requires c κs =
-    let t = c .before .before .before .before .before in
-    let p = s t .pre .0 in
-    let a = s t .args in
-    let f = fix-model (a .k) 0 p (free (e0 (first t))) (s t .pre .1 .1 .1) (omega arith) in
-    record {
-      few = p .few;
-      variable = s t .pre .1 .1 .1;
-      boxLen = p .box .len;
-      room0 = omega (arith, p .few, zero-whole (first t));
-      room1 = omega (arith, p .few, one-whole t);
-      valid0 = side-valid (a .budget) (a .m) (a .coefs .now) (a .rhs .now) (p .some) (f .box) (first t .try-side .result) _ (zero-is (first t));
-      none0 = side-none (a .budget) (a .m) (a .coefs .now) (a .rhs .now) (p .some) (f .box) (first t .try-side .result) _ (zero-is (first t));
-      table = s t .pre .1 .0;
-    }
-
 same-length-2 : tie.Need-same-length-2
 same-length-2 c = search needs
 
-same-length-3 : tie.Need-same-length-3
-same-length-3 c = search needs
-
-returns-2 : tie.Need-returns-2
-unfolding probe
-returns-2 c =
-    let j = c .before .before .before in
-    let t = j .before .before .before .before .before .before in
-    let a = s t .args in
-    j .join .ensures
-    ∙ ap₂ (joinSides (a .n) (a .k) (a .bounds .now) (a .table .now)) (zero-is (first t)) (one-is t)
-    ∙ sym (rw (some (e0 (first t))) refl)
+returns : tie.Need-returns
+returns c = c .before .before .before .before .probe-by .ensures .0
 
 pub probe-spec : {M : Type 1} → statement M
 probe-spec =
     tie.close
     (tie.spec
-    is-empty-requires
+    slice-aggregate-fill-steps
+    fill-steps-requires
+    slice-aggregate-fill-signs
+    fill-signs-requires
+    slice-aggregate-probe-by
+    slice-aggregate-probe-by-2
+    slice-aggregate-probe-by-3
+    probe-by-requires
     same-length
-    returns
-    array-borrow-prefix-zero
-    slice-aggregate-try-side
-    try-side-requires
-    array-borrow-prefix-one
-    slice-aggregate-try-side-2
-    try-side-requires-2
-    slice-aggregate-join
-    slice-aggregate-join-2
-    join-requires
     same-length-2
-    same-length-3
-    returns-2)
+    returns)

@@ -1,9 +1,8 @@
--- `probing::sides::try_side`: the copy with two stores is fix (`fix-stores`), a valid box, and that is propagated. Assumes
--- nothing.
+-- `probing::sides::try_side`: the copy with two stores is fix (`fix-stores`), a valid box, and that is propagated by the marks of the box.
+-- Assumes nothing.
 use Prim.Native.Nat.{_*_, _+_, _<_, ℕ}
-use borrow.Author.Needs.{needs}
 use lib.IntN.{pos}
-use lib.ListN.{length, length-set, set}
+use lib.ListN.{length, length-set, set, take}
 use mathlib.Core.Logic.{⊎-elim}
 use mathlib.Core.Path.{_∙_, _≡_, ap, sym}
 use mir.Facts.{toZ-ofZ}
@@ -11,12 +10,21 @@ use mir.Syntax.{w32}
 use mir.Val.{ofZ, toZ}
 use native.Mathlib.Omega.{arith}
 use Rattle.model.specs.Box.{withBounds}
-use Rattle.model.specs.Valid.{ValidModel}
 use Rattle.semantics.specs.Probe.{fix}
 use Rattle.semantics.specs.Propagate.{propagate}
-use Rattle.probing.proofs.ProbingLoops.{fix-model, fix-stores}
+use lib.IntN.{ℤ}
+use mathlib.Core.List.{List}
+use Rattle.probing.proofs.LocalBox.{blank, box-room}
+use Rattle.probing.proofs.MarkedLaws.{side-ready}
+use Rattle.probing.proofs.ProbingLoops.{fix-stores}
+use borrow.Author.Needs.{needs}
 use Rattle.probing.proofs.sides.try_side.Statement.{statement}
 use Rattle.probing.proofs.sides.try_side.Tie as tie
+use Rattle.probing.proofs.sides.try_side.Reads as reads
+use Rattle.probing.proofs.sides.try_side.Lts as lts
+use Rattle.probing.proofs.sides.copy.Reads as copy-reads
+use Rattle.probing.proofs.sides.settle_side.Reads as settle-side-reads
+use Rattle.propagation.proofs.marks.copy_marks.Reads as copy-marks-reads
 
 copy-requires : tie.Need-copy-requires
 copy-requires c κs = search needs
@@ -43,34 +51,54 @@ slice-set-from-v-2 : tie.Need-slice-set-from-v-2
 slice-set-from-v-2 c = simp length-set (omega (arith, ap length (c .before .copy .ensures)))
 
 -- the copy with two stores
-stored : (c : tie.After-copy) (w : ℕ) → let a = c .before .before .args in a .v ≡ pos w
+stored : (c : tie.After-copy) (w : ℕ) → let a = c .before .before .before .before .before .args in a .v ≡ pos w
     → let v = toZ w32 (ofZ w32 (a .v)) in set (set (c .copy .last .1 .0) (2 * a .k) v) (2 * a .k + 1) v ≡ fix (a .n) (a .bounds .now) (a .k) w
 unfolding withBounds
 stored c w e =
-    let s = c .before .before in
+    let s = c .before .before .before .before .before in
     let a = s .args in
     rw (toZ-ofZ {w = w32} (s .fits .v), e, c .copy .ensures) (fix-stores (a .n) (a .bounds .now) (a .k) w (s .pre .0 .box .len) (s .pre .1 .1 .0))
 
-valid : (s : tie.Start) (w : ℕ) → w < 2 → let a = s .args in ValidModel (a .n) (a .m) (fix (a .n) (a .bounds .now) (a .k) w) (a .coefs .now) (a .rhs .now)
-valid s w b = fix-model (s .args .k) w (s .pre .0) (s .pre .1 .0) (s .pre .1 .1 .0) b
+slice-aggregate-copy-marks : tie.Need-slice-aggregate-copy-marks
+slice-aggregate-copy-marks c = search needs
 
-propagate-requires : tie.Need-propagate-requires
-propagate-requires c κs =
-    let d = c .before .before in
-    let s = d .before .before in
-    ⊎-elim (λ e. rw (stored d 0 e) (valid s 0 (omega arith))) (λ e. rw (stored d 1 e) (valid s 1 (omega arith))) (s .pre .1 .1 .1 .0)
+copy-marks-requires : tie.Need-copy-marks-requires
+copy-marks-requires c κs = search needs
+
+array-borrow-prefix-seen : tie.Need-array-borrow-prefix-seen
+array-borrow-prefix-seen c = search needs
+
+slice-aggregate-settle-side : tie.Need-slice-aggregate-settle-side
+slice-aggregate-settle-side c = sym (box-room (c .before .before .before .before .before .before .before .before .before .before .pre .0))
+
+slice-aggregate-settle-side-2 : tie.Need-slice-aggregate-settle-side-2
+slice-aggregate-settle-side-2 c = search needs
+
+settle-side-requires : tie.Need-settle-side-requires
+settle-side-requires c κs =
+    let s = c .before .before .before .before .before .before .before .before .before .before .before .before in
+    let a = s .args in
+    let p = s .pre in
+    let d = c .before .before .before .before .before .before .before in
+    let marks = c .before .before .before .before .copy-marks in
+    let room = sym (box-room (p .0)) in
+    let seen = take (length (a .bounds .now)) blank in
+    ⊎-elim
+    (λ e. side-ready (p .0) (a .k) 0 (p .1 .0) (p .1 .1 .0) (omega arith) (p .1 .1 .1 .1 .1) seen room (marks .ensures) (stored d 0 e))
+    (λ e. side-ready (p .0) (a .k) 1 (p .1 .0) (p .1 .1 .0) (omega arith) (p .1 .1 .1 .1 .1) seen room (marks .ensures) (stored d 1 e))
+    (p .1 .1 .1 .0)
 
 same-length : tie.Need-same-length
 same-length c =
-    let d = c .before .before .before .before in
-    let s = d .before .before in
-    simp length-set at (c .before .propagate .kept .1 .1 .0) ∙ ap length (d .copy .ensures) ∙ sym (s .pre .1 .1 .1 .1)
+    let s = c .before .before .before .before .before .before .before .before .before .before .before .before .before .before .before .before in
+    let d = c .before .before .before .before .before .before .before .before .before .before .before in
+    simp length-set at (c .before .before .before .settle-side .kept .1 .1 .1 .1 .1 .1 .1 .1 .1 .1 .1 .0) ∙ ap length (d .copy .ensures) ∙ sym (s .pre .1 .1 .1 .1 .0)
 
 returns : tie.Need-returns
 returns c w e =
-    let d = c .before .before .before .before in
-    let a = d .before .before .args in
-    c .before .propagate .ensures ∙ ap (propagate (a .budget) (a .n) (a .m) (a .coefs .now) (a .rhs .now)) (stored d w e)
+    let d = c .before .before .before .before .before .before .before .before .before .before .before in
+    let a = c .before .before .before .before .before .before .before .before .before .before .before .before .before .before .before .before .args in
+    c .before .before .before .settle-side .ensures ∙ ap (propagate (a .budget) (a .n) (a .m) (a .coefs .now) (a .rhs .now)) (stored d w e)
 
 pub try-side-spec : {M : Type 1} → statement M
 try-side-spec =
@@ -84,6 +112,11 @@ try-side-spec =
     add-v
     mul-v-4
     slice-set-from-v-2
-    propagate-requires
+    slice-aggregate-copy-marks
+    copy-marks-requires
+    array-borrow-prefix-seen
+    slice-aggregate-settle-side
+    slice-aggregate-settle-side-2
+    settle-side-requires
     same-length
     returns)

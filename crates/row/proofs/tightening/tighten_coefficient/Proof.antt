@@ -4,21 +4,25 @@ use Prim.Native.Nat.{ℕ}
 use borrow.Author.Needs.{needs}
 use lib.IntN.{_+ℤ_, _-ℤ_, pos, ℤ}
 use lib.ListN.{length, set}
-use lib.Signed.{_<ℤ_, _≤ℤ_}
+use lib.Signed.{_<ℤ_, _≤ℤ_, ≤ℤ-refl}
 use mathlib.Core.Bool.{false}
 use mathlib.Core.List.{List}
 use mathlib.Core.Path.{_∙_, _≡_, ap, ap₂, refl, sym}
-use mir.Facts.{toZ-ofZ}
+use mathlib.Core.Logic.{_⊎_, inl, inr}
+use mir.Facts.{sfits-lit, toZ-ofZ}
 use mir.Syntax.{w32, w64}
-use mir.Val.{ofZ, toZ}
+use mir.Val.{SFits, ofZ, toZ}
 use Rattle.integer.specs.Range.{Within}
+use Rattle.row.specs.Outcome.{unchanged}
+use Rattle.integer.proofs.Parts.{zarith, zify}
+use Rattle.integer.proofs.Tests.{lt-or-ge}
 use Rattle.integer.proofs.RangeLaws.{within-add, within-fits, within-sub}
 use Rattle.model.specs.Box.{at, isEmpty}
 use Rattle.model.specs.Limits.{minRhs}
 use Rattle.row.specs.Activity.{maxActivity}
 use Rattle.row.specs.Answers.{tighteningOutcome}
-use Rattle.row.specs.Tightening.{tightenCoefficient}
-use Rattle.integer.proofs.Reading.{fits-read, ge-read, gt-read, le-read, lt-read, read, read-wide, wide-fits}
+use Rattle.row.specs.Tightening.{tightenAt, tightenCoefficient}
+use Rattle.integer.proofs.Reading.{eq-read, fits-read, ge-read, gt-read, le-read, lt-read, read, read-wide, wide-fits}
 use Rattle.row.proofs.RowLoops.{coefs-small, max-activity-small, new-coef-neg, new-coef-pos, new-rhs, rhs-within, stays-limit, stays-loose-neg, stays-loose-pos, stays-redundant, tightens-neg, tightens-pos}
 use Rattle.row.proofs.tightening.tighten_coefficient.Statement.{statement}
 use Rattle.row.proofs.tightening.tighten_coefficient.Tie as tie
@@ -33,6 +37,30 @@ returns c =
     let e = sym (c .before .is-empty .ensures _ (s .pre .0 .coefs .some) (s .pre .0 .coefs .box)) ∙ c .if1 .taken in
     rw e (refl, (refl, refl))
 
+mul-if2 : tie.Need-mul-if2
+mul-if2 c = search needs
+
+slice-copy-out-if2 : tie.Need-slice-copy-out-if2
+slice-copy-out-if2 c = search needs
+
+-- a coefficient of 0 stays: no b lies between L and L - 0
+stays-zero : (A : List ℤ) (k : ℕ) (L b : ℤ) → tightenAt (pos 0) L A b k ≡ record { outcome = unchanged; coefs = A; rhs = b }
+stays-zero A k L b = go (lt-or-ge b L)
+  where
+    go : (b <ℤ L) ⊎ (L ≤ℤ b) → tightenAt (pos 0) L A b k ≡ record { outcome = unchanged; coefs = A; rhs = b }
+    go (inl h) = stays-loose-neg A k (pos 0) L b (≤ℤ-refl (pos 0)) (simp zify (omega zarith))
+    go (inr h) = stays-redundant A k (pos 0) L b h
+
+returns-2 : tie.Need-returns-2
+unfolding tightenCoefficient tighteningOutcome
+returns-2 c =
+    let s = c .before .before .before .before in
+    let A = s .args .coefs .now in
+    let f : SFits w32 (at A (s .args .k)) = record { sfits = c .before .if22 .given } in
+    let e = eq-read w32 f (sfits-lit {z = pos 0} tt) (c .if2 .taken) in
+    let n = sym (c .before .before .before .is-empty .ensures _ (s .pre .0 .coefs .some) (s .pre .0 .coefs .box)) ∙ c .before .before .if1 .left in
+    rw (n, e, stays-zero A (s .args .k) (maxActivity (length A) A (s .args .bounds .now)) (s .args .b .now)) (refl, (refl, refl))
+
 maximum-activity-requires : tie.Need-maximum-activity-requires
 maximum-activity-requires c κs = search needs
 
@@ -40,7 +68,7 @@ maximum-activity-requires c κs = search needs
 -- machine has them
 module _ (c : tie.After-rhs) where
   abbrev s : tie.Start
-  s = c .before .before .before .before .before
+  s = c .before .before .before .before .before .before .before
 
   abbrev A : List ℤ
   A = s .args .coefs .now
@@ -71,8 +99,8 @@ module _ (c : tie.After-rhs) where
 
   some : isEmpty (length A) B ≡ false
   some =
-      sym (c .before .before .before .before .is-empty .ensures _ (s .pre .0 .coefs .some) (s .pre .0 .coefs .box))
-      ∙ c .before .before .before .if1 .left
+      sym (c .before .before .before .before .before .before .is-empty .ensures _ (s .pre .0 .coefs .some) (s .pre .0 .coefs .box))
+      ∙ c .before .before .before .before .before .if1 .left
 
   L-small : Within 5_000_000_000_000 L
   L-small = max-activity-small (s .pre .0 .coefs)
@@ -110,11 +138,11 @@ cast-rhs c = wide-fits (within-fits w32 tt (b-small c))
 same-length : tie.Need-same-length
 same-length c = search needs
 
-returns-2 : tie.Need-returns-2
+returns-3 : tie.Need-returns-3
 unfolding tightenCoefficient tighteningOutcome
-returns-2 c =
+returns-3 c =
     let r = c .before in
-    rw (some r, stays-redundant (A r) (k r) _ _ _ (le-read (most-is r) (rhs-is r) (c .if2 .taken))) (refl, (refl, refl))
+    rw (some r, stays-redundant (A r) (k r) _ _ _ (le-read (most-is r) (rhs-is r) (c .if3 .taken))) (refl, (refl, refl))
 
 mul-a : tie.Need-mul-a
 mul-a c = search needs
@@ -125,50 +153,50 @@ slice-copy-out-a c = search needs
 cast-a : tie.Need-cast-a
 cast-a c = wide-fits (within-fits w32 tt (a-small (c .before .before)))
 
-broken : (c : tie.Else2) → b (c .before) <ℤ L (c .before)
-broken c = gt-read (most-is (c .before)) (rhs-is (c .before)) (c .if2 .left)
+broken : (c : tie.Else3) → b (c .before) <ℤ L (c .before)
+broken c = gt-read (most-is (c .before)) (rhs-is (c .before)) (c .if3 .left)
 
 -- ---- a above 0
 
-positive : (c : tie.Then3) → pos 0 <ℤ a (c .before .before .before)
-positive c = lt-read refl (coef-is (c .before .before .before)) (c .if3 .taken)
+positive : (c : tie.Then4) → pos 0 <ℤ a (c .before .before .before)
+positive c = lt-read refl (coef-is (c .before .before .before)) (c .if4 .taken)
 
-sub-if4 : tie.Need-sub-if4
-sub-if4 c = let r = c .before .before .before in fits-read (less-a r) (within-fits w64 tt (within-sub (L-small r) (a-small r)))
+sub-if5 : tie.Need-sub-if5
+sub-if5 c = let r = c .before .before .before in fits-read (less-a r) (within-fits w64 tt (within-sub (L-small r) (a-small r)))
 
 same-length-2 : tie.Need-same-length-2
 same-length-2 c = search needs
 
-returns-3 : tie.Need-returns-3
+returns-4 : tie.Need-returns-4
 unfolding tightenCoefficient tighteningOutcome
-returns-3 c =
+returns-4 c =
     let r = c .before .before .before .before in
-    let h = le-read (rhs-is r) (read w64 (sub-if4 (c .before)) (less-a r)) (c .if4 .taken) in
+    let h = le-read (rhs-is r) (read w64 (sub-if5 (c .before)) (less-a r)) (c .if5 .taken) in
     rw (some r, stays-loose-pos (A r) (k r) _ _ _ (positive (c .before)) h) (refl, (refl, refl))
 
-sub-if5 : tie.Need-sub-if5
-sub-if5 c = sub-if4 (c .before)
+sub-if6 : tie.Need-sub-if6
+sub-if6 c = sub-if5 (c .before)
 
-module _ (c : tie.Else4) where
+module _ (c : tie.Else5) where
   abbrev row : tie.After-rhs
   row = c .before .before .before .before
 
   needed : (L row -ℤ a row) <ℤ b row
-  needed = gt-read (rhs-is row) (read w64 (sub-if4 (c .before)) (less-a row)) (c .if4 .left)
+  needed = gt-read (rhs-is row) (read w64 (sub-if5 (c .before)) (less-a row)) (c .if5 .left)
 
 same-length-3 : tie.Need-same-length-3
 same-length-3 c = search needs
 
-returns-4 : tie.Need-returns-4
+returns-5 : tie.Need-returns-5
 unfolding tightenCoefficient tighteningOutcome
-returns-4 c =
+returns-5 c =
     let e = c .before in
     let r = row e in
-    let h : (L r -ℤ a r) <ℤ minRhs = lt-read (read w64 (sub-if5 e) (less-a r)) refl (c .if5 .taken) in
+    let h : (L r -ℤ a r) <ℤ minRhs = lt-read (read w64 (sub-if6 e) (less-a r)) refl (c .if6 .taken) in
     rw (some r, stays-limit (A r) (k r) _ _ _ (positive (e .before)) (broken (e .before .before .before)) (needed e) h) (refl, (refl, refl))
 
-in-range : (c : tie.Else5) → minRhs ≤ℤ (L (row (c .before)) -ℤ a (row (c .before)))
-in-range c = ge-read (read w64 (sub-if5 (c .before)) (less-a (row (c .before)))) refl (c .if5 .left)
+in-range : (c : tie.Else6) → minRhs ≤ℤ (L (row (c .before)) -ℤ a (row (c .before)))
+in-range c = ge-read (read w64 (sub-if6 (c .before)) (less-a (row (c .before)))) refl (c .if6 .left)
 
 sub-coefs : tie.Need-sub-coefs
 sub-coefs c = let r = row (c .before) in fits-read (over-b r) (within-fits w64 tt (within-sub (L-small r) (b-small r)))
@@ -186,7 +214,7 @@ slice-set-from-b : tie.Need-slice-set-from-b
 slice-set-from-b c = search needs
 
 sub-b : tie.Need-sub-b
-sub-b c = sub-if5 (c .before)
+sub-b c = sub-if6 (c .before)
 
 cast-b : tie.Need-cast-b
 cast-b c =
@@ -196,9 +224,9 @@ cast-b c =
 same-length-4 : tie.Need-same-length-4
 same-length-4 c = search needs
 
-returns-5 : tie.Need-returns-5
+returns-6 : tie.Need-returns-6
 unfolding tightenCoefficient tighteningOutcome
-returns-5 c =
+returns-6 c =
     let e = c .before in
     let r = row e in
     let new = tightens-pos (A r) (k r) _ _ _ (positive (e .before)) (broken (e .before .before .before)) (needed e) (in-range c) in
@@ -207,28 +235,28 @@ returns-5 c =
 
 -- ---- a at most 0
 
-not-positive : (c : tie.Else3) → a (c .before .before .before) ≤ℤ pos 0
-not-positive c = ge-read refl (coef-is (c .before .before .before)) (c .if3 .left)
+not-positive : (c : tie.Else4) → a (c .before .before .before) ≤ℤ pos 0
+not-positive c = ge-read refl (coef-is (c .before .before .before)) (c .if4 .left)
 
-add-if6 : tie.Need-add-if6
-add-if6 c = let r = c .before .before .before in fits-read (plus-a r) (within-fits w64 tt (within-add (L-small r) (a-small r)))
+add-if7 : tie.Need-add-if7
+add-if7 c = let r = c .before .before .before in fits-read (plus-a r) (within-fits w64 tt (within-add (L-small r) (a-small r)))
 
 same-length-5 : tie.Need-same-length-5
 same-length-5 c = search needs
 
-returns-6 : tie.Need-returns-6
+returns-7 : tie.Need-returns-7
 unfolding tightenCoefficient tighteningOutcome
-returns-6 c =
+returns-7 c =
     let r = c .before .before .before .before in
-    let h = le-read (rhs-is r) (read w64 (add-if6 (c .before)) (plus-a r)) (c .if6 .taken) in
+    let h = le-read (rhs-is r) (read w64 (add-if7 (c .before)) (plus-a r)) (c .if7 .taken) in
     rw (some r, stays-loose-neg (A r) (k r) _ _ _ (not-positive (c .before)) h) (refl, (refl, refl))
 
-module _ (c : tie.Else6) where
+module _ (c : tie.Else7) where
   abbrev row₂ : tie.After-rhs
   row₂ = c .before .before .before .before
 
   needed₂ : (L row₂ +ℤ a row₂) <ℤ b row₂
-  needed₂ = gt-read (rhs-is row₂) (read w64 (add-if6 (c .before)) (plus-a row₂)) (c .if6 .left)
+  needed₂ = gt-read (rhs-is row₂) (read w64 (add-if7 (c .before)) (plus-a row₂)) (c .if7 .left)
 
 sub-coefs-2 : tie.Need-sub-coefs-2
 sub-coefs-2 c = let r = row₂ c in fits-read (under-b r) (within-fits w64 tt (within-sub (b-small r) (L-small r)))
@@ -238,8 +266,8 @@ cast-coefs-2 c =
     let r = row₂ c in
     fits-read (read w64 (sub-coefs-2 c) (under-b r)) (within-fits w32 tt (new-coef-neg _ _ _ (a-small r) (broken (c .before .before .before)) (needed₂ c)))
 
-mul-t13 : tie.Need-mul-t13
-mul-t13 c = search needs
+mul-t9 : tie.Need-mul-t9
+mul-t9 c = search needs
 
 slice-set-from-coefs : tie.Need-slice-set-from-coefs
 slice-set-from-coefs c = search needs
@@ -247,9 +275,9 @@ slice-set-from-coefs c = search needs
 same-length-6 : tie.Need-same-length-6
 same-length-6 c = search needs
 
-returns-7 : tie.Need-returns-7
+returns-8 : tie.Need-returns-8
 unfolding tightenCoefficient tighteningOutcome
-returns-7 c =
+returns-8 c =
     let r = row₂ c in
     let new = tightens-neg (A r) (k r) _ _ _ (not-positive (c .before)) (broken (c .before .before .before)) (needed₂ c) in
     let new-a = read w32 (cast-coefs-2 c) (read w64 (sub-coefs-2 c) (under-b r)) in
@@ -261,19 +289,22 @@ tighten-coefficient-spec =
     (tie.spec
     is-empty-requires
     returns
+    mul-if2
+    slice-copy-out-if2
+    returns-2
     maximum-activity-requires
     cast-rhs
     same-length
-    returns-2
+    returns-3
     mul-a
     slice-copy-out-a
     cast-a
-    sub-if4
-    same-length-2
-    returns-3
     sub-if5
-    same-length-3
+    same-length-2
     returns-4
+    sub-if6
+    same-length-3
+    returns-5
     sub-coefs
     cast-coefs
     mul-b
@@ -281,13 +312,13 @@ tighten-coefficient-spec =
     sub-b
     cast-b
     same-length-4
-    returns-5
-    add-if6
-    same-length-5
     returns-6
+    add-if7
+    same-length-5
+    returns-7
     sub-coefs-2
     cast-coefs-2
-    mul-t13
+    mul-t9
     slice-set-from-coefs
     same-length-6
-    returns-7)
+    returns-8)

@@ -1,0 +1,71 @@
+-- `step::run_probe_record`: in a valid state the record's own checks alone say whether the call is refused; else it is run.
+-- Assumes nothing.
+use mathlib.Core.Path.{_∙_, _≡_, refl, sym}
+use Rattle.semantics.specs.CallChecks.{callFault, recordChecks}
+use Rattle.semantics.specs.State.{Call, callOf, State, stateOf}
+use Rattle.semantics.proofs.Accepted.{fault-of-valid}
+use Rattle.semantics.proofs.ClassLaws.{class-refused}
+use Rattle.step.specs.Classes.{classIs}
+use borrow.Author.Needs.{needs}
+use Rattle.step.proofs.run_probe_record.Statement.{statement}
+use Rattle.step.proofs.run_probe_record.Tie as tie
+use Rattle.step.proofs.run_probe_record.Reads as reads
+use Rattle.step.proofs.run_probe_record.Lts as lts
+use Rattle.step.proofs.checks.record_fault.Reads as record-fault-reads
+use Rattle.step.proofs.run_probe_by.Reads as run-probe-by-reads
+
+abbrev state : tie.Start → State
+state s = let a = s .args in stateOf (a .n) (a .m) (a .bounds .now) (a .coefs .now) (a .rhs .now) (a .table .now)
+
+abbrev call : tie.Start → Call
+call s = callOf (state s) 3 0 (s .args .variable) (s .args .budget)
+
+record-fault-requires : tie.Need-record-fault-requires
+unfolding stateOf
+record-fault-requires c κs = let v = c .before .before .before .before .before .pre .0 .model in (v .box, v .some)
+
+-- the checks that were made are those of the whole call
+fault-is : (c : tie.After-record-fault) → let s = c .before .before .before .before .before .before in c .record-fault .result ≡ callFault (state s) (call s)
+unfolding stateOf callOf recordChecks
+fault-is c = let s = c .before .before .before .before .before .before in c .record-fault .ensures ∙ sym (fault-of-valid (state s) (call s) (s .pre .0) refl refl refl)
+
+same-length : tie.Need-same-length
+same-length c = search needs
+
+returns : tie.Need-returns
+unfolding classIs
+returns c =
+    let s = c .before .before .before .before .before .before .before in
+    let w = class-refused (state s) (call s) (λ e. c .if1 .taken (fault-is (c .before) ∙ e)) in
+    (w .0, (w .1, s .pre .1))
+
+run-probe-by-requires : tie.Need-run-probe-by-requires
+run-probe-by-requires c κs =
+    let e = c .before .before .before in
+    let s = e .before .before .before .before .before .before .before in
+    (s .pre .0, (sym (fault-is (e .before)) ∙ e .if1 .left, s .pre .1))
+
+same-length-2 : tie.Need-same-length-2
+same-length-2 c = search needs
+
+same-length-3 : tie.Need-same-length-3
+same-length-3 c = search needs
+
+same-length-4 : tie.Need-same-length-4
+same-length-4 c = search needs
+
+returns-2 : tie.Need-returns-2
+returns-2 c = search needs
+
+pub run-probe-record-spec : {M : Type 1} → statement M
+run-probe-record-spec =
+    tie.close
+    (tie.spec
+    record-fault-requires
+    same-length
+    returns
+    run-probe-by-requires
+    same-length-2
+    same-length-3
+    same-length-4
+    returns-2)

@@ -1,0 +1,89 @@
+-- What a sweep by steps passes over: a coefficient of 0 adds nothing to the activity and moves no bound.
+use Prim.Native.Nat.{_*_, _+_, _<_, _≤_, suc, zero, ℕ}
+use lib.IntN.{_+ℤ_, +ℤ-idr, pos, zero-*ℤ, ℤ}
+use lib.ListN.{getD, set}
+use lib.Seq.{set-getD}
+use lib.Signed.{≤ℤ-refl}
+use mathlib.Core.Bool.{Bool, _&&_, false, not, true}
+use mathlib.Core.List.{List}
+use mathlib.Core.Path.{_∙_, _≡_, ap, ap₂, refl, sym}
+use native.Mathlib.Decide.{ℕ-discrete}
+use native.Mathlib.Omega.{arith}
+use Rattle.integer.specs.Index.{all, sum}
+use Rattle.integer.proofs.Tests.{T→true}
+use Rattle.model.specs.Box.{at, lower, upper, withBounds}
+use Rattle.model.proofs.BoxLoops.{writeTo, writeTo-late}
+use Rattle.row.specs.Activity.{minTerm}
+use Rattle.row.specs.Propagation.{newLower, newUpper, staysAt}
+use Rattle.sweep.specs.Steps.{Steps}
+use Rattle.row.proofs.ActivityLaws.{minTerm-nonpos}
+use Rattle.row.proofs.BoundLaws.{eq→stays, newLower-nonneg, newUpper-nonpos}
+use Rattle.row.proofs.RowLoops.{movedTo, tightenTo}
+
+-- ---- sums, boxes and tests over a stretch where nothing happens
+
+sum-skip : (f : ℕ → ℤ) (i k : ℕ) → i ≤ k → ((j : ℕ) → i ≤ j → j < k → f j ≡ pos 0) → sum i f ≡ sum k f
+unfolding sum
+sum-skip f i zero h z = ap (λ (q : ℕ). sum q f) (let e : i ≡ 0 = omega arith in e)
+sum-skip f i (suc k) h z = go (ℕ-discrete i (suc k)) (λ (q : i ≤ k). sum-skip f i k q (λ j a b. z j a (omega arith)))
+  where
+    go : Dec (i ≡ suc k) → (i ≤ k → sum i f ≡ sum k f) → sum i f ≡ sum k f +ℤ f k
+    go (yes e) r = ap (λ (q : ℕ). sum q f) e
+    go (no ne) r = r (omega arith) ∙ sym (+ℤ-idr (sum k f)) ∙ ap (λ (x : ℤ). sum k f +ℤ x) (sym (z k (omega arith) (omega arith)))
+
+and-true : (p : Bool) → (p && true) ≡ p
+and-true true = refl
+and-true false = refl
+
+all-skip : (f : ℕ → Bool) (i k : ℕ) → i ≤ k → ((j : ℕ) → i ≤ j → j < k → f j ≡ true) → all i f ≡ all k f
+unfolding all
+all-skip f i zero h z = ap (λ (q : ℕ). all q f) (let e : i ≡ 0 = omega arith in e)
+all-skip f i (suc k) h z = go (ℕ-discrete i (suc k)) (λ (q : i ≤ k). all-skip f i k q (λ j a b. z j a (omega arith)))
+  where
+    go : Dec (i ≡ suc k) → (i ≤ k → all i f ≡ all k f) → all i f ≡ (all k f && f k)
+    go (yes e) r = ap (λ (q : ℕ). all q f) e
+    go (no ne) r = r (omega arith) ∙ sym (and-true (all k f)) ∙ ap (λ (x : Bool). all k f && x) (sym (z k (omega arith) (omega arith)))
+
+same-bounds : (P : List ℤ) (j : ℕ) {l u : ℤ} → l ≡ lower P j → u ≡ upper P j → withBounds P j l u ≡ P
+unfolding withBounds
+same-bounds P j e f = rw (e, f) (ap (λ (Q : List ℤ). set Q (2 * j + 1) (upper P j)) (set-getD P (2 * j) (pos 0)) ∙ set-getD P (2 * j + 1) (pos 0))
+
+write-skip : (f g : ℕ → ℤ) (B : List ℤ) (i k : ℕ) → i ≤ k → ((j : ℕ) → i ≤ j → j < k → (f j ≡ lower B j) × (g j ≡ upper B j))
+    → writeTo i f g B ≡ writeTo k f g B
+unfolding writeTo
+write-skip f g B i zero h z = ap (λ (q : ℕ). writeTo q f g B) (let e : i ≡ 0 = omega arith in e)
+write-skip f g B i (suc k) h z = go (ℕ-discrete i (suc k)) (λ (q : i ≤ k). write-skip f g B i k q (λ j a b. z j a (omega arith)))
+  where
+    go : Dec (i ≡ suc k) → (i ≤ k → writeTo i f g B ≡ writeTo k f g B) → writeTo i f g B ≡ withBounds (writeTo k f g B) k (f k) (g k)
+    go (yes e) r = ap (λ (q : ℕ). writeTo q f g B) e
+    go (no ne) r =
+        let w = z k (omega arith) (omega arith) in
+        r (omega arith) ∙ sym (same-bounds (writeTo k f g B) k
+        (w .0 ∙ sym (writeTo-late f g B k (2 * k) (omega arith))) (w .1 ∙ sym (writeTo-late f g B k (2 * k + 1) (omega arith))))
+
+-- ---- a step of a row
+
+module _ {n : ℕ} {A : List ℤ} {S : List ℕ} (v : Steps n A S) {j : ℕ} (h : j < n) where
+  at-least-one : j + 1 ≤ j + getD S j 0
+  at-least-one = omega (arith, v .forward j h)
+
+  zero-between : (k : ℕ) → j + 1 ≤ k → k < j + getD S j 0 → at A k ≡ pos 0
+  zero-between k a b = v .zeros j h k (omega arith) b
+
+  pub step-sum : (B : List ℤ) → sum (j + 1) (λ k. minTerm (at A k) (lower B k) (upper B k)) ≡ sum (j + getD S j 0) (λ k. minTerm (at A k) (lower B k) (upper B k))
+  step-sum B = sum-skip _ (j + 1) (j + getD S j 0) at-least-one
+      (λ k a b. rw (zero-between k a b) (minTerm-nonpos (pos 0) (lower B k) (upper B k) (≤ℤ-refl (pos 0)) ∙ zero-*ℤ (upper B k)))
+
+  module _ (b L : ℤ) (B : List ℤ) where
+    low-stays : (k : ℕ) → j + 1 ≤ k → k < j + getD S j 0 → newLower (at A k) b L (lower B k) (upper B k) ≡ lower B k
+    low-stays k a c = rw (zero-between k a c) (newLower-nonneg (pos 0) b L (lower B k) (upper B k) (≤ℤ-refl (pos 0)))
+
+    high-stays : (k : ℕ) → j + 1 ≤ k → k < j + getD S j 0 → newUpper (at A k) b L (lower B k) (upper B k) ≡ upper B k
+    high-stays k a c = rw (zero-between k a c) (newUpper-nonpos (pos 0) b L (lower B k) (upper B k) (≤ℤ-refl (pos 0)))
+
+    pub step-box : tightenTo A b L B (j + 1) ≡ tightenTo A b L B (j + getD S j 0)
+    step-box = write-skip _ _ B (j + 1) (j + getD S j 0) at-least-one (λ k a c. (low-stays k a c, high-stays k a c))
+
+    pub step-moved : movedTo A b L B (j + 1) ≡ movedTo A b L B (j + getD S j 0)
+    step-moved = ap not (all-skip (staysAt A b L B) (j + 1) (j + getD S j 0) at-least-one
+        (λ k a c. T→true (staysAt A b L B k) (eq→stays (at A k) b L (lower B k) (upper B k) (low-stays k a c) (high-stays k a c))))

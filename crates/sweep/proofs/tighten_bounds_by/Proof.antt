@@ -1,0 +1,158 @@
+-- `sweep::tighten_bounds_by`: the invariant says that the bounds of the variables so far are the implied ones (`writeTo`), and
+-- that `moved` tells whether one of them differs. A variable not yet visited has its old bounds (`writeTo-late`). Assumes nothing.
+use Prim.Native.Nat.{_*_, _+_, _-_, _<_, _≤_, ℕ}
+use lib.IntN.{ℤ}
+use lib.ListN.{getD, length}
+use mathlib.Core.List.{List}
+use mathlib.Core.Logic.{inl, inr, ⊎-elim}
+use mathlib.Core.Path.{_∙_, _≡_, ap, ap₂, refl}
+use mir.Facts.{toZ-ofZ}
+use mir.Syntax.{w32, w64}
+use mir.Val.{ofZ, toZ}
+use native.Mathlib.Omega.{arith}
+use Rattle.integer.specs.Index.{all}
+use Rattle.integer.proofs.RangeLaws.{within-fits}
+use Rattle.model.specs.Box.{at, lower, upper}
+use Rattle.model.proofs.BoxLoops.{writeTo}
+use Rattle.row.specs.ValidRow.{ImpliesBounds}
+use Rattle.row.proofs.RowLoops.{lower-there, moved-more, movedTo, tighten-all, tighten-more, tightenTo, upper-there}
+use Rattle.sweep.proofs.StepLaws.{step-box, step-moved}
+use Rattle.sweep.proofs.tighten_bounds_by.Statement.{statement}
+use Rattle.sweep.proofs.tighten_bounds_by.Tie as tie
+
+abbrev Inv-loop : tie.InvT-loop
+Inv-loop coefs steps b least bounds₀ moved₀ j₀ bounds moved j =
+    (j ≤ length coefs)
+    × (length bounds ≡ length bounds₀)
+    × (bounds ≡ tightenTo coefs (toZ w64 b) (toZ w64 least) bounds₀ j)
+    × (moved ≡ movedTo coefs (toZ w64 b) (toZ w64 least) bounds₀ j)
+
+abbrev μ-loop : tie.MeasureT-loop
+μ-loop coefs steps b least bounds₀ moved₀ j₀ bounds moved j = length coefs - j
+
+loop-holds : tie.Need-loop-holds Inv-loop μ-loop
+unfolding writeTo all
+loop-holds c = (omega arith, refl, refl, refl)
+
+mul-tighten-bounds-at : tie.Need-mul-tighten-bounds-at Inv-loop μ-loop
+mul-tighten-bounds-at c = omega arith
+
+shared-slice-copy-out-tighten-bounds-at :
+    tie.Need-shared-slice-copy-out-tighten-bounds-at Inv-loop μ-loop
+shared-slice-copy-out-tighten-bounds-at c = omega arith
+
+-- in a turn
+module _ (h : tie.At-loop Inv-loop μ-loop) where
+  abbrev s : tie.Start Inv-loop μ-loop
+  s = h .before .before
+
+  abbrev A : List ℤ
+  A = s .args .coefs .now
+
+  abbrev B : List ℤ
+  B = s .args .bounds .now
+
+  abbrev b : ℤ
+  b = toZ w64 (ofZ w64 (s .args .b))
+
+  abbrev L : ℤ
+  L = toZ w64 (ofZ w64 (s .args .least))
+
+  abbrev j : ℕ
+  j = h .loop .j
+
+  a-is : toZ w32 (ofZ w32 (at A j)) ≡ at A j
+  a-is = toZ-ofZ {w = w32} (within-fits w32 tt (s .pre .0 .coefs j))
+
+  b-is : b ≡ s .args .b
+  b-is = toZ-ofZ {w = w64} (s .fits .b)
+
+  least-is : L ≡ s .args .least
+  least-is = toZ-ofZ {w = w64} (s .fits .least)
+
+  l-is : lower (h .loop .bounds) j ≡ lower B j
+  l-is = ap (λ (P : List ℤ). lower P j) (h .loop .inv .2) ∙ lower-there A b L B j
+
+  u-is : upper (h .loop .bounds) j ≡ upper B j
+  u-is = ap (λ (P : List ℤ). upper P j) (h .loop .inv .2) ∙ upper-there A b L B j
+
+  implies : ImpliesBounds (at A j) (s .args .b) (s .args .least) (lower B j) (upper B j)
+  implies = record {
+    coef = s .pre .0 .coefs j;
+    rhs = s .pre .0 .rhs;
+    activity = s .pre .0 .activity;
+    met = s .pre .0 .met;
+    low = s .pre .0 .bounds (2 * j);
+    high = s .pre .0 .bounds (2 * j + 1);
+  }
+
+  step-in : j < length A → j + getD (s .args .steps .now) j 0 ≤ length A
+  step-in k = s .pre .1 .within j k
+
+  step-on : j < length A → 0 < getD (s .args .steps .now) j 0
+  step-on k = s .pre .1 .forward j k
+
+tighten-bounds-at-requires : tie.Need-tighten-bounds-at-requires Inv-loop μ-loop
+tighten-bounds-at-requires c κs =
+    let h = c .before .before .before in
+    (rw (a-is h, b-is h, least-is h, l-is h, u-is h) (implies h), omega (arith, s h .pre .0 .len, s h .pre .0 .boxLen))
+
+shared-slice-read-j : tie.Need-shared-slice-read-j Inv-loop μ-loop
+shared-slice-read-j c = omega (arith, s (c .before .before .before .before .before .before .before) .pre .1 .len)
+
+cast-j : tie.Need-cast-j Inv-loop μ-loop
+cast-j c = omega (arith, step-in (c .before .before .before .before .before .before .before) (omega arith))
+
+add-j : tie.Need-add-j Inv-loop μ-loop
+add-j c = omega (arith, step-in (c .before .before .before .before .before .before .before) (omega arith))
+
+loop-less : tie.Need-loop-less Inv-loop μ-loop
+loop-less c = let h = c .before .before .before .before .before .before .before in omega (arith, step-in h (omega arith), step-on h (omega arith))
+
+loop-again : tie.Need-loop-again Inv-loop μ-loop
+loop-again c =
+    let h = c .before .before .before .before .before .before .before in
+    let call = c .before .before .before .tighten-bounds-at in
+    let k : j h < length (A h) = omega arith in (
+      step-in h k,
+      call .kept .1 .1 .1 .0 ∙ h .loop .inv .1,
+      tighten-more (A h) (b h) (L h) (B h) (j h) (a-is h) (h .loop .inv .2) (call .ensures .0) ∙ step-box (s h .pre .1) k (b h) (L h) (B h),
+      moved-more (A h) (b h) (L h) (B h) (j h) (a-is h) (h .loop .inv .2) (h .loop .inv .3) (call .ensures .1)
+          (⊎-elim (λ w. inl (w .0 .taken, w .1)) (λ w. inr (w .0 .left, w .1)) (c .before .if1 .came))
+          ∙ step-moved (s h .pre .1) k (b h) (L h) (B h),
+    )
+
+same-length : tie.Need-same-length Inv-loop μ-loop
+same-length c = omega arith
+
+returns : tie.Need-returns Inv-loop μ-loop
+returns c =
+    let h = c .before in
+    let n = length (A h) in
+    let end : h .loop .j ≡ n = omega arith in (
+      h .loop .inv .2
+          ∙ ap₂ (λ (x y : ℤ). tightenTo (A h) x y (B h) (j h)) (b-is h) (least-is h)
+          ∙ ap (tightenTo (A h) (s h .args .b) (s h .args .least) (B h)) end
+          ∙ tighten-all (A h) (s h .args .b) (s h .args .least) (B h) n (s h .pre .0 .boxLen),
+      h .loop .inv .3
+          ∙ ap₂ (λ (x y : ℤ). movedTo (A h) x y (B h) (j h)) (b-is h) (least-is h)
+          ∙ ap (movedTo (A h) (s h .args .b) (s h .args .least) (B h)) end,
+    )
+
+pub tighten-bounds-by-spec : {M : Type 1} → statement M
+tighten-bounds-by-spec =
+    tie.close
+    (tie.spec
+    Inv-loop
+    μ-loop
+    loop-holds
+    mul-tighten-bounds-at
+    shared-slice-copy-out-tighten-bounds-at
+    tighten-bounds-at-requires
+    shared-slice-read-j
+    cast-j
+    add-j
+    loop-less
+    loop-again
+    same-length
+    returns)
