@@ -5,15 +5,15 @@ use lib.ListN.{length}
 use lib.Signed.{leZ}
 use mathlib.Core.Bool.{Bool, _&&_}
 use mathlib.Core.List.{List}
-use mathlib.Core.Path.{_≡_, refl, sym}
+use mathlib.Core.Path.{_≡_, refl}
 use mir.Facts.{toZ-ofZ}
 use mir.Syntax.{w32}
 use mir.Val.{SFits, toZ}
 use native.Mathlib.Omega.{arith}
 use Rattle.integer.specs.Index.{all}
-use Rattle.integer.proofs.IndexLaws.{all-more}
 use Rattle.model.specs.Box.{at}
 use Rattle.model.specs.Checks.{inRange}
+use Rattle.model.proofs.CheckLaws.{flag-next}
 use Rattle.model.proofs.in_range.Statement.{statement}
 use Rattle.model.proofs.in_range.Tie as tie
 
@@ -47,7 +47,7 @@ loop-again c =
     let xs = c .before .before .before .args .xs .now in
     let at-loop = c .before .before .loop in
     let fx : SFits w32 (at xs (at-loop .i)) = record { sfits = c .x .given } in
-    (omega arith, rw (toZ-ofZ fx, at-loop .inv .1) (sym (all-more _ (at-loop .i))))
+    (omega arith, rw (toZ-ofZ fx) (flag-next _ (at-loop .i) (at-loop .inv .1)))
 
 returns : tie.Need-returns Inv-loop μ-loop
 unfolding inRange

@@ -4,11 +4,11 @@ use lib.Dec.{ltb}
 use lib.ListN.{getD, length}
 use mathlib.Core.Bool.{Bool}
 use mathlib.Core.List.{List}
-use mathlib.Core.Path.{_≡_, refl, sym}
+use mathlib.Core.Path.{_≡_, refl}
 use native.Mathlib.Omega.{arith}
 use Rattle.integer.specs.Index.{all}
-use Rattle.integer.proofs.IndexLaws.{all-more}
 use Rattle.model.specs.Checks.{bits}
+use Rattle.model.proofs.CheckLaws.{flag-next}
 use Rattle.model.proofs.is_bits.Statement.{statement}
 use Rattle.model.proofs.is_bits.Tie as tie
 
@@ -35,9 +35,7 @@ loop-less : tie.Need-loop-less Inv-loop μ-loop
 loop-less c = omega arith
 
 loop-again : tie.Need-loop-again Inv-loop μ-loop
-loop-again c =
-    let at-loop = c .before .before .loop in
-    (omega arith, rw (at-loop .inv .1) (sym (all-more _ (at-loop .i))))
+loop-again c = (omega arith, flag-next _ (c .before .before .loop .i) (c .before .before .loop .inv .1))
 
 returns : tie.Need-returns Inv-loop μ-loop
 unfolding bits

@@ -5,15 +5,15 @@ use lib.ListN.{length}
 use lib.Signed.{leZ}
 use mathlib.Core.Bool.{Bool}
 use mathlib.Core.List.{List}
-use mathlib.Core.Path.{_≡_, refl, sym}
+use mathlib.Core.Path.{_≡_, refl}
 use mir.Facts.{toZ-ofZ}
 use mir.Syntax.{w32}
 use mir.Val.{SFits}
 use native.Mathlib.Omega.{arith}
 use Rattle.integer.specs.Index.{all}
-use Rattle.integer.proofs.IndexLaws.{all-more}
 use Rattle.model.specs.Box.{lower, upper}
 use Rattle.model.specs.Checks.{ordered}
+use Rattle.model.proofs.CheckLaws.{flag-next}
 use Rattle.model.proofs.is_ordered.Statement.{statement}
 use Rattle.model.proofs.is_ordered.Tie as tie
 
@@ -63,7 +63,7 @@ loop-again c =
     let at-loop = c .before .before .before .loop in
     let fl : SFits w32 (lower B (at-loop .j)) = record { sfits = c .before .ok .given } in
     let fu : SFits w32 (upper B (at-loop .j)) = record { sfits = c .ok2 .given } in
-    (omega arith, rw (toZ-ofZ fl, toZ-ofZ fu, at-loop .inv .1) (sym (all-more _ (at-loop .j))))
+    (omega arith, rw (toZ-ofZ fl, toZ-ofZ fu) (flag-next _ (at-loop .j) (at-loop .inv .1)))
 
 returns : tie.Need-returns Inv-loop μ-loop
 unfolding ordered
