@@ -24,14 +24,13 @@ pub fn are_in_range(bytes: &[u8], at: usize, step: usize, count: usize, low: i32
     requires { ⌜ ((i : ℕ) → i < count → at + i * step + 4 ≤ length (now bytes)) ⌝ }
     ensures { λ r. ⌜ r ≡ inRange low high (integersAt at step count (now (bytes .entry))) ⌝ }
 {
+    let mut ok = true;
     let mut k = 0;
     while k < count {
-        if !is_between(read_i32(bytes, at + k * step), low, high) {
-            return false;
-        }
+        ok &= is_between(read_i32(bytes, at + k * step), low, high);
         k += 1;
     }
-    true
+    ok
 }
 
 // Reads as many numbers as `xs` holds, one every `step` bytes from place `at` on.

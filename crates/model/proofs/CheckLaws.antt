@@ -1,5 +1,5 @@
 -- Laws of the checks: what each test says, which check fails first, and what a model that passes them all is.
-use Prim.Native.Nat.{_*_, _/_, _<_, _≤_, ℕ}
+use Prim.Native.Nat.{_*_, _+_, _/_, _<_, _≤_, ℕ}
 use lib.Dec.{T, eqb, eqb→eq, leb, ltb, ltb→lt}
 use lib.IntN.{pos, ℤ}
 use lib.ListN.{getD, length}
@@ -10,7 +10,8 @@ use mathlib.Core.Logic.{_↔_, _⊎_, inl, inr, ⊎-elim}
 use mathlib.Core.Path.{_∙_, _≡_, refl, sym}
 use native.Mathlib.Decide.{ℕ-discrete}
 use native.Mathlib.Omega.{arith}
-use Rattle.integer.proofs.IndexLaws.{all-test, getD-all}
+use Rattle.integer.specs.Index.{all}
+use Rattle.integer.proofs.IndexLaws.{all-more, all-test, getD-all}
 use Rattle.integer.proofs.Parts.{zarith}
 use Rattle.integer.proofs.Tests.{all-three, and-l, and-r, both, cond-ind, eqb-test, le-test, leb-test, ltb-test, neqb→ne, or-cases, or-inl, or-inr, true→T}
 use Rattle.model.specs.Box.{NonEmpty, at, emptyBox, isEmpty, lower, upper}
@@ -88,6 +89,12 @@ first-zero-append xs ys t = (there (ℕ-discrete (first xs) 0), (λ h. first-go 
     there : Dec (first xs ≡ 0) → first (xs ++ ys) ≡ 0 → (first xs ≡ 0) × (first ys ≡ 0)
     there (yes e) h = (e, sym (first-go xs ys t e) ∙ h)
     there (no n) h = absurd (n (sym (first-stop xs ys n) ∙ h))
+
+-- ---- a flag that is kept over a buffer
+
+-- the turn of a loop whose flag says that every test so far is passed
+pub flag-next : (f : ℕ → Bool) (i : ℕ) {ok : Bool} → ok ≡ all i f → (ok && f i) ≡ all (i + 1) f
+flag-next f i e = rw e (sym (all-more f i))
 
 -- ---- what each test says
 

@@ -1,6 +1,7 @@
 // A model in memory: n variables and m rows over flat lent buffers, and the checks that it passes before anything reads it.
 // bounds: l and u of each variable in turn, 2n; coefs: row after row, m · n; rhs: m; table: 4n² bytes.
-// The checks write nothing and require nothing: each answers for every n, m and buffer length.
+// The checks write nothing and require nothing: each answers for every n, m and buffer length. `in_range`, `is_ordered` and `is_bits`
+// go to the buffer's end and keep a flag: a loop without a branch for each number is compiled to take 4 to 16 numbers at a time.
 ghost use mathlib.Core.Path.{_≡_};
 ghost use Prim.Native.Nat.{ℕ, _*_, _<_, _≤_};
 ghost use lib.Dec.{eqb};
@@ -84,18 +85,14 @@ pub fn table_length_fault(n: usize, table: &[u8]) -> u32
 pub fn in_range(xs: &[i32], low: i32, high: i32) -> bool
     ensures { λ r. ⌜ r ≡ inRange low high (now (xs .entry)) ⌝ }
 {
+    let mut ok = true;
     let mut i = 0;
     while i < xs.len() {
         let x = xs[i];
-        if x < low {
-            return false;
-        }
-        if high < x {
-            return false;
-        }
+        ok &= (low <= x) & (x <= high);
         i += 1;
     }
-    true
+    ok
 }
 
 // Whether no lower bound is above its upper.
@@ -103,14 +100,13 @@ pub fn is_ordered(bounds: &[i32]) -> bool
     ensures { λ r. ⌜ r ≡ ordered (now (bounds .entry)) ⌝ }
 {
     let half = bounds.len() / 2;
+    let mut ok = true;
     let mut j = 0;
     while j < half {
-        if bounds[2 * j + 1] < bounds[2 * j] {
-            return false;
-        }
+        ok &= bounds[2 * j] <= bounds[2 * j + 1];
         j += 1;
     }
-    true
+    ok
 }
 
 // Whether the box is the empty one: every l = 1 and every u = 0.
@@ -158,14 +154,13 @@ pub fn make_empty(bounds: &mut [i32])
 pub fn is_bits(table: &[u8]) -> bool
     ensures { λ r. ⌜ r ≡ bits (now (table .entry)) ⌝ }
 {
+    let mut ok = true;
     let mut i = 0;
     while i < table.len() {
-        if 1 < table[i] {
-            return false;
-        }
+        ok &= table[i] < 2;
         i += 1;
     }
-    true
+    ok
 }
 
 // Checks 6 to 9, each over all its numbers before the next: the number of the first that fails, else 0.

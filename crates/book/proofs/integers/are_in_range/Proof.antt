@@ -1,21 +1,19 @@
--- `book::integers::are_in_range`: the loop makes the tests of `all` one after the other, and one that fails decides.
--- Assumes nothing.
+-- `book::integers::are_in_range`: the flag is `all` of the tests made so far. Assumes nothing.
 use Prim.Native.Nat.{_-_, _≤_, ℕ}
 use lib.IntN.{ℤ}
 use lib.ListN.{length}
 use lib.Signed.{leZ}
-use mathlib.Core.Bool.{Bool, _&&_, true}
+use mathlib.Core.Bool.{Bool, _&&_}
 use mathlib.Core.List.{List}
-use mathlib.Core.Path.{_≡_, refl, sym}
+use mathlib.Core.Path.{_≡_, refl}
 use mir.Facts.{toZ-ofZ}
 use mir.Syntax.{w32}
 use mir.Val.{SFits, toZ}
 use native.Mathlib.Omega.{arith}
 use Rattle.integer.specs.Index.{all}
-use Rattle.integer.proofs.IndexLaws.{all-false, all-next}
-use Rattle.integer.proofs.Tests.{told-false, told-true}
 use Rattle.model.specs.Box.{at}
 use Rattle.model.specs.Checks.{inRange}
+use Rattle.model.proofs.CheckLaws.{flag-next}
 use Rattle.book.specs.Bytes.{integersAt}
 use Rattle.book.proofs.DecodeLaws.{at-integersAt, length-integersAt}
 use Rattle.book.proofs.integers.are_in_range.Statement.{statement}
@@ -25,10 +23,10 @@ abbrev test : List ℤ → ℤ → ℤ → ℕ → Bool
 test xs low high i = leZ low (at xs i) && leZ (at xs i) high
 
 abbrev Inv-loop : tie.InvT-loop
-Inv-loop bytes p step count low high k₀ k = (k ≤ count) × (all k (test (integersAt p step count bytes) (toZ w32 low) (toZ w32 high)) ≡ true)
+Inv-loop bytes p step count low high ok₀ k₀ ok k = (k ≤ count) × (ok ≡ all k (test (integersAt p step count bytes) (toZ w32 low) (toZ w32 high)))
 
 abbrev μ-loop : tie.MeasureT-loop
-μ-loop bytes p step count low high k₀ k = count - k
+μ-loop bytes p step count low high ok₀ k₀ ok k = count - k
 
 loop-holds : tie.Need-loop-holds Inv-loop μ-loop
 unfolding all
@@ -60,15 +58,6 @@ tested c =
     let e = at-integersAt (a .at) (a .step) (a .count) (a .bytes .now) k (c .before .before .loop-test .taken) in
     rw (e, ← c .before .read-i32 .ensures) (simp toZ-ofZ at (c .is-between .ensures))
 
-returns : tie.Need-returns Inv-loop μ-loop
-unfolding inRange
-returns c =
-    let a = c .before .before .before .before .before .before .args in
-    let xs = integersAt (a .at) (a .step) (a .count) (a .bytes .now) in
-    let k = c .before .before .before .before .loop .k in
-    let l = length-integersAt (a .at) (a .step) (a .count) (a .bytes .now) in
-    sym (all-false (length xs) (test xs (a .low) (a .high)) k (omega (arith, l)) (told-false _ (tested (c .before)) (c .if1 .taken)))
-
 add-k : tie.Need-add-k Inv-loop μ-loop
 add-k c = omega arith
 
@@ -77,21 +66,20 @@ loop-less c = omega arith
 
 loop-again : tie.Need-loop-again Inv-loop μ-loop
 loop-again c =
-    let s = c .before .before .before .before .before .before in
-    let at-loop = c .before .before .before .before .loop in (
-      omega arith,
-      all-next _ (at-loop .k) (at-loop .inv .1)
-          (rw (toZ-ofZ (s .fits .low), toZ-ofZ (s .fits .high)) (told-true _ (tested (c .before)) (c .if1 .left))),
-    )
+    let s = c .before .before .before .before .before in
+    let at-loop = c .before .before .before .loop in
+    let l = toZ-ofZ (s .fits .low) in
+    let h = toZ-ofZ (s .fits .high) in
+    (omega arith, rw (l, h, tested c) (flag-next _ (at-loop .k) (rw (l, h) at (at-loop .inv .1))))
 
-returns-2 : tie.Need-returns-2 Inv-loop μ-loop
+returns : tie.Need-returns Inv-loop μ-loop
 unfolding inRange
-returns-2 c =
+returns c =
     let s = c .before .before .before in
     let a = s .args in
     let end : c .before .loop .k ≡ length (integersAt (a .at) (a .step) (a .count) (a .bytes .now)) =
     omega (arith, length-integersAt (a .at) (a .step) (a .count) (a .bytes .now)) in
-    sym (rw (end, toZ-ofZ (s .fits .low), toZ-ofZ (s .fits .high)) at (c .before .loop .inv .1))
+    rw (end, toZ-ofZ (s .fits .low), toZ-ofZ (s .fits .high)) at (c .before .loop .inv .1)
 
 pub are-in-range-spec : {M : Type 1} → statement M
 are-in-range-spec =
@@ -104,8 +92,7 @@ are-in-range-spec =
     add-read-i32
     read-i32-requires
     is-between-requires
-    returns
     add-k
     loop-less
     loop-again
-    returns-2)
+    returns)
