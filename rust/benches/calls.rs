@@ -51,6 +51,7 @@ const LINES: &[Line] = &[
     line("list_dense", "a call list that probes each variable", "dense", Operation::Run),
     line("list_sparse", "a call list that probes each variable", "sparse", Operation::Run),
     line("list_lseu", "a call list that probes each variable", "lseu", Operation::Run),
+    line("list_big3", "a call list that probes each variable", "big3", Operation::Run),
     line("list_p0033", "a call list that probes each variable", "p0033", Operation::Run),
     line("rest_first_dense", "rest, a box that the first row narrows", "dense_first", REST),
     line("rest_first_sparse", "rest, a box that the first row narrows", "sparse_first", REST),
@@ -104,7 +105,7 @@ fn described(line: &Line, folder: &str) -> String {
     let percent = (100.0 * nonzeros as f64 / (n * m) as f64).round();
     let remark = remark(line.operation, &left.answer, line.refusal);
     let model = match line.book.split('_').next() {
-        Some(name @ ("lseu" | "p0033")) => name.to_string(),
+        Some(name @ ("big3" | "lseu" | "p0033")) => name.to_string(),
         _ => format!("{n} × {m}, {percent} %"),
     };
     format!("{}\t{}{remark}\t{model}", line.name, line.call)
