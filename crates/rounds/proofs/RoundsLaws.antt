@@ -251,18 +251,18 @@ NoneEmpty s r = r .ending ≡ infeasible → T (isEmpty (run s (r .calls) .n) (r
 
 none-empty : (left made : ℕ) (s : State) → NoneEmpty s (roundsFrom left made s)
 unfolding roundsFrom after
-none-empty zero made s e = absurd (subst NotNone (sym e) tt)
+none-empty zero made s = λ e. absurd (subst NotNone e tt)
 none-empty (suc left) made s =
     let r = run s (round s) in
     let more = roundsFrom left (suc made) r in
     cond-ind (isEmpty (r .n) (r .box)) _ _ (NoneEmpty s) (λ t _. t)
     (λ _. cond-ind (anyChange s (round s)) _ _ (NoneEmpty s)
-    (λ _ e. rw (run-append s (round s) (more .calls)) (none-empty left (suc made) r e)) (λ _ e. absurd (subst NotNone (sym e) tt)))
+    (λ _ e. rw (run-append s (round s) (more .calls)) (none-empty left (suc made) r e)) (λ _ e. absurd (subst NotNone e tt)))
 
--- an answer other than None
-abbrev NotEnded : RoundsAnswer → Type 0
-NotEnded (refusedRounds number) = ⊥
-NotEnded (ended e k) = Unit {0}
+-- the rounds were not refused
+abbrev Ended : RoundsAnswer → Type 0
+Ended (refusedRounds number) = ⊥
+Ended (ended e k) = Unit {0}
 
 abbrev endingOf : RoundsAnswer → RoundsEnding
 endingOf (refusedRounds number) = atLimit
@@ -276,7 +276,7 @@ rounds-none limit s k = cond-ind (eqb (roundsFault s) 0) _ _ (λ (r : RoundsRun)
     let o = run-preserves s cs in
     let v = o .valid (accepted-valid s (eqb→eq (roundsFault s) 0 t)) in
     no-point (v .model .some) (isEmpty-test (run s cs .n) (run s cs .box) .0 (none-empty limit 0 s (ap endingOf e))) (o .points x .1 p))
-    (λ _ e. absurd (subst NotEnded (sym e) tt))
+    (λ _ e. absurd (subst Ended (sym e) tt))
 
 pub rounds-mean : (limit : ℕ) (s : State) → SamePoints s (run s (runRounds limit s .calls)) (runRounds limit s .answer)
 rounds-mean limit s =
