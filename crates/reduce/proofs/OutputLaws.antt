@@ -8,7 +8,7 @@ use lib.ListN.{getD}
 use mathlib.Core.List.{List, []}
 use mathlib.Core.Logic.{_⊎_, inl, inr, ⊎-elim}
 use mathlib.Core.Path.{_∙_, _≡_, refl, subst, sym}
-use native.Mathlib.Nat.{div-add-mod', div-lt-of-lt-mul, mod-lt}
+use native.Mathlib.Nat.{div-add-mod', div-lt-iff-lt-mul, mod-lt}
 use native.Mathlib.Decide.{ℕ-discrete}
 use native.Mathlib.Omega.{arith}
 use Rattle.integer.proofs.Tests.{T→false, T→true, decide}
@@ -38,47 +38,57 @@ book-handed-in bs e =
 
 -- ---- the `i` lines
 
-module _ {s left : State} (h : (x : List ℤ) → PointOf s x → TableHolds (left .n) (left .table) x) (i : ℕ) (b : i < 4 * (left .n * left .n)) where
+-- byte i of a table is that of the literals p and q, of variables p / 2 and q / 2
+module _ (n i : ℕ) (b : i < 4 * (n * n)) where
   abbrev p : ℕ
-  p = i / (2 * left .n)
+  p = i / (2 * n)
 
   abbrev q : ℕ
-  q = i % (2 * left .n)
+  q = i % (2 * n)
 
-  some : 0 < 2 * left .n
-  some = go (ℕ-discrete (left .n) 0)
+  some : 0 < 2 * n
+  some = go (ℕ-discrete n 0)
     where
-      go : Dec (left .n ≡ 0) → 0 < 2 * left .n
+      go : Dec (n ≡ 0) → 0 < 2 * n
       go (yes e) = absurd (let z : i < 4 * (0 * 0) = rw e at b in let w : ⊥ = omega arith in w)
-      go (no n) = omega arith
+      go (no k) = omega arith
 
-  place : byteOf (left .n) (literal (p / 2) (p % 2)) (literal (q / 2) (q % 2)) ≡ i
+  place : byteOf n (literal (p / 2) (p % 2)) (literal (q / 2) (q % 2)) ≡ i
   unfolding byteOf literal
   place =
       let a : 2 * (p / 2) + p % 2 ≡ p = omega arith in
       let c : 2 * (q / 2) + q % 2 ≡ q = omega arith in
-      rw (a, c) (div-add-mod' i (2 * left .n))
+      rw (a, c) (div-add-mod' i (2 * n))
 
-  first-known : p / 2 < left .n
-  first-known = let e : 4 * (left .n * left .n) ≡ (2 * left .n) * (2 * left .n) = omega arith in
-      let k : p < 2 * left .n = div-lt-of-lt-mul (rw e at b) in omega arith
+  first-known : p / 2 < n
+  first-known =
+      let e : 4 * (n * n) ≡ (2 * n) * (2 * n) = omega arith in
+      let k : p < 2 * n = div-lt-iff-lt-mul some .1 (rw e at b) in omega arith
 
-  second-known : q / 2 < left .n
-  second-known = let k : q < 2 * left .n = mod-lt i some in omega arith
+  second-known : q / 2 < n
+  second-known = let k : q < 2 * n = mod-lt i some in omega arith
 
-  implication : (implicationAt (left .n) (left .table) i ≡ []) ⊎ Implied s left i
-  unfolding implicationAt byteLine Recorded
-  implication = ⊎-elim
-      (λ t. inr (record {
-        k = p / 2;
-        v = p % 2;
-        j = q / 2;
-        w = q % 2;
-        line = rw (T→true (eqb (getD (left .table) i 0) 1) t);
-        holds = λ x o. h x o .holds (p / 2) (p % 2) (q / 2) (q % 2) first-known (omega arith) second-known (omega arith) (rw place (eqb→eq (getD (left .table) i 0) 1 t));
-      }))
-      (λ t. inl (rw (T→false (eqb (getD (left .table) i 0) 1) t)))
-      (decide (eqb (getD (left .table) i 0) 1))
+implication : (s left : State) → ((x : List ℤ) → PointOf s x → TableHolds (left .n) (left .table) x)
+    → (i : ℕ) → i < 4 * (left .n * left .n) → (implicationAt (left .n) (left .table) i ≡ []) ⊎ Implied s left i
+unfolding implicationAt byteLine Recorded
+implication s left h i b =
+    let n = left .n in
+    let k = p n i b in
+    let j = q n i b in
+    let byte = eqb (getD (left .table) i 0) 1 in
+    ⊎-elim
+    (λ t. inr (record {
+      k = k / 2;
+      v = k % 2;
+      j = j / 2;
+      w = j % 2;
+      line = rw (T→true byte t);
+      holds = λ x o.
+          h x o .holds (k / 2) (k % 2) (j / 2) (j % 2) (first-known n i b) (omega arith) (second-known n i b) (omega arith)
+          (rw (place n i b) (eqb→eq (getD (left .table) i 0) 1 t));
+    }))
+    (λ t. inl (rw (T→false byte t)))
+    (decide byte)
 
 -- ---- the text of the rounds
 
@@ -94,16 +104,20 @@ text-means s left (ended atLimit k) n p l =
     inr (record { left = left; rounds = k; printed = refl; points = p .points; fractional = p .fractional; implications = l })
 
 -- the rounds of a model handed in are not refused
+abbrev Refused : RoundsAnswer → Type 0
+Refused (refusedRounds number) = Unit {0}
+Refused (ended e k) = ⊥
+
 not-refused : (limit : ℕ) (s : State) → HandedIn s → (number : ℕ) → runRounds limit s .answer ≡ refusedRounds number → ⊥
 unfolding runRounds roundsFault
-not-refused limit s g number e = let z : 0 ≡ 1 = cc in absurd (let w : ⊥ = omega arith in w)
+not-refused limit s g number e = subst Refused (sym (rw (g .accepted) at e)) tt
 
 rounds-text : (s : State) → HandedIn s → NonePrinted s (roundsText s) ⊎ Reported s (roundsText s)
 unfolding roundsText Demand3 Narrows run
 rounds-text s g =
     let cs = runRounds 8 s .calls in
     let d : TwoRuns s cs [] [] = demand-3 s cs [] [] g tt tt in
-    text-means s (run s cs) (runRounds 8 s .answer) (not-refused 8 s g) (rounds-mean 8 s) (implication (rw (run-preserves s cs .sizes .0) (d .implied1)))
+    text-means s (run s cs) (runRounds 8 s .answer) (not-refused 8 s g) (rounds-mean 8 s) (implication s (run s cs) (rw (run-preserves s cs .sizes .0) (d .implied1)))
 
 pub output-means : (bs : List ℕ) → OutputMeans bs
 unfolding output
