@@ -25,21 +25,21 @@ unfoldable pub callOn : State → ℕ → ℕ → ℕ → ℕ → Call
 callOn s kind row variable budget =
     record { kind = kind; row = row; variable = variable; budget = budget; n = s .n; m = s .m; lengths = lengthsOf s }
 
--- calls of each kind; 99 stands in the fields that the kind lacks
+-- calls of each kind; a field that the kind lacks has a value that would be refused: row 999, variable 999, budget 0
 unfoldable pub visit : State → ℕ → Call
-visit s r = callOn s 1 r 99 99
+visit s r = callOn s 1 r 999 0
 
 unfoldable pub settle : State → ℕ → Call
-settle s budget = callOn s 2 99 99 budget
+settle s budget = callOn s 2 999 999 budget
 
 unfoldable pub probe : State → ℕ → ℕ → Call
-probe s k budget = callOn s 3 99 k budget
+probe s k budget = callOn s 3 999 k budget
 
 unfoldable pub sharpen : State → ℕ → ℕ → Call
-sharpen s r k = callOn s 4 r k 99
+sharpen s r k = callOn s 4 r k 0
 
 unfoldable pub drop : State → ℕ → Call
-drop s r = callOn s 5 r 99 99
+drop s r = callOn s 5 r 999 0
 
 -- answers with the state as it was, with another box, with another row 0
 unfoldable pub kept : State → Answer → Performed

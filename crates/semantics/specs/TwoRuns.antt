@@ -1,6 +1,6 @@
 -- Demand 3 (01, "Two runs"): two runs from one state that both end at rest end in the same box, and no run loses or adds an
 -- integer point or records an implication that fails at one.
-use Prim.Native.Nat.{_*_}
+use Prim.Native.Nat.{_*_, ℕ}
 use lib.Dec.{T}
 use lib.IntN.{ℤ}
 use lib.ListN.{replicate}
@@ -8,16 +8,22 @@ use mathlib.Core.Bool.{Bool, false, true}
 use mathlib.Core.List.{List, [], _∷_}
 use mathlib.Core.Logic.{_↔_}
 use mathlib.Core.Path.{_≡_}
-use Rattle.model.specs.Checks.{modelFault, table}
+use Rattle.model.specs.Checks.{modelFault, none, table}
 use Rattle.semantics.specs.CallChecks.{callFault}
 use Rattle.semantics.specs.Points.{AtRest, PointOf, TableHolds}
 use Rattle.semantics.specs.Run.{run, step}
-use Rattle.semantics.specs.State.{Call, Kind, State, kindOf, other, probes, propagates, propagatesRow, removes, tightens}
+use Rattle.semantics.specs.State.{Call, Kind, State, kindOf, other, probes, propagates, propagatesRow, removes, stateOf, tightens}
 
 -- "the model handed in, before the first list, is any that passes the checks, its box void or not, with a table all 0"
 pub record HandedIn (s : State) : Type 0 where
   pub accepted : modelFault (s .n) (s .m) (s .box) (s .coefs) (s .rhs) (table (s .table)) ≡ 0
+  -- of its box nothing more is asked
   pub zeros : s .table ≡ replicate (4 * (s .n * s .n)) 0
+
+-- every model that passes the checks is handed in with a table all 0, its box empty or not (proved as `handed-in`)
+unfoldable pub EveryModelHandedIn : Type 0
+EveryModelHandedIn =
+    (n m : ℕ) (B C R : List ℤ) → modelFault n m B C R none ≡ 0 → HandedIn (stateOf n m B C R (replicate (4 * (n * n)) 0))
 
 -- a visit, a settle or a probe
 unfoldable pub narrows : Kind → Bool
