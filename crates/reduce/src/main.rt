@@ -29,6 +29,7 @@ fn main() {
     let mut tail = [0u8; 16];
     match input::read_all(&mut start, &mut tail) {
         Input::Length(len) => answer(&start, &tail, len),
+        Input::TooLong => output::refused(2),
         Input::Failed => {}
     }
 }

@@ -38,11 +38,20 @@ answer-requires c κs =
 enum-told : tie.Need-enum-told
 enum-told c = search needs
 
+refused-requires : tie.Need-refused-requires
+refused-requires c κs = search needs
+
+enum-told-2 : tie.Need-enum-told-2
+enum-told-2 c = search needs
+
 returns : tie.Need-returns
 returns c = search needs
 
 returns-2 : tie.Need-returns-2
 returns-2 c = search needs
+
+returns-3 : tie.Need-returns-3
+returns-3 c = search needs
 
 pub main-spec : {M : Type 1} → statement M
 main-spec =
@@ -57,5 +66,8 @@ main-spec =
     slice-aggregate-answer-2
     answer-requires
     enum-told
+    refused-requires
+    enum-told-2
     returns
-    returns-2)
+    returns-2
+    returns-3)
