@@ -1,1 +1,2 @@
 pub mod ReductionLaws
+pub mod OutputLaws
