@@ -1,8 +1,8 @@
 -- Laws of the checks of an input: they are those of the whole input, and what they accept is as long as a book.
-use Prim.Native.Nat.{_<_, ℕ}
-use borrow.Author.Tests.{eq-eqb, le-leb, lt-leb}
+use Prim.Native.Nat.{_-_, _<_, _≤_, ℕ}
+use borrow.Author.Tests.{eq-eqb, le-leb, lt-leb, ne-eqb}
 use lib.Dec.{eqb, leb}
-use lib.ListN.{length}
+use lib.ListN.{length, length-drop}
 use mathlib.Core.Bool.{false, true}
 use mathlib.Core.List.{List, _++_}
 use mathlib.Core.Path.{_∙_, _≡_, ap, ap₂, refl, sym}
@@ -14,10 +14,12 @@ use Rattle.model.proofs.CheckLaws.{fails, first-none, past}
 use Rattle.book.specs.Answers.{Answer, refused, sizesAre, unless}
 use Rattle.book.specs.Book.{lengthGiven, rows, trailerOf, variables}
 use Rattle.book.specs.BookChecks.{givenLengthChecks, headChecks, layoutChecks, offsetChecks}
+use Rattle.book.specs.Bytes.{Bytes}
 use Rattle.book.proofs.AcceptLaws.{layout-test}
 use Rattle.book.proofs.AnswerLaws.{accepted-by, refused-by}
-use Rattle.book.proofs.EncodeLaws.{length-below}
-use Rattle.intake.specs.Checks.{SizedBook, headCall, inputCall, inputChecks}
+use Rattle.book.proofs.ByteLaws.{numberAt-below, part-bytes}
+use Rattle.book.proofs.EncodeLaws.{length-below, trailer-part}
+use Rattle.intake.specs.Checks.{SizedBook, TooLong, headCall, inputCall, inputChecks, tooLong}
 use Rattle.intake.specs.Intake.{lastBytes}
 use Rattle.intake.proofs.InputLaws.{last-trailer, length-last}
 
@@ -71,3 +73,23 @@ pub answers : (t : List ℕ) (len : ℕ) {a : Answer} → a ≡ inputCall t len
     × (((bs : List ℕ) → len ≡ length bs → t ≡ lastBytes bs → a ≡ headCall bs) × ((n m : ℕ) → a ≡ sizesAre n m → SizedBook n m len))
 answers t len e =
     (e, ((λ bs l k. e ∙ ap₂ inputCall k l ∙ input-right bs), (λ n m k. input-sized t len n m (sym e ∙ k))))
+
+-- ---- too long
+
+-- a trailer's length has four bytes
+given-below : (bs : List ℕ) → Bytes bs → 16 ≤ length bs → lengthGiven (trailerOf bs) < tooLong
+unfolding trailerOf
+given-below bs h k =
+    let t : Bytes (trailerOf bs) = rw (trailer-part bs) at (part-bytes (length bs - 16) (length bs - (length bs - 16)) bs h) in
+    numberAt-below 4 12 (trailerOf bs) t (omega (arith, length-drop (length bs - 16) bs))
+
+-- so it is not that of an input of 2³² bytes or more
+pub too-long : (len : ℕ) → tooLong ≤ len → TooLong len
+unfolding headCall headChecks givenLengthChecks
+too-long len h = record {
+  refusal = λ bs b k.
+      let long : leb 16 (length bs) ≡ true = le-leb 16 (length bs) (omega arith) in
+      let other : eqb (lengthGiven (trailerOf bs)) (length bs) ≡ false =
+      ne-eqb (lengthGiven (trailerOf bs)) (length bs) (λ e. omega (arith, given-below bs b (omega arith))) in
+      sym (refused-by (past _ 1 _ long (fails _ 2 _ other)) (λ z. omega arith) _);
+}

@@ -6,9 +6,10 @@ use mathlib.Core.List.{List, _++_, _∷_}
 use mathlib.Core.Path.{_≡_}
 use Rattle.model.specs.Checks.{Check, first, must}
 use Rattle.model.specs.Limits.{maxRows, maxVariables}
-use Rattle.book.specs.Answers.{Answer, sizesAre, unless}
+use Rattle.book.specs.Answers.{Answer, refused, sizesAre, unless}
 use Rattle.book.specs.Book.{bookLength, rows, trailerOf, variables}
 use Rattle.book.specs.BookChecks.{givenLengthChecks, headChecks, layoutChecks}
+use Rattle.book.specs.Bytes.{Bytes}
 
 -- 1. The input has under 16 bytes. 5 where t is not as long as a trailer. Then 2, 3 and 4.
 unfoldable pub inputChecks : List ℕ → ℕ → List Check
@@ -31,3 +32,11 @@ pub record SizedBook (n m len : ℕ) : Type 0 where
   pub fewRows : m ≤ maxRows
   pub given : len ≡ bookLength n m
   pub short : len ≤ maxBook
+
+-- 2³²: a trailer gives a length in 32 bits
+abbrev pub tooLong : ℕ
+tooLong = 4_294_967_296
+
+-- every input of len bytes or more is refused by 2, whatever its bytes
+pub record TooLong (len : ℕ) : Type 0 where
+  pub refusal : (bs : List ℕ) → Bytes bs → len ≤ length bs → headCall bs ≡ refused 2

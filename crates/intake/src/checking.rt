@@ -1,6 +1,7 @@
 // Checks 1 to 4 of an input.
 use book::SizesAnswer;
 use book::trailer;
+ghost use mathlib.Core.Bool.{false, true};
 ghost use mathlib.Core.Path.{_≡_};
 ghost use mathlib.Core.List.{List};
 ghost use Prim.Native.Nat.{ℕ, _<_};
@@ -8,9 +9,12 @@ ghost use lib.ListN.{length};
 ghost use Rattle.book.specs.Answers.{sizesAnswer, sizesAre};
 ghost use Rattle.book.specs.Book.{lengthGiven};
 ghost use Rattle.intake.specs.Intake.{lastBytes};
-ghost use Rattle.intake.specs.Checks.{SizedBook, headCall, inputCall};
+ghost use Rattle.intake.specs.Checks.{SizedBook, TooLong, headCall, inputCall, tooLong};
 
 const TRAILER: usize = 16;
+
+// A trailer gives a length in 32 bits.
+const TOO_LONG: usize = 4_294_967_296;
 
 fn wide(x: u8) -> usize
     ensures { λ r. ⌜ (r ≡ x) × (r < 256) ⌝ }
@@ -42,4 +46,12 @@ pub fn sizes(tail: &[u8], len: usize) -> SizesAnswer
         return SizesAnswer::Refused(2);
     }
     trailer(tail)
+}
+
+// Whether so many bytes are too many for a book, whatever they are and whatever follows: check 2 refuses them.
+pub fn is_too_long(len: usize) -> bool
+    ensures refused { λ r. ⌜ (r ≡ true → TooLong len) ⌝ }
+    ensures within { λ r. ⌜ (r ≡ false → len < tooLong) ⌝ }
+{
+    TOO_LONG <= len
 }

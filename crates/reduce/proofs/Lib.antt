@@ -1,3 +1,4 @@
 pub mod ReductionLaws
 pub mod OutputLaws
+pub mod PrintLaws
 pub mod WorkedOutput

@@ -3,7 +3,7 @@
 use Prim.Native.Nat.{_*_, _+_, _-_, _≤_, ℕ}
 use borrow.Author.Tests.{eq-eqb, ne-eqb}
 use lib.IntN.{ℤ}
-use lib.ListN.{length, length-replicate, replicate, replicate-append-replicate, take}
+use lib.ListN.{length, length-append, length-replicate, replicate, replicate-append-replicate, take}
 use lib.Seq.{length-take-le, take-at}
 use mathlib.Core.List.{List, _++_}
 use mathlib.Core.Path.{_∙_, _≡_, ap, refl, sym}
@@ -18,12 +18,12 @@ use Rattle.book.specs.Book.{decode, modelOf, rows, trailerOf, variables}
 use Rattle.book.specs.BookChecks.{bookChecks, bookFault, headChecks, modelNumberChecks, readChecks}
 use Rattle.book.proofs.AcceptLaws.{head-numbered}
 use Rattle.book.proofs.AnswerLaws.{accepted-by, becomes, refused-by}
-use Rattle.intake.specs.Checks.{headCall}
+use Rattle.intake.specs.Checks.{TooLong, headCall}
 use Rattle.intake.specs.Intake.{Held}
 use Rattle.intake.proofs.CheckLaws.{accepted}
 use Rattle.report.specs.Report.{refusedLine}
 use Rattle.semantics.specs.State.{stateOf}
-use Rattle.reduce.specs.Answers.{Ready, Sized}
+use Rattle.reduce.specs.Answers.{Ready, RefusedSoFar, Sized}
 use Rattle.reduce.specs.Output.{output, roundsText, stateRead, zeros}
 
 -- what is refused is refused by the fault
@@ -94,6 +94,12 @@ head-output bs number e =
     let r = refused-fault (first (headChecks bs)) number _ _ e in
     let f : bookFault bs ≡ first (headChecks bs) = first-stop (headChecks bs) (modelNumberChecks (decode bs)) (r .1) in
     rw (ne-eqb (bookFault bs) 0 (λ z. r .1 (sym f ∙ z))) (ap refusedLine (r .0 ∙ sym f))
+
+-- an input that is too long already: so is every book that starts so
+pub too-long-output : (bs : List ℕ) → TooLong (length bs) → RefusedSoFar bs
+too-long-output bs h = record {
+  refusal = λ more b. head-output (bs ++ more) 2 (sym (h .refusal (bs ++ more) b (omega (arith, length-append bs more))));
+}
 
 -- an accepted input that is held whole is a book that says n and m
 pub held-sized : {bs start tail : List ℕ} {len n m : ℕ} → Held bs start tail len → len ≤ length start → sizesAre n m ≡ headCall bs → Sized n m (take len start)

@@ -1,16 +1,17 @@
 -- What the enums of the program stand for, and what its parts hand on to each other.
 use Prim.Native.Nat.{_*_, ℕ}
 use lib.IntN.{ℤ}
-use mathlib.Core.List.{List}
+use mathlib.Core.List.{List, _++_}
 use mathlib.Core.Path.{_≡_}
 use Rattle.model.specs.Checks.{first}
 use Rattle.book.specs.Book.{decode}
 use Rattle.book.specs.BookChecks.{headChecks}
+use Rattle.book.specs.Bytes.{Bytes}
 use Rattle.intake.specs.Intake.{Held}
 use Rattle.report.specs.Report.{Printable, noneLine, refusedLine, report}
-use Rattle.reduce.specs.Output.{zeros}
+use Rattle.reduce.specs.Output.{output, zeros}
 use Rattle.reduce.specs.declared.input.Input.{Input}
-use Rattle.reduce.specs.declared.input.Input.the-variants.{Length, Failed}
+use Rattle.reduce.specs.declared.input.Input.the-variants.{Failed, Length, TooLong}
 use Rattle.reduce.specs.declared.reduction.Answer.{Answer}
 use Rattle.reduce.specs.declared.reduction.Answer.the-variants.{Refused, Infeasible, Reduced}
 
@@ -20,9 +21,18 @@ answerText (Refused number) n m B C R t = refusedLine number
 answerText Infeasible n m B C R t = noneLine
 answerText (Reduced rounds) n m B C R t = report n m rounds B C R t
 
--- the buffers hold what is kept of some input of the length that is answered
+-- the input ended after len bytes
+abbrev pub endedAt : ℕ → Input
+endedAt len = Length len
+
+-- every input that starts with these bytes prints `refused 2`
+pub record RefusedSoFar (bs : List ℕ) : Type 0 where
+  pub refusal : (more : List ℕ) → Bytes (bs ++ more) → refusedLine 2 ≡ output (bs ++ more)
+
+-- the buffers hold what is kept of some input: of the length that is answered, or of one that is refused whatever follows
 abbrev pub InputHeld : Input → List ℕ → List ℕ → Type 0
 InputHeld (Length len) start tail = (bs : List ℕ) × Held bs start tail len
+InputHeld TooLong start tail = (bs : List ℕ) × RefusedSoFar bs × ((len : ℕ) × Held bs start tail len)
 InputHeld Failed start tail = Unit
 
 -- the book passes checks 1 to 4 and says n and m

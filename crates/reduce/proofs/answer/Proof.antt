@@ -1,13 +1,16 @@
--- `reduce::answer`: an input whose sizes are accepted is no longer than a book, so it is held whole (`held-sized`). Assumes nothing.
-use Prim.Native.Nat.{_≤_}
+-- `reduce::answer`: an input whose sizes are accepted is no longer than a book, so it is held whole (`held-sized`); one that is
+-- refused by them prints that number (`head-output`). Assumes nothing.
+use Prim.Native.Nat.{_≤_, ℕ}
 use borrow.Author.Needs.{needs}
-use lib.ListN.{length}
+use lib.ListN.{length, take}
 use lib.Seq.{length-take-le}
+use mathlib.Core.List.{List}
 use mathlib.Core.Path.{_∙_, _≡_, ap, sym}
 use native.Mathlib.Omega.{arith}
-use Rattle.book.specs.Answers.{sizesAnswer, sizesAre}
+use Rattle.book.specs.Answers.{refused, sizesAnswer, sizesAre}
 use Rattle.intake.specs.Checks.{SizedBook}
-use Rattle.reduce.proofs.ReductionLaws.{held-sized}
+use Rattle.reduce.specs.Output.{output}
+use Rattle.reduce.proofs.ReductionLaws.{head-output, held-sized}
 use Rattle.reduce.proofs.answer.Statement.{statement}
 use Rattle.reduce.proofs.answer.Tie as tie
 
@@ -39,18 +42,29 @@ slice-aggregate-reduce c = sym (length-take-le _ _ (room (c .before .before)))
 
 reduce-requires : tie.Need-reduce-requires
 reduce-requires c κs =
-    let d = c .before .before in
-    let a = d .before .before .before .before .before in (
-      size d .few,
-      size d .fewRows,
-      held-sized (a .pre .1 .1) (room d) (told d ∙ d .before .before .sizes .ensures .1 .0 (a .pre .1 .0) (a .pre .1 .1 .size) (a .pre .1 .1 .end)),
+    let d = c .before .before .before in
+    let a = d .before .before .before .before .before in
+    let h = a .pre .0 .1 in (
+      (size d .few, size d .fewRows, held-sized (h .1) (room d) (told d ∙ d .before .before .sizes .ensures .1 .0 (h .0) (h .1 .size) (h .1 .end))),
+      a .pre .1,
     )
 
+-- the number by which the sizes are refused
+number : (c : tie.After-number) → refused (c .number .given .0 .0) ≡ sizesAnswer (c .before .before .sizes .result)
+unfolding sizesAnswer
+number c = ap sizesAnswer (sym (c .number .given .1))
+
 returns : tie.Need-returns
-returns c = search needs
+returns c = λ bs h t.
+    let d = c .before .before .before in
+    c .refused .ensures t ∙ ap length (head-output bs _ (number d ∙ d .before .before .sizes .ensures .1 .0 bs (h .size) (h .end)))
 
 returns-2 : tie.Need-returns-2
-returns-2 c = search needs
+returns-2 c = λ bs h t.
+    let d = c .before .before .before .before in
+    let start = d .before .before .before .before .before .args .start .now in
+    let w : take (d .before .before .before .before .before .args .len) start ≡ bs = ap (λ (r : ℕ). take r start) (h .size) ∙ h .whole (omega (arith, h .size, room d)) in
+    c .reduce .ensures t ∙ ap (λ (b : List ℕ). length (output b)) w
 
 pub answer-spec : {M : Type 1} → statement M
 answer-spec =

@@ -1,6 +1,6 @@
 -- `reduce::main`: the buffers hold what `read_all` kept of the input. Assumes nothing.
 use borrow.Author.Needs.{needs}
-use mathlib.Core.Path.{subst}
+use mathlib.Core.Path.{refl, subst}
 use native.Mathlib.Omega.{arith}
 use Rattle.reduce.specs.Answers.{InputHeld}
 use Rattle.reduce.specs.declared.input.Input.{Input}
@@ -30,19 +30,31 @@ slice-aggregate-answer-2 c = search needs
 
 answer-requires : tie.Need-answer-requires
 answer-requires c κs =
-    let r = c .before .before .before .before .before .before .before .read-all in (
-      omega (arith, r .kept .0),
-      subst (λ (i : Input). InputHeld i (r .last .0) (r .last .1 .0)) (c .before .before .before .len .given .1) (r .ensures),
+    let r = c .before .before .before .before .before .before .before .before .read-all in (
+      (
+        omega (arith, r .kept .0),
+        subst (λ (i : Input). InputHeld i (r .last .0) (r .last .1 .0)) (c .before .before .before .before .len .given .1) (r .ensures),
+      ),
+      refl,
     )
 
 enum-told : tie.Need-enum-told
 enum-told c = search needs
+
+refused-requires : tie.Need-refused-requires
+refused-requires c κs = search needs
+
+enum-told-2 : tie.Need-enum-told-2
+enum-told-2 c = search needs
 
 returns : tie.Need-returns
 returns c = search needs
 
 returns-2 : tie.Need-returns-2
 returns-2 c = search needs
+
+returns-3 : tie.Need-returns-3
+returns-3 c = search needs
 
 pub main-spec : {M : Type 1} → statement M
 main-spec =
@@ -57,5 +69,8 @@ main-spec =
     slice-aggregate-answer-2
     answer-requires
     enum-told
+    refused-requires
+    enum-told-2
     returns
-    returns-2)
+    returns-2
+    returns-3)

@@ -26,10 +26,10 @@ mul-bounds-len : tie.Need-mul-bounds-len
 mul-bounds-len c = search needs
 
 coefs : (s : tie.Start) → s .args .m * s .args .n ≤ 15_360
-coefs s = coefs-fit (s .pre .0) (s .pre .1)
+coefs s = coefs-fit (s .pre .0 .0) (s .pre .0 .1)
 
 table : (s : tie.Start) → 4 * (s .args .n * s .args .n) ≤ 65_536
-table s = table-fits (s .pre .0) (s .pre .1)
+table s = table-fits (s .pre .0 .0) (s .pre .0 .1)
 
 whole : (c : tie.After-largest-table) → length (c .largest-table .result) ≡ 65_536
 whole c = ap length (c .largest-table .ensures) ∙ length-zeros 65_536
@@ -69,12 +69,14 @@ slice-aggregate-reduce-in-4 c = sym (length-take-le _ _ (omega (arith, table (c 
 
 reduce-in-requires : tie.Need-reduce-in-requires
 reduce-in-requires c κs =
-    let s = c .before .before .before .before .before .before .before .before .before in
-    let b = c .before .before .before .before .before .before .before .most-bounds in
-    let k = c .before .before .before .before .before .before .most-coefs in
-    let r = c .before .before .before .before .before .most-rhs in
-    parts-ready (s .pre .0) (s .pre .1) (b .result) (k .result) (r .result) (s .pre .2) (b .ensures) (k .ensures) (r .ensures)
-    (c .before .before .before .before .largest-table .ensures)
+    let s = c .before .before .before .before .before .before .before .before .before .before in
+    let b = c .before .before .before .before .before .before .before .before .most-bounds in
+    let k = c .before .before .before .before .before .before .before .most-coefs in
+    let r = c .before .before .before .before .before .before .most-rhs in (
+      parts-ready (s .pre .0 .0) (s .pre .0 .1) (b .result) (k .result) (r .result) (s .pre .0 .2) (b .ensures) (k .ensures) (r .ensures)
+          (c .before .before .before .before .before .largest-table .ensures),
+      s .pre .1,
+    )
 
 returns : tie.Need-returns
 returns c = search needs

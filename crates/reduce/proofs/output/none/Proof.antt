@@ -1,8 +1,9 @@
--- `reduce::output::none`: the line fits the buffer. Assumes nothing.
+-- `reduce::output::none`: the line fits the buffer, and is printed whole. Assumes nothing.
 use borrow.Author.Needs.{needs}
 use lib.ListN.{length-take}
 use native.Mathlib.Omega.{arith}
 use Rattle.report.proofs.TextLaws.{wrote-length}
+use Rattle.reduce.proofs.PrintLaws.{written-length}
 use Rattle.reduce.proofs.output.none.Statement.{statement}
 use Rattle.reduce.proofs.output.none.Tie as tie
 
@@ -19,10 +20,16 @@ slice-aggregate-print : tie.Need-slice-aggregate-print
 slice-aggregate-print c = simp length-take (omega (arith, wrote-length))
 
 print-requires : tie.Need-print-requires
-print-requires c κs = search needs
+print-requires c κs =
+    let s = c .before .before .before .before .before in
+    let w = c .before .before .before .write-none in
+    omega (arith, s .pre, written-length (w .ensures .0), w .ensures .0 .end, w .ensures .1)
 
 returns : tie.Need-returns
-returns c = search needs
+returns c = λ t.
+    let s = c .before .before .before .before .before .before in
+    let w = c .before .before .before .before .write-none in
+    omega (arith, s .pre, c .print .ensures t, written-length (w .ensures .0))
 
 pub none-spec : {M : Type 1} → statement M
 none-spec =
