@@ -85,6 +85,40 @@ corners =
     ∷ is (perform emptied (withLengths (visit emptied 0) (record { box = 4; coefs = 2; rhs = 1; table = 0 })))
     (kept emptied (propagatedRow infeasible))
     ∷ is (perform emptied (withLengths (probe emptied 0 1) (record { box = 4; coefs = 2; rhs = 1; table = 15 }))) (kept emptied (refused 5))
+    -- 6 to 9: the number just outside each range refuses, the last one inside does not
+    ∷ (let s = single (pos 2) (pos 5) (negℤ (pos 32_769)) (pos 5) in is (perform s (visit s 0)) (kept s (refused 6)))
+    ∷ (let s = single (pos 2) (pos 5) (pos 0) (pos 32_768) in is (perform s (visit s 0)) (kept s (refused 6)))
+    ∷ (let s = single (pos 0) (pos 5) (negℤ (pos 32_768)) (pos 32_767) in is (perform s (visit s 0)) (kept s (propagatedRow unchanged)))
+    ∷ (let s = single (pos 2) (pos 5) (pos 1) (pos 0) in is (perform s (visit s 0)) (kept s (propagatedRow infeasible)))
+    ∷ (let s = single (pos 2) (pos 5) (pos 2) (pos 1) in is (perform s (visit s 0)) (kept s (refused 7)))
+    ∷ (let s = model 2 1 (pos 1 ∷ pos 0 ∷ pos 0 ∷ pos 1 ∷ []) (pos 1 ∷ pos 1 ∷ []) (pos 1 ∷ []) in is (perform s (visit s 0)) (kept s (refused 7)))
+    ∷ (let s = single (negℤ (pos 1_000_001)) (pos 5) (pos 0) (pos 5) in is (perform s (visit s 0)) (kept s (refused 8)))
+    ∷ (let s = single (pos 1_000_001) (pos 5) (pos 0) (pos 5) in is (perform s (visit s 0)) (kept s (refused 8)))
+    ∷ (let s = single (negℤ (pos 1_000_000)) (pos 0) (pos 0) (pos 5) in is (perform s (visit s 0)) (kept s (propagatedRow unchanged)))
+    ∷ (let s = single (pos 0) (negℤ (pos 1_000_000_001)) (pos 0) (pos 5) in is (perform s (visit s 0)) (kept s (refused 9)))
+    ∷ (let s = single (pos 0) (pos 1_000_000_001) (pos 0) (pos 5) in is (perform s (visit s 0)) (kept s (refused 9)))
+    ∷ (let s = single (pos 1_000_000) (pos 1_000_000_000) (pos 0) (pos 5) in is (perform s (visit s 0)) (kept s (propagatedRow unchanged)))
+    -- 10: a table byte of 2 refuses a probe, and no call that is lent no table
+    ∷ (let s = withBox emptied binary2 (0 ∷ 0 ∷ 0 ∷ 0 ∷ 0 ∷ 0 ∷ 0 ∷ 0 ∷ 0 ∷ 0 ∷ 0 ∷ 0 ∷ 0 ∷ 0 ∷ 0 ∷ 2 ∷ []) in
+    is (perform s (probe s 0 7)) (kept s (refused 10)))
+    ∷ (let s = withBox emptied binary2 (0 ∷ 0 ∷ 0 ∷ 0 ∷ 0 ∷ 0 ∷ 0 ∷ 0 ∷ 0 ∷ 0 ∷ 0 ∷ 0 ∷ 0 ∷ 0 ∷ 0 ∷ 2 ∷ []) in
+    is (perform s (visit s 0)) (kept s (propagatedRow unchanged)))
+    -- in their order: 6 before 7 before 8 before 9 before 10, and 10 before the call's own checks
+    ∷ (let s = withBox (single (pos 1_000_001) (pos 1_000_000_001) (pos 0) (pos 0)) (pos 32_768 ∷ pos 0 ∷ []) (0 ∷ 0 ∷ 0 ∷ 2 ∷ []) in
+    is (perform s (probe s 1 0)) (kept s (refused 6)))
+    ∷ (let s = withBox (single (pos 1_000_001) (pos 1_000_000_001) (pos 0) (pos 0)) (pos 5 ∷ pos 0 ∷ []) (0 ∷ 0 ∷ 0 ∷ 2 ∷ []) in
+    is (perform s (probe s 1 0)) (kept s (refused 7)))
+    ∷ (let s = withBox (single (pos 1_000_001) (pos 1_000_000_001) (pos 0) (pos 0)) (pos 0 ∷ pos 1 ∷ []) (0 ∷ 0 ∷ 0 ∷ 2 ∷ []) in
+    is (perform s (probe s 1 0)) (kept s (refused 8)))
+    ∷ (let s = withBox (single (pos 1) (pos 1_000_000_001) (pos 0) (pos 0)) (pos 0 ∷ pos 1 ∷ []) (0 ∷ 0 ∷ 0 ∷ 2 ∷ []) in
+    is (perform s (probe s 1 0)) (kept s (refused 9)))
+    ∷ (let s = withBox (single (pos 1) (pos 5) (pos 0) (pos 0)) (pos 0 ∷ pos 1 ∷ []) (0 ∷ 0 ∷ 0 ∷ 2 ∷ []) in
+    is (perform s (probe s 1 0)) (kept s (refused 10)))
+    -- an empty box still passes 8 and 9 before its calls answer None (D-4)
+    ∷ (let s = withBox (single (pos 1_000_001) (pos 5) (pos 0) (pos 0)) (pos 1 ∷ pos 0 ∷ []) (0 ∷ 0 ∷ 0 ∷ 0 ∷ []) in
+    is (perform s (visit s 0)) (kept s (refused 8)))
+    ∷ (let s = withBox (single (pos 1) (pos 1_000_000_001) (pos 0) (pos 0)) (pos 1 ∷ pos 0 ∷ []) (0 ∷ 0 ∷ 0 ∷ 0 ∷ []) in
+    is (perform s (visit s 0)) (kept s (refused 9)))
     -- "A field that its kind lacks is ignored", and so is the length of a table that is not lent
     ∷ (let s = pair (pos 3) (pos 2) (pos 5) in is (perform s (unlent (callOn s 1 0 4_294_967_295 0))) (kept s (propagatedRow unchanged)))
     ∷ (let s = pair (pos 3) (pos 2) (pos 5) in
