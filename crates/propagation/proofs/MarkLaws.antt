@@ -3,7 +3,7 @@ use Prim.Native.Nat.{_*_, _+_, _-_, _<_, _≤_, ℕ}
 use lib.IntN.{pos, ℤ}
 use lib.Dec.{T}
 use lib.ListN.{drop, getD, getD-replicate, length, length-drop, length-replicate, replicate, set, take}
-use lib.Seq.{getD-drop, getD-set-other, getD-take, length-take-le}
+use lib.Seq.{getD-drop, getD-set-other, getD-set-same, getD-take, length-take-le}
 use lib.Signed.{_<ℤ_, _≤ℤ_, ≤ℤ-refl}
 use mathlib.Core.Bool.{not}
 use mathlib.Core.List.{List}
@@ -328,14 +328,13 @@ ready-visit A b i q f w l x y s k = record {
 
 -- ---- a row that is only tested
 
-pub clean-told : {n m : ℕ} {C R B : List ℤ} {marks : List ℕ} (r : ℕ) → 0 < n → Clean n m C R B marks
-    → propagateRow n (rowOf n C r) (at R r) B .outcome ≡ unchanged → r < length marks → Clean n m C R B (set marks r 1)
-unfolding isInfeasible isChanged
-clean-told {n} {m} {C} {R} {B} {marks} r h c o l = record {
-  same = λ p.
-      let e = propagate-row-unchanged (rowOf n C r) (at R r) p (rw o tt) (rw o tt) in
-      clean-one {marks = marks} r c (stable→same h p (box→stable h p e)) l .same p;
-}
+-- a dirty row's mark says nothing
+pub clean-less : {n m : ℕ} {C R B : List ℤ} {marks : List ℕ} (r : ℕ) → Clean n m C R B marks → r < length marks → Clean n m C R B (set marks r 2)
+clean-less {n} {m} {C} {R} {B} {marks} r c h = record { same = λ p i k f. go p i k f (ℕ-discrete i r) }
+  where
+    go : NonEmpty n B → (i : ℕ) → i < m → getD (set marks r 2) i 0 ≡ 1 → Dec (i ≡ r) → propagateRow n (rowOf n C i) (at R i) B ≡ record { outcome = unchanged; box = B }
+    go p i k f (yes d) = absurd (let z : _≡_ {A = ℕ} 2 1 = sym (getD-set-same marks r 2 0 h) ∙ (rw d at f) in let w : ⊥ = omega arith in w)
+    go p i k f (no d) = c .same p i k (sym (getD-set-other marks r i 2 0 d) ∙ f)
 
 -- a box that is empty or lies inside keeps the marks of rows that read nothing that moved
 pub clean-narrower : {n m : ℕ} {C R P Q : List ℤ} {marks marks′ : List ℕ} → 0 < n → NonEmpty n P

@@ -10,7 +10,7 @@ use Rattle.model.specs.Point.{rowOf}
 use Rattle.model.specs.Valid.{ValidModel}
 use Rattle.row.specs.Outcome.{unchanged}
 use Rattle.row.specs.Propagation.{propagateRow}
-use Rattle.propagation.specs.Index.{ColumnSigns, Index, signOf}
+use Rattle.propagation.specs.Index.{ColumnSigns, Index, RowSteps, signOf}
 
 -- the invariant; of the empty box it says nothing
 pub record Clean (n m : ℕ) (C R B : List ℤ) (marks : List ℕ) : Type 0 where
@@ -46,4 +46,12 @@ pub record Visitable (n m : ℕ) (B C R : List ℤ) (across signs : List ℕ) (s
   pub valid : ValidModel n m B C R
   pub nonEmpty : NonEmpty n B
   pub watched : Watched n m C R B across signs seen marks
+  pub room : m ≤ length marks
+
+-- ---- the rows of a box are tested
+
+pub record Testable (n m : ℕ) (B C R : List ℤ) (across marks : List ℕ) : Type 0 where
+  pub valid : ValidModel n m B C R
+  pub steps : RowSteps n m C across
+  pub clean : Clean n m C R B marks
   pub room : m ≤ length marks

@@ -1,6 +1,7 @@
 // Propagate all rows (01's settle) of a model that passed the checks: passes over the rows until nothing moves, the budget is spent
 // or a row is infeasible. Each row is read in place through its view. What is known of the rows from earlier visits is kept beside
 // the box while a call runs: their index (`index`) and which of them are clean (`marks`).
+pub mod clean;
 pub mod index;
 pub mod marks;
 
