@@ -94,3 +94,19 @@ pub fn propagate_row_at<'a, 'b, 'c>(
 {
     row_at(n, coefs, rhs, r).propagate(bounds)
 }
+
+// The same by the row's steps.
+pub fn propagate_row_at_by<'a, 'b, 'c, 'd>(
+    n: usize,
+    coefs: &'a [i32],
+    rhs: &'b [i32],
+    r: usize,
+    steps: &'c [u8],
+    bounds: &'d mut [i32],
+) -> RowPropagation
+    requires { ⌜ RowIn n (now coefs) (now rhs) r × ValidRow n (rowOf n (now coefs) r) (at (now rhs) r) (now bounds) × Steps n (rowOf n (now coefs) r) (now steps) ⌝ }
+    ensures answer { λ s. ⌜ propagationOutcome s ≡ propagateRow n (rowOf n (now (coefs .entry)) r) (at (now (rhs .entry)) r) (now (bounds .entry)) .outcome ⌝ }
+    ensures left { λ s. ⌜ now (bounds .exit) ≡ propagateRow n (rowOf n (now (coefs .entry)) r) (at (now (rhs .entry)) r) (now (bounds .entry)) .box ⌝ }
+{
+    row_at(n, coefs, rhs, r).propagate_by(steps, bounds)
+}
