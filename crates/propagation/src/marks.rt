@@ -6,19 +6,16 @@ use crate::index::know_signs;
 use crate::index::know_steps;
 use row::propagation::RowPropagation;
 use row_view::propagate_row_at;
-use sweep::propagate_row_by;
+use row_view::propagate_row_at_by;
 ghost use mathlib.Core.Path.{_≡_};
 ghost use Prim.Native.Nat.{ℕ, _*_, _+_, _<_, _≤_};
-ghost use lib.Dec.{T};
 ghost use lib.ListN.{length, getD, set};
-ghost use mathlib.Core.Bool.{not};
 ghost use Rattle.model.specs.Box.{at, lower, upper, withBounds};
 ghost use Rattle.model.specs.Point.{rowOf};
 ghost use Rattle.row.specs.Answers.{propagationOutcome};
-ghost use Rattle.row.specs.Outcome.{isInfeasible};
 ghost use Rattle.row.specs.Propagation.{propagateRow};
 ghost use Rattle.propagation.specs.Index.{ColumnSigns, GoodStep, signOf};
-ghost use Rattle.propagation.specs.Marks.{Clean, Remarks, Unread, Visitable, Watched};
+ghost use Rattle.propagation.specs.Marks.{Remarks, Unread, Visitable, Watched};
 
 // Copies a box over another of the same length.
 pub fn copy_box(from: &[i32], to: &mut [i32])
@@ -213,7 +210,7 @@ fn propagate_row_by_steps(
 {
     let start = r * n;
     let end = start + n;
-    match propagate_row_by(&coefs[start..end], &across[start..end], rhs[r], bounds) {
+    match propagate_row_at_by(n, coefs, rhs, r, &across[start..end], bounds) {
         RowPropagation::Infeasible => {
             return RowPropagation::Infeasible;
         }

@@ -12,7 +12,7 @@ use Rattle.row.specs.Answers.{propagationOutcome}
 use Rattle.row.specs.Propagation.{propagateRow}
 use Rattle.propagation.specs.Marks.{Visitable}
 use Rattle.propagation.proofs.IndexLoops.{row-end}
-use Rattle.propagation.proofs.PropagationLoops.{part-is, row-fits, row-length, row-rhs, valid-row}
+use Rattle.propagation.proofs.PropagationLoops.{row-fits, row-in, valid-row}
 use Rattle.propagation.proofs.MarkLaws.{broken, part-of, row-steps-good, tightened, unmoved, visited-empty, visited-moved, visited-remarks, visited-unmoved}
 use Rattle.propagation.proofs.marks.propagate_row_by_steps.Statement.{statement}
 use Rattle.propagation.proofs.marks.propagate_row_by_steps.Tie as tie
@@ -48,45 +48,26 @@ mul-start c = omega (arith, in-matrix (c .before .before .before))
 add-end : tie.Need-add-end
 add-end c = omega (arith, in-matrix (c .before .before .before))
 
-mul-propagate-row-by : tie.Need-mul-propagate-row-by
-mul-propagate-row-by c = omega (arith, in-matrix (c .before .before .before))
+sub-propagate-row-at-by : tie.Need-sub-propagate-row-at-by
+sub-propagate-row-at-by c = omega (arith, in-index (c .before .before .before))
 
-sub-propagate-row-by : tie.Need-sub-propagate-row-by
-sub-propagate-row-by c = omega (arith, in-matrix (c .before .before .before))
+part-propagate-row-at-by-start : tie.Need-part-propagate-row-at-by-start
+part-propagate-row-at-by-start c = search needs
 
-part-propagate-row-by-start : tie.Need-part-propagate-row-by-start
-part-propagate-row-by-start c = search needs
+part-propagate-row-at-by-end : tie.Need-part-propagate-row-at-by-end
+part-propagate-row-at-by-end c = omega (arith, in-index (c .before .before .before))
 
-part-propagate-row-by-end : tie.Need-part-propagate-row-by-end
-part-propagate-row-by-end c = omega (arith, in-matrix (c .before .before .before))
-
-sub-propagate-row-by-2 : tie.Need-sub-propagate-row-by-2
-sub-propagate-row-by-2 c = omega (arith, in-index (c .before .before .before .before))
-
-part-propagate-row-by-start-2 : tie.Need-part-propagate-row-by-start-2
-part-propagate-row-by-start-2 c = search needs
-
-part-propagate-row-by-end-2 : tie.Need-part-propagate-row-by-end-2
-part-propagate-row-by-end-2 c = omega (arith, in-index (c .before .before .before .before))
-
-mul-propagate-row-by-2 : tie.Need-mul-propagate-row-by-2
-mul-propagate-row-by-2 c = let s = c .before .before .before .before .before in omega (arith, s .pre .1 .0, given s .valid .rhsLen)
-
-shared-slice-copy-out-propagate-row-by : tie.Need-shared-slice-copy-out-propagate-row-by
-shared-slice-copy-out-propagate-row-by c = let s = c .before .before .before .before .before in omega (arith, s .pre .1 .0, given s .valid .rhsLen)
-
-propagate-row-by-requires : tie.Need-propagate-row-by-requires
-propagate-row-by-requires c κs =
-    let s = c .before .before .before .before .before .before .before in
+propagate-row-at-by-requires : tie.Need-propagate-row-at-by-requires
+propagate-row-at-by-requires c κs =
+    let s = c .before .before .before .before .before in
     let v = given s .valid in
     let h = s .pre .1 .0 in
-    rw (part-is (r s) (n s) (C s), row-length v (r s) h, part-of (r s) (n s) (s .args .across .now), row-rhs v (r s) h)
-    (valid-row v (r s) h (v .box), row-steps-good (r s) (in-index s) (s .pre .1 .1))
+    rw (part-of (r s) (n s) (s .args .across .now)) (row-in v (r s) h, valid-row v (r s) h (v .box), row-steps-good (r s) (in-index s) (s .pre .1 .1))
 
 -- what the row says and leaves
-module _ (k : tie.After-propagate-row-by) where
+module _ (k : tie.After-propagate-row-at-by) where
   abbrev s : tie.Start
-  s = k .before .before .before .before .before .before .before .before
+  s = k .before .before .before .before .before .before
 
   abbrev A : List ℤ
   A = rowOf (n s) (C s) (r s)
@@ -95,12 +76,10 @@ module _ (k : tie.After-propagate-row-by) where
   b = at (R s) (r s)
 
   abbrev Q : List ℤ
-  Q = k .propagate-row-by .last .1 .1 .1 .0
+  Q = k .propagate-row-at-by .last .1 .1 .1 .1 .1 .0
 
-  heard : (propagationOutcome (k .propagate-row-by .result) ≡ propagateRow (n s) A b (B s) .outcome) × (Q ≡ propagateRow (n s) A b (B s) .box)
-  heard =
-      let v = given s .valid in
-      rw (part-is (r s) (n s) (C s), row-length v (r s) (s .pre .1 .0), row-rhs v (r s) (s .pre .1 .0)) at (k .propagate-row-by .ensures)
+  heard : (propagationOutcome (k .propagate-row-at-by .result) ≡ propagateRow (n s) A b (B s) .outcome) × (Q ≡ propagateRow (n s) A b (B s) .box)
+  heard = k .propagate-row-at-by .ensures
 
 enum-told : tie.Need-enum-told
 enum-told c = search needs
@@ -183,16 +162,10 @@ propagate-row-by-steps-spec =
     (tie.spec
     mul-start
     add-end
-    mul-propagate-row-by
-    sub-propagate-row-by
-    part-propagate-row-by-start
-    part-propagate-row-by-end
-    sub-propagate-row-by-2
-    part-propagate-row-by-start-2
-    part-propagate-row-by-end-2
-    mul-propagate-row-by-2
-    shared-slice-copy-out-propagate-row-by
-    propagate-row-by-requires
+    sub-propagate-row-at-by
+    part-propagate-row-at-by-start
+    part-propagate-row-at-by-end
+    propagate-row-at-by-requires
     enum-told
     same-length
     returns
