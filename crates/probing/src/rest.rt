@@ -126,6 +126,30 @@ fn sides_span(
     hull_is(&zero[..len], &one[..len], bounds)
 }
 
+// Whether the sides of k span the box where it is free.
+fn spans_at(
+    n: usize,
+    m: usize,
+    bounds: &[i32],
+    coefs: &[i32],
+    rhs: &[i32],
+    k: usize,
+    across: &mut [u8],
+    signs: &mut [u8],
+    marks: &[u8],
+) -> bool
+    requires { ⌜ ValidModel n m (now bounds) (now coefs) (now rhs) ⌝ }
+    requires { ⌜ k < n ⌝ }
+    requires { ⌜ Marked n m (now bounds) (now coefs) (now rhs) (now across) (now signs) (now marks) ⌝ }
+    ensures answer { λ r. ⌜ r ≡ (not (isFree (now (bounds .entry)) k) || sidesSpan n m (now (coefs .entry)) (now (rhs .entry)) (now (bounds .entry)) k) ⌝ }
+    ensures index { λ r. ⌜ Index n m (now (coefs .entry)) (now (across .exit)) (now (signs .exit)) ⌝ }
+{
+    if !is_free(bounds, k) {
+        return true;
+    }
+    sides_span(n, m, bounds, coefs, rhs, k, across, signs, marks)
+}
+
 // Whether the sides of each free variable span the box.
 fn all_span(
     n: usize,
@@ -143,10 +167,8 @@ fn all_span(
 {
     let mut k = 0;
     while k < n {
-        if is_free(bounds, k) {
-            if !sides_span(n, m, bounds, coefs, rhs, k, across, signs, marks) {
-                return false;
-            }
+        if !spans_at(n, m, bounds, coefs, rhs, k, across, signs, marks) {
+            return false;
         }
         k += 1;
     }

@@ -1,34 +1,26 @@
--- `probing::sides::settle_side`: the marks of the box, but for rows that read the bound that moved, are those of the side. Assumes nothing.
+-- `probing::sides::propagate_side`: the marks of the box, but for rows that read the bound that moved, are those of the side. Assumes nothing.
+use borrow.Author.Needs.{needs}
 use lib.ListN.{length}
 use mathlib.Core.Path.{_∙_, ap}
 use native.Mathlib.Omega.{arith}
-use Rattle.probing.proofs.MarkedLaws.{side-column, side-watched}
-use borrow.Author.Needs.{needs}
-use Rattle.probing.proofs.sides.settle_side.Statement.{statement}
-use Rattle.probing.proofs.sides.settle_side.Tie as tie
-use Rattle.probing.proofs.sides.settle_side.Reads as reads
-use Rattle.probing.proofs.sides.settle_side.Lts as lts
-use Rattle.propagation.proofs.marks.copy_box.Reads as copy-box-reads
-use Rattle.propagation.proofs.marks.remark_at.Reads as remark-at-reads
-use Rattle.propagation.proofs.settle.Reads as settle-reads
+use Rattle.probing.proofs.MarkedLaws.{side-watched}
+use Rattle.probing.proofs.sides.propagate_side.Statement.{statement}
+use Rattle.probing.proofs.sides.propagate_side.Tie as tie
 
 copy-box-requires : tie.Need-copy-box-requires
 copy-box-requires c κs = search needs
 
 remark-at-requires : tie.Need-remark-at-requires
 remark-at-requires c κs =
-    let s = c .before .before .before .before .before .before .before .before .before in
-    let g = s .pre in
-    let e = ap length (c .before .before .before .before .copy-box .ensures) in
-    (side-column g, g .room, omega (arith, e, g .nonEmpty .len, g .variable), omega (arith, g .valid .box .len, g .variable))
+    let g = c .before .before .before .before .before .before .before .before .before .before .pre in
+    let e = ap length (c .before .before .before .before .before .copy-box .ensures) in
+    (g .index .columns, g .variable, g .room, omega (arith, e, g .nonEmpty .len, g .variable), omega (arith, g .valid .box .len, g .variable))
 
-settle-requires : tie.Need-settle-requires
-settle-requires c κs =
-    let s = c .before .before .before .before .before .before .before .before .before .before .before .before .before .before .before .before in
-    let g = s .pre in
-    let call = c .before .before .before .before .before .before .remark-at in
-    let copied = c .before .before .before .before .before .before .before .before .before .before .before .copy-box .ensures in
-    (g .valid, (g .index, (side-watched g (call .last .1 .1 .1 .1 .1 .0) copied (call .ensures .0) (call .ensures .1), omega (arith, g .room, call .kept .1 .1 .1 .1 .1 .0))))
+propagate-marked-requires : tie.Need-propagate-marked-requires
+propagate-marked-requires c κs =
+    let g = c .before .before .before .before .before .before .before .before .before .before .before .before .before .before .before .before .before .before .before .before .before .pre in
+    let call = c .before .before .before .before .before .before .before .before .before .before .remark-at in
+    (g .valid, (side-watched g (call .last .1 .1 .1 .1 .1 .1 .1 .0) (c .before .before .before .before .before .before .before .before .before .before .before .before .before .before .before .before .copy-box .ensures) (call .ensures .0) (call .ensures .1 .0) (call .ensures .1 .1), omega (arith, g .room, call .kept .1 .1 .1 .1 .1 .1 .1 .0)))
 
 same-length : tie.Need-same-length
 same-length c = search needs
@@ -39,17 +31,25 @@ same-length-2 c = search needs
 same-length-3 : tie.Need-same-length-3
 same-length-3 c = search needs
 
-returns : tie.Need-returns
-returns c = search needs
+same-length-4 : tie.Need-same-length-4
+same-length-4 c = search needs
 
-pub settle-side-spec : {M : Type 1} → statement M
-settle-side-spec =
+same-length-5 : tie.Need-same-length-5
+same-length-5 c = search needs
+
+returns : tie.Need-returns
+returns c = let call = c .before .before .before .before .before .before .before .before .propagate-marked .ensures in (call .0, call .1 .index)
+
+pub propagate-side-spec : {M : Type 1} → statement M
+propagate-side-spec =
     tie.close
     (tie.spec
     copy-box-requires
     remark-at-requires
-    settle-requires
+    propagate-marked-requires
     same-length
     same-length-2
     same-length-3
+    same-length-4
+    same-length-5
     returns)
