@@ -1,5 +1,5 @@
 -- What the marks of a box say of its sides, and of the box that a probe leaves.
-use Prim.Native.Nat.{_*_, _+_, _<_, _≤_, ℕ}
+use Prim.Native.Nat.{_<_, _≤_, ℕ}
 use lib.Dec.{T}
 use lib.IntN.{pos, ℤ}
 use lib.ListN.{getD, length, length-replicate, replicate, take}

@@ -299,7 +299,20 @@ pub fn probe_marked(
         marks,
         &mut one[..len],
     );
-    join_marked(n, m, k, s0, s1, &zero, &one, bounds, table, coefs, signs, marks)
+    join_marked(
+        n,
+        m,
+        k,
+        s0,
+        s1,
+        &zero,
+        &one,
+        bounds,
+        table,
+        coefs,
+        signs,
+        marks,
+    )
 }
 
 // The same of a model of which nothing is known yet.

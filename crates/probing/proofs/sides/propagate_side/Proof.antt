@@ -1,7 +1,7 @@
 -- `probing::sides::propagate_side`: the marks of the box, but for rows that read the bound that moved, are those of the side. Assumes nothing.
 use borrow.Author.Needs.{needs}
 use lib.ListN.{length}
-use mathlib.Core.Path.{_∙_, ap}
+use mathlib.Core.Path.{ap}
 use native.Mathlib.Omega.{arith}
 use Rattle.probing.proofs.MarkedLaws.{side-watched}
 use Rattle.probing.proofs.sides.propagate_side.Statement.{statement}

@@ -1,6 +1,6 @@
 -- `probing::sides::try_side`: the copy with two stores is fix (`fix-stores`), a valid box, and that is propagated by the marks of the box.
 -- Assumes nothing.
-use Prim.Native.Nat.{_*_, _+_, _<_, ℕ}
+use Prim.Native.Nat.{_*_, _+_, ℕ}
 use borrow.Author.Needs.{needs}
 use lib.IntN.{pos}
 use lib.ListN.{length, length-set, set, take}
