@@ -1,4 +1,3 @@
-pub mod LocalBox
 pub mod MarkedLaws
 pub mod ImplicationLoops
 pub mod ProbingLoops

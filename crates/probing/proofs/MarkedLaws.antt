@@ -1,8 +1,8 @@
 -- What the marks of a box say of its sides, and of the box that a probe leaves.
-use Prim.Native.Nat.{_*_, _+_, _<_, _≤_, ℕ}
+use Prim.Native.Nat.{_<_, _≤_, ℕ}
 use lib.Dec.{T}
 use lib.IntN.{pos, ℤ}
-use lib.ListN.{getD, getD-replicate, length, length-replicate, replicate, take}
+use lib.ListN.{getD, length, length-replicate, replicate, take}
 use lib.Seq.{length-take-le}
 use mathlib.Core.Bool.{_||_}
 use mathlib.Core.List.{List}
@@ -13,35 +13,35 @@ use Rattle.model.specs.Valid.{ValidModel}
 use Rattle.model.proofs.BoxLoops.{lower-withBounds, upper-withBounds}
 use Rattle.semantics.specs.Probe.{Probed, fix, probe}
 use Rattle.semantics.proofs.ProbeLaws.{fix-inside, probe-narrower}
-use Rattle.propagation.specs.Marks.{Clean, Remarks, Unread, Watched}
-use Rattle.propagation.proofs.IndexLoops.{line-end}
+use Rattle.propagation.specs.Index.{ColumnSigns, Index}
+use Rattle.propagation.specs.Marks.{Unread, Watched}
 use Rattle.propagation.proofs.MarkLaws.{clean-narrower, clean-remarked, unread-at}
-use Rattle.propagation.proofs.LocalIndex.{clean-none, index-made}
-use Rattle.propagation.specs.Index.{GoodStep, signOf}
+use Rattle.propagation.proofs.LocalBox.{blank}
+use Rattle.propagation.proofs.LocalIndex.{clean-none, index-none}
+use Rattle.row.proofs.PropagationLaws.{box→stable, stable→same}
+use Rattle.semantics.specs.RestTest.{isFixpoint}
+use Rattle.semantics.proofs.Convergence.{fixpoint-test}
 use Rattle.probing.specs.Marked.{Marked, SideReady}
 use Rattle.probing.specs.Results.{probingOf}
 use Rattle.probing.specs.declared.sides.Probing.{Probing}
 use Rattle.probing.specs.declared.sides.Probing.the-variants as probing
-use Rattle.probing.proofs.LocalBox.{blank}
 use Rattle.probing.proofs.ProbingLoops.{fix-model, fix-stores, free-nonEmpty}
 
 -- ---- a side
 
 module _ {n m : ℕ} {B C R : List ℤ} {k : ℕ} {across signs : List ℕ} {seen : List ℤ} {marks : List ℕ} {side : List ℤ}
     (g : SideReady n m B C R k across signs seen marks side) where
-  pub side-column : k * m + m ≤ length signs
-  side-column = omega (arith, line-end k n m (g .variable), g .index .signsLen)
+  unread-side : {r : ℕ} → Unread n C r B side k → (j : ℕ) → Unread n C r B side j
+  unread-side {r} w j = subst (λ (X : List ℤ). Unread n C r B X j) (sym (g .elsewhere))
+      (unread-at k (lower side k) (upper side k) (subst (λ (X : List ℤ). Unread n C r B X k) (g .elsewhere) w) j)
 
-  unread-side : {r : ℕ} → Unread m signs r B side k → (j : ℕ) → Unread m signs r B side j
-  unread-side {r} w j = subst (λ (X : List ℤ). Unread m signs r B X j) (sym (g .elsewhere))
-      (unread-at k (lower side k) (upper side k) (subst (λ (X : List ℤ). Unread m signs r B X k) (g .elsewhere) w) j)
-
-  pub side-watched : {P seen′ : List ℤ} (marks′ : List ℕ) → P ≡ B → seen′ ≡ withBounds P k (lower side k) (upper side k)
-      → ((r : ℕ) → r < m → getD marks′ r 0 ≡ 1 → (getD marks r 0 ≡ 1) × Unread m signs r P side k)
-      → Watched n m C R side seen′ marks′
-  side-watched marks′ p e f = record {
+  pub side-watched : {P seen′ : List ℤ} {signs′ : List ℕ} (marks′ : List ℕ) → P ≡ B → seen′ ≡ withBounds P k (lower side k) (upper side k)
+      → ((r : ℕ) → r < m → getD marks′ r 0 ≡ 1 → (getD marks r 0 ≡ 1) × Unread n C r P side k)
+      → ColumnSigns n m C signs′ → Watched n m C R side across signs′ seen′ marks′
+  side-watched marks′ p e f x = record {
+    index = record { rows = g .index .rows; columns = x };
     copied = λ _. (rw p at e) ∙ sym (g .elsewhere);
-    clean = clean-remarked (g .index) (g .valid .some) (g .nonEmpty) (g .inside) (g .clean)
+    clean = clean-remarked (g .valid .some) (g .nonEmpty) (g .inside) (g .clean)
         (λ r h t. let w = (rw p at f) r h t in (w .0, λ j _. unread-side (w .1) j));
   }
 
@@ -70,40 +70,28 @@ module _ {n m : ℕ} {B C R : List ℤ} {across signs clean : List ℕ} (p : Val
       → SideReady n m B C R k across signs seen marks side
   side-ready seen {marks} l e d = subst (λ (X : List ℤ). SideReady n m B C R k across signs seen marks X) (sym d) (fixed-ready seen l e)
 
--- ---- the steps of a row without zeros
-
-one-at : (j : ℕ) → j < 128 → getD {A = ℕ} (replicate 128 1) (0 + j) 0 ≡ 1
-one-at j h = getD-replicate {A = ℕ} 128 (0 + j) 1 0 (omega arith)
-
-pub every-variable : {n m : ℕ} (signs : List ℕ) (old new : List ℤ) (marks : List ℕ) → n ≤ 128 → length old ≡ 2 * n → length new ≡ 2 * n
-    → n * m ≤ length signs → m ≤ length marks → Remarks n m signs (replicate 128 1) 0 old new marks
-every-variable {n} {m} signs old new marks few o l s k = record {
-  oldLen = o;
-  newLen = l;
-  signsLen = s;
-  marksLen = k;
-  stepsLen = rw (length-replicate {A = ℕ} 128 1) (omega arith);
-  forward = λ j h. omega (arith, one-at j (omega arith));
-  within = λ j h. omega (arith, one-at j (omega arith));
-  between = λ j h i a b. absurd (let z : ⊥ = omega (arith, one-at j (omega arith)) in z);
-}
-
 -- ---- local arrays
 
 pub front-room : (B : List ℤ) → length B ≤ 256 → length (take (length B) blank) ≡ length B
 front-room B h = length-take-le (length B) blank (rw length-replicate h)
 
-pub marks-from : {n m : ℕ} {signs : List ℕ} {X B Q : List ℤ} (marks marks′ : List ℕ) → X ≡ B
-    → ((r : ℕ) → r < m → getD marks′ r 0 ≡ 1 → (getD marks r 0 ≡ 1) × ((j : ℕ) → j < n → Unread m signs r X Q j))
-    → (r : ℕ) → r < m → getD marks′ r 0 ≡ 1 → (getD marks r 0 ≡ 1) × ((j : ℕ) → j < n → Unread m signs r B Q j)
+pub marks-from : {n m : ℕ} {C X B Q : List ℤ} (marks marks′ : List ℕ) → X ≡ B
+    → ((r : ℕ) → r < m → getD marks′ r 0 ≡ 1 → (getD marks r 0 ≡ 1) × ((j : ℕ) → j < n → Unread n C r X Q j))
+    → (r : ℕ) → r < m → getD marks′ r 0 ≡ 1 → (getD marks r 0 ≡ 1) × ((j : ℕ) → j < n → Unread n C r B Q j)
 marks-from marks marks′ e f = rw e at f
 
--- nothing is marked yet
-pub marked-none : {n m : ℕ} {B C R : List ℤ} (v : ValidModel n m B C R) (across signs : List ℕ) → length across ≡ 15360 → length signs ≡ 15360
-    → ((r : ℕ) → r < m → (j : ℕ) → j < n → GoodStep n C (r * n) across j)
-    → ((r : ℕ) → r < m → (j : ℕ) → j < n → getD signs (j * m + r) 0 ≡ signOf (at C (r * n + j)))
-    → Marked n m B C R across signs (replicate 120 0)
-marked-none v across signs a s f g = record { index = index-made v across signs a s f g; clean = clean-none 120; len = length-replicate {A = ℕ} 120 0 }
+-- nothing is known yet
+pub marked-none : {n m : ℕ} {B C R : List ℤ} → ValidModel n m B C R → Marked n m B C R (replicate 15360 0) (replicate 15360 0) (replicate 120 0)
+marked-none v = record { index = index-none v; clean = clean-none 120; len = length-replicate {A = ℕ} 120 0 }
+
+-- every row of a propagation fixpoint is clean
+pub marked-all : {n m : ℕ} {B C R : List ℤ} → ValidModel n m B C R → NonEmpty n B → T (isFixpoint n m C R B)
+    → Marked n m B C R (replicate 15360 0) (replicate 15360 0) (replicate 120 1)
+marked-all {n} {m} {B} {C} {R} v p t = record {
+  index = index-none v;
+  clean = record { same = λ _ r h _. stable→same (v .some) p (box→stable (v .some) p (fixpoint-test n m C R B p .0 t .same r h)) };
+  len = length-replicate {A = ℕ} 120 1;
+}
 
 -- ---- after a probe
 
@@ -115,13 +103,13 @@ probing-box (probing.BothFeasible a s0 s1) Q t = refl
 
 pub marked-probed : {n m : ℕ} {B C R : List ℤ} {across signs marks : List ℕ} (k budget : ℕ) (t t′ : List ℕ) (r : Probing) {Q : List ℤ} {marks′ : List ℕ}
     → ValidModel n m B C R → NonEmpty n B → T (isEmpty n B || isFree B k) → Marked n m B C R across signs marks
-    → probingOf r Q t′ ≡ probe k budget n m C R B t
-    → ((i : ℕ) → i < m → getD marks′ i 0 ≡ 1 → (getD marks i 0 ≡ 1) × ((j : ℕ) → j < n → Unread m signs i B Q j))
-    → length marks′ ≡ length marks → Marked n m Q C R across signs marks′
-marked-probed {n} {m} {B} {C} {R} {across} {signs} {marks} k budget t t′ r {Q} {marks′} v p f x e u l =
+    → {across′ signs′ : List ℕ} → Index n m C across′ signs′ → probingOf r Q t′ ≡ probe k budget n m C R B t
+    → ((i : ℕ) → i < m → getD marks′ i 0 ≡ 1 → (getD marks i 0 ≡ 1) × ((j : ℕ) → j < n → Unread n C i B Q j))
+    → length marks′ ≡ length marks → Marked n m Q C R across′ signs′ marks′
+marked-probed {n} {m} {B} {C} {R} {across} {signs} {marks} k budget t t′ r {Q} {marks′} v p f x y e u l =
     let q : Q ≡ probe k budget n m C R B t .box = sym (probing-box r Q t′) ∙ ap (λ (w : Probed). w .box) e in
     record {
-      index = x .index;
-      clean = clean-narrower (x .index) (v .some) p (rw q (probe-narrower k budget m C R t f p)) (x .clean) u;
+      index = y;
+      clean = clean-narrower (v .some) p (rw q (probe-narrower k budget m C R t f p)) (x .clean) u;
       len = l ∙ x .len;
     }

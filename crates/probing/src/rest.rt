@@ -1,15 +1,11 @@
 // The probing fixpoint (01's rest): a box that no row and no probe carried to its end would change.
 use crate::is_free;
-use crate::sides::copy;
 use crate::sides::greater;
 use crate::sides::lesser;
-use crate::sides::refresh_marks;
 use crate::sides::try_side;
 use propagation::MAX_BUDGET;
 use propagation::Propagation;
-use propagation::index::fill_signs;
-use propagation::index::fill_steps;
-use propagation::propagate;
+use propagation::clean::row_moves;
 ghost use mathlib.Core.Bool.{_||_, not};
 ghost use mathlib.Core.Path.{_≡_};
 ghost use Rattle.integer.specs.Index.{all};
@@ -22,21 +18,23 @@ ghost use Rattle.model.specs.Valid.{ValidModel};
 ghost use Rattle.semantics.specs.Probe.{hull as hulled};
 ghost use mathlib.Core.List.{[]};
 ghost use Rattle.semantics.specs.Propagate.{isNone};
+ghost use Rattle.propagation.specs.Index.{Index};
 ghost use Rattle.propagation.specs.Results.{propagationOf};
 ghost use Rattle.semantics.specs.RestTest.{isFixpoint, isProbingFixpoint, sidesSpan};
 
-// Whether no row moves a bound: one pass over a copy of the box moves nothing.
+// Whether no row moves a bound: the first that would ends it.
 fn is_fixpoint(n: usize, m: usize, bounds: &[i32], coefs: &[i32], rhs: &[i32]) -> bool
     requires { ⌜ ValidModel n m (now bounds) (now coefs) (now rhs) ⌝ }
     requires { ⌜ NonEmpty n (now bounds) ⌝ }
     ensures { λ r. ⌜ r ≡ isFixpoint n m (now (coefs .entry)) (now (rhs .entry)) (now (bounds .entry)) ⌝ }
 {
-    let len = bounds.len();
-    let mut box_copy = [0i32; 256];
-    copy(bounds, &mut box_copy[..len]);
-    let Propagation::Converged(_) = propagate(n, m, &mut box_copy[..len], coefs, rhs, 1) else {
-        return false;
-    };
+    let mut r = 0;
+    while r < m {
+        if row_moves(n, coefs, rhs, r, bounds) {
+            return false;
+        }
+        r += 1;
+    }
     true
 }
 
@@ -77,15 +75,16 @@ fn sides_span(
     coefs: &[i32],
     rhs: &[i32],
     k: usize,
-    across: &[u8],
-    signs: &[u8],
+    across: &mut [u8],
+    signs: &mut [u8],
     marks: &[u8],
 ) -> bool
     requires { ⌜ ValidModel n m (now bounds) (now coefs) (now rhs) ⌝ }
     requires { ⌜ T (isFree (now bounds) k) ⌝ }
     requires { ⌜ k < n ⌝ }
     requires { ⌜ Marked n m (now bounds) (now coefs) (now rhs) (now across) (now signs) (now marks) ⌝ }
-    ensures { λ r. ⌜ r ≡ sidesSpan n m (now (coefs .entry)) (now (rhs .entry)) (now (bounds .entry)) k ⌝ }
+    ensures answer { λ r. ⌜ r ≡ sidesSpan n m (now (coefs .entry)) (now (rhs .entry)) (now (bounds .entry)) k ⌝ }
+    ensures index { λ r. ⌜ Index n m (now (coefs .entry)) (now (across .exit)) (now (signs .exit)) ⌝ }
 {
     let len = bounds.len();
     let mut zero = [0i32; 256];
@@ -127,6 +126,30 @@ fn sides_span(
     hull_is(&zero[..len], &one[..len], bounds)
 }
 
+// Whether the sides of k span the box where it is free.
+fn spans_at(
+    n: usize,
+    m: usize,
+    bounds: &[i32],
+    coefs: &[i32],
+    rhs: &[i32],
+    k: usize,
+    across: &mut [u8],
+    signs: &mut [u8],
+    marks: &[u8],
+) -> bool
+    requires { ⌜ ValidModel n m (now bounds) (now coefs) (now rhs) ⌝ }
+    requires { ⌜ k < n ⌝ }
+    requires { ⌜ Marked n m (now bounds) (now coefs) (now rhs) (now across) (now signs) (now marks) ⌝ }
+    ensures answer { λ r. ⌜ r ≡ (not (isFree (now (bounds .entry)) k) || sidesSpan n m (now (coefs .entry)) (now (rhs .entry)) (now (bounds .entry)) k) ⌝ }
+    ensures index { λ r. ⌜ Index n m (now (coefs .entry)) (now (across .exit)) (now (signs .exit)) ⌝ }
+{
+    if !is_free(bounds, k) {
+        return true;
+    }
+    sides_span(n, m, bounds, coefs, rhs, k, across, signs, marks)
+}
+
 // Whether the sides of each free variable span the box.
 fn all_span(
     n: usize,
@@ -134,8 +157,8 @@ fn all_span(
     bounds: &[i32],
     coefs: &[i32],
     rhs: &[i32],
-    across: &[u8],
-    signs: &[u8],
+    across: &mut [u8],
+    signs: &mut [u8],
     marks: &[u8],
 ) -> bool
     requires { ⌜ ValidModel n m (now bounds) (now coefs) (now rhs) ⌝ }
@@ -144,28 +167,24 @@ fn all_span(
 {
     let mut k = 0;
     while k < n {
-        if is_free(bounds, k) {
-            if !sides_span(n, m, bounds, coefs, rhs, k, across, signs, marks) {
-                return false;
-            }
+        if !spans_at(n, m, bounds, coefs, rhs, k, across, signs, marks) {
+            return false;
         }
         k += 1;
     }
     true
 }
 
-// The same of a model of which nothing is known yet.
+// The same of a propagation fixpoint: each row is clean.
 fn every_side_spans(n: usize, m: usize, bounds: &[i32], coefs: &[i32], rhs: &[i32]) -> bool
     requires { ⌜ ValidModel n m (now bounds) (now coefs) (now rhs) ⌝ }
+    requires { ⌜ NonEmpty n (now bounds) × T (isFixpoint n m (now coefs) (now rhs) (now bounds)) ⌝ }
     ensures { λ r. ⌜ r ≡ all n (λ k. not (isFree (now (bounds .entry)) k) || sidesSpan n m (now (coefs .entry)) (now (rhs .entry)) (now (bounds .entry)) k) ⌝ }
 {
     let mut across = [0u8; 15360];
-    fill_steps(n, m, coefs, &mut across);
     let mut signs = [0u8; 15360];
-    fill_signs(n, m, coefs, &mut signs);
-    let mut marks = [0u8; 120];
-    refresh_marks(n, m, bounds, coefs, rhs, &across, &signs, &mut marks);
-    all_span(n, m, bounds, coefs, rhs, &across, &signs, &marks)
+    let marks = [1u8; 120];
+    all_span(n, m, bounds, coefs, rhs, &mut across, &mut signs, &marks)
 }
 
 // Whether the box of a model that passed the checks is a probing fixpoint.

@@ -1,14 +1,12 @@
 // Probe a free binary variable (01's probe): propagate with it at 0 and at 1, and keep what both sides say.
 use crate::implications::record_implications;
 use propagation::Propagation;
-use propagation::index::fill_signs;
-use propagation::index::fill_steps;
+use propagation::clean::find_clean;
 use propagation::marks::copy_box;
 use propagation::marks::copy_marks;
-use propagation::marks::refresh;
-use propagation::marks::remark;
+use propagation::marks::remark_all;
 use propagation::marks::remark_at;
-use propagation::settle;
+use propagation::propagate_marked;
 ghost use mathlib.Core.Path.{_≡_};
 ghost use mathlib.Core.Bool.{_||_, cond};
 ghost use mathlib.Core.List.{[]};
@@ -23,6 +21,7 @@ ghost use Rattle.model.specs.Valid.{ValidBox, ValidModel, ValidTable};
 ghost use Rattle.semantics.specs.Propagate.{propagate as propagated};
 ghost use Rattle.semantics.specs.Probe.{fix, hull as hulled, joinSides, probe as probed, sideOf};
 ghost use Rattle.propagation.specs.Results.{propagationOf};
+ghost use Rattle.propagation.specs.Index.{ColumnSigns, Index};
 ghost use Rattle.propagation.specs.Marks.{Unread};
 ghost use Rattle.probing.specs.Results.{probingOf, reportOf, Joinable};
 ghost use Rattle.probing.specs.Marked.{Marked, SideReady};
@@ -72,18 +71,6 @@ pub fn greater(x: i32, y: i32) -> i32
     if x <= y { y } else { x }
 }
 
-// Copies a box over another of the same length.
-pub fn copy(from: &[i32], to: &mut [i32])
-    requires { ⌜ length (now from) ≡ length (now to) ⌝ }
-    ensures { λ _. ⌜ now (to .exit) ≡ now (from .entry) ⌝ }
-{
-    let mut i = 0;
-    while i < from.len() {
-        to[i] = from[i];
-        i += 1;
-    }
-}
-
 // The smallest box that contains both sides.
 fn hull(zero: &[i32], one: &[i32], bounds: &mut [i32])
     requires { ⌜ length (now zero) ≡ length (now bounds) ⌝ }
@@ -99,8 +86,9 @@ fn hull(zero: &[i32], one: &[i32], bounds: &mut [i32])
     }
 }
 
-// The box of a side, fixed already, propagated: rows clean in the box before stay so, but for those that read the bound that moved.
-fn settle_side(
+// The box of a side, fixed already, propagated. It lies inside the box before, so rows clean there are clean here, but for those that
+// read the bound of k that moved (`same-kept`).
+fn propagate_side(
     n: usize,
     m: usize,
     bounds: &[i32],
@@ -108,18 +96,19 @@ fn settle_side(
     rhs: &[i32],
     k: usize,
     budget: u32,
-    across: &[u8],
-    signs: &[u8],
+    across: &mut [u8],
+    signs: &mut [u8],
     seen: &mut [i32],
     marks: &mut [u8],
     side: &mut [i32],
 ) -> Propagation
     requires { ⌜ SideReady n m (now bounds) (now coefs) (now rhs) k (now across) (now signs) (now seen) (now marks) (now side) ⌝ }
     ensures answer { λ r. ⌜ propagationOf r (now (side .exit)) ≡ propagated budget n m (now (coefs .entry)) (now (rhs .entry)) (now (side .entry)) ⌝ }
+    ensures index { λ r. ⌜ Index n m (now (coefs .entry)) (now (across .exit)) (now (signs .exit)) ⌝ }
 {
     copy_box(bounds, seen);
-    remark_at(m, signs, k, seen, side, marks);
-    settle(n, m, side, coefs, rhs, budget, across, signs, seen, marks)
+    remark_at(n, m, coefs, k, signs, seen, side, marks);
+    propagate_marked(n, m, side, coefs, rhs, budget, across, signs, seen, marks)
 }
 
 // Side v of k, in the lent buffer: the box with k fixed at v, propagated with the budget, by the index and the marks of the box.
@@ -132,8 +121,8 @@ pub fn try_side(
     k: usize,
     v: i32,
     budget: u32,
-    across: &[u8],
-    signs: &[u8],
+    across: &mut [u8],
+    signs: &mut [u8],
     clean: &[u8],
     side: &mut [i32],
 ) -> Propagation
@@ -143,16 +132,17 @@ pub fn try_side(
     requires { ⌜ (v ≡ pos 0) ⊎ (v ≡ pos 1) ⌝ }
     requires { ⌜ length (now side) ≡ length (now bounds) ⌝ }
     requires { ⌜ Marked n m (now bounds) (now coefs) (now rhs) (now across) (now signs) (now clean) ⌝ }
-    ensures { λ r. ⌜ ((w : ℕ) → v ≡ pos w → propagationOf r (now (side .exit)) ≡ propagated budget n m (now (coefs .entry)) (now (rhs .entry)) (fix n (now (bounds .entry)) k w)) ⌝ }
+    ensures answer { λ r. ⌜ ((w : ℕ) → v ≡ pos w → propagationOf r (now (side .exit)) ≡ propagated budget n m (now (coefs .entry)) (now (rhs .entry)) (fix n (now (bounds .entry)) k w)) ⌝ }
+    ensures index { λ r. ⌜ Index n m (now (coefs .entry)) (now (across .exit)) (now (signs .exit)) ⌝ }
 {
-    copy(bounds, side);
+    copy_box(bounds, side);
     side[2 * k] = v;
     side[2 * k + 1] = v;
     let len = bounds.len();
     let mut seen = [0i32; 256];
     let mut marks = [0u8; 120];
     copy_marks(clean, &mut marks);
-    settle_side(
+    propagate_side(
         n,
         m,
         bounds,
@@ -202,27 +192,18 @@ fn join<'a>(
             hull(&zero[..len], &one[..len], bounds);
             return Probing::BothFeasible(added, side0, side1);
         };
-        copy(survivor(zero, one, len), bounds);
+        copy_box(survivor(zero, one, len), bounds);
         return Probing::Fixed(0, side0, side1);
     };
     let Propagation::Infeasible(_) = s1 else {
-        copy(survivor(zero, one, len), bounds);
+        copy_box(survivor(zero, one, len), bounds);
         return Probing::Fixed(1, side0, side1);
     };
     model::make_empty(bounds);
     Probing::Infeasible(side0, side1)
 }
 
-// The marks of the box `old` become those of the box `bounds` inside it.
-fn keep_marks(n: usize, m: usize, signs: &[u8], old: &mut [i32], bounds: &[i32], marks: &mut [u8])
-    requires { ⌜ (n ≤ 128) × (length (now old) ≡ 2 * n) × (length (now bounds) ≡ 2 * n) × (n * m ≤ length (now signs)) × (m ≤ length (now marks)) ⌝ }
-    ensures { λ _. ⌜ ((r : ℕ) → r < m → getD (now (marks .exit)) r 0 ≡ 1 → (getD (now (marks .entry)) r 0 ≡ 1) × ((j : ℕ) → j < n → Unread m (now (signs .entry)) r (now (old .entry)) (now (bounds .entry)) j)) ⌝ }
-{
-    let ones = [1u8; 128];
-    remark(n, m, signs, &ones, 0, old, bounds, marks);
-}
-
-// What the two propagated sides come to, and the marks of the box that is left.
+// What the two propagated sides come to, and the marks of the box that is left: it lies inside the box before.
 fn join_marked<'a>(
     n: usize,
     m: usize,
@@ -233,55 +214,27 @@ fn join_marked<'a>(
     one: &'a [i32],
     bounds: &mut [i32],
     table: &mut [u8],
-    signs: &[u8],
+    coefs: &[i32],
+    signs: &mut [u8],
     marks: &mut [u8],
 ) -> Probing
     requires { ⌜ Joinable n k s0 s1 (now zero) (now one) (now bounds) (now table) ⌝ }
-    requires { ⌜ (n * m ≤ length (now signs)) × (m ≤ length (now marks)) ⌝ }
+    requires { ⌜ ColumnSigns n m (now coefs) (now signs) × (m ≤ length (now marks)) ⌝ }
     ensures answer { λ r. ⌜ probingOf r (now (bounds .exit)) (now (table .exit)) ≡ joinSides n k (now (bounds .entry)) (now (table .entry)) (propagationOf s0 (take (2 * n) (now (zero .entry)))) (propagationOf s1 (take (2 * n) (now (one .entry)))) ⌝ }
-    ensures marks { λ _. ⌜ ((r : ℕ) → r < m → getD (now (marks .exit)) r 0 ≡ 1 → (getD (now (marks .entry)) r 0 ≡ 1) × ((j : ℕ) → j < n → Unread m (now (signs .entry)) r (now (bounds .entry)) (now (bounds .exit)) j)) ⌝ }
+    ensures marks { λ _. ⌜ ((r : ℕ) → r < m → getD (now (marks .exit)) r 0 ≡ 1 → (getD (now (marks .entry)) r 0 ≡ 1) × ((j : ℕ) → j < n → Unread n (now (coefs .entry)) r (now (bounds .entry)) (now (bounds .exit)) j)) ⌝ }
+    ensures signs { λ _. ⌜ ColumnSigns n m (now (coefs .entry)) (now (signs .exit)) ⌝ }
 {
     let len = bounds.len();
     let mut old = [0i32; 256];
-    copy(bounds, &mut old[..len]);
+    copy_box(bounds, &mut old[..len]);
     let answer = join(n, k, s0, s1, zero, one, bounds, table);
-    keep_marks(n, m, signs, &mut old[..len], bounds, marks);
+    remark_all(n, m, coefs, signs, &mut old[..len], bounds, marks);
     answer
-}
-
-// Marks each row clean of which a visit moves nothing; the box of the trial visits is working memory.
-pub fn refresh_marks(
-    n: usize,
-    m: usize,
-    bounds: &[i32],
-    coefs: &[i32],
-    rhs: &[i32],
-    across: &[u8],
-    signs: &[u8],
-    marks: &mut [u8],
-)
-    requires { ⌜ ValidModel n m (now bounds) (now coefs) (now rhs) ⌝ }
-    requires { ⌜ Marked n m (now bounds) (now coefs) (now rhs) (now across) (now signs) (now marks) ⌝ }
-    ensures { λ _. ⌜ Marked n m (now (bounds .entry)) (now (coefs .entry)) (now (rhs .entry)) (now (across .entry)) (now (signs .entry)) (now (marks .exit)) ⌝ }
-{
-    let len = bounds.len();
-    let mut trial = [0i32; 256];
-    refresh(
-        n,
-        m,
-        bounds,
-        coefs,
-        rhs,
-        across,
-        signs,
-        &mut trial[..len],
-        marks,
-    );
 }
 
 // Probes the free binary variable k of a model that passed the checks, by its index and the marks of its box, which become those of
 // the box that is left. The two sides' boxes are working memory of this call.
-pub fn probe_by(
+pub fn probe_marked(
     n: usize,
     m: usize,
     bounds: &mut [i32],
@@ -290,8 +243,8 @@ pub fn probe_by(
     table: &mut [u8],
     k: usize,
     budget: u32,
-    across: &[u8],
-    signs: &[u8],
+    across: &mut [u8],
+    signs: &mut [u8],
     marks: &mut [u8],
 ) -> Probing
     requires { ⌜ ValidModel n m (now bounds) (now coefs) (now rhs) ⌝ }
@@ -300,7 +253,7 @@ pub fn probe_by(
     requires { ⌜ k < n ⌝ }
     requires { ⌜ Marked n m (now bounds) (now coefs) (now rhs) (now across) (now signs) (now marks) ⌝ }
     ensures answer { λ r. ⌜ probingOf r (now (bounds .exit)) (now (table .exit)) ≡ probed k budget n m (now (coefs .entry)) (now (rhs .entry)) (now (bounds .entry)) (now (table .entry)) ⌝ }
-    ensures marks { λ r. ⌜ Marked n m (now (bounds .exit)) (now (coefs .entry)) (now (rhs .entry)) (now (across .entry)) (now (signs .entry)) (now (marks .exit)) ⌝ }
+    ensures marks { λ r. ⌜ Marked n m (now (bounds .exit)) (now (coefs .entry)) (now (rhs .entry)) (now (across .exit)) (now (signs .exit)) (now (marks .exit)) ⌝ }
 {
     if model::is_empty(bounds) {
         return Probing::Infeasible(
@@ -314,7 +267,7 @@ pub fn probe_by(
             },
         );
     }
-    refresh_marks(n, m, bounds, coefs, rhs, across, signs, marks);
+    find_clean(n, m, bounds, coefs, rhs, across, marks);
     let len = bounds.len();
     let mut zero = [0i32; 256];
     let s0 = try_side(
@@ -346,7 +299,20 @@ pub fn probe_by(
         marks,
         &mut one[..len],
     );
-    join_marked(n, m, k, s0, s1, &zero, &one, bounds, table, signs, marks)
+    join_marked(
+        n,
+        m,
+        k,
+        s0,
+        s1,
+        &zero,
+        &one,
+        bounds,
+        table,
+        coefs,
+        signs,
+        marks,
+    )
 }
 
 // The same of a model of which nothing is known yet.
@@ -367,11 +333,9 @@ pub fn probe(
     ensures { λ r. ⌜ probingOf r (now (bounds .exit)) (now (table .exit)) ≡ probed k budget n m (now (coefs .entry)) (now (rhs .entry)) (now (bounds .entry)) (now (table .entry)) ⌝ }
 {
     let mut across = [0u8; 15360];
-    fill_steps(n, m, coefs, &mut across);
     let mut signs = [0u8; 15360];
-    fill_signs(n, m, coefs, &mut signs);
     let mut marks = [0u8; 120];
-    probe_by(
+    probe_marked(
         n,
         m,
         bounds,
@@ -380,8 +344,8 @@ pub fn probe(
         table,
         k,
         budget,
-        &across,
-        &signs,
+        &mut across,
+        &mut signs,
         &mut marks,
     )
 }

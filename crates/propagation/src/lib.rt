@@ -1,21 +1,19 @@
 // Propagate all rows (01's settle) of a model that passed the checks: passes over the rows until nothing moves, the budget is spent
-// or a row is infeasible. Each row is read in place through its view; it knows of a row only what crates `row` and `row_view` state:
-// no coefficient is looked at here or above.
+// or a row is infeasible. Each row is read in place through its view. What is known of the rows from earlier visits is kept beside
+// the box while a call runs: their index (`index`) and which of them are clean (`marks`).
+pub mod clean;
 pub mod index;
 pub mod marks;
 
-use crate::index::fill_signs;
-use crate::index::fill_steps;
 use crate::marks::copy_box;
-use crate::marks::visit;
+use crate::marks::propagate_row_marked;
 use row::propagation::RowPropagation;
 ghost use mathlib.Core.Path.{_≡_};
 ghost use Rattle.model.specs.Valid.{ValidModel};
 ghost use Rattle.semantics.specs.Propagate.{propagate as propagated};
 ghost use Prim.Native.Nat.{_≤_};
 ghost use lib.ListN.{length};
-ghost use Rattle.propagation.specs.Index.{Index};
-ghost use Rattle.propagation.specs.Marks.{Clean, Watched};
+ghost use Rattle.propagation.specs.Marks.{Watched};
 ghost use Rattle.propagation.specs.Results.{propagationOf};
 
 // The largest budget: one more than any box is wide, so it is never spent.
@@ -28,26 +26,25 @@ pub enum Propagation {
     BudgetSpent(u32),
 }
 
-// Propagates the rows with what is known of them: their index, and which of them are clean. A pass is left by its label at the first row that is infeasible, and
-// counts as made.
-pub fn settle(
+// Propagates the rows by what is known of them: their index, and which of them are clean. A pass is left by its label at the first
+// row that is infeasible, and counts as made.
+pub fn propagate_marked(
     n: usize,
     m: usize,
     bounds: &mut [i32],
     coefs: &[i32],
     rhs: &[i32],
     budget: u32,
-    across: &[u8],
-    signs: &[u8],
+    across: &mut [u8],
+    signs: &mut [u8],
     seen: &mut [i32],
     marks: &mut [u8],
 ) -> Propagation
     requires { ⌜ ValidModel n m (now bounds) (now coefs) (now rhs) ⌝ }
-    requires { ⌜ Index n m (now coefs) (now across) (now signs) ⌝ }
-    requires { ⌜ Watched n m (now coefs) (now rhs) (now bounds) (now seen) (now marks) ⌝ }
+    requires { ⌜ Watched n m (now coefs) (now rhs) (now bounds) (now across) (now signs) (now seen) (now marks) ⌝ }
     requires { ⌜ m ≤ length (now marks) ⌝ }
     ensures answer { λ r. ⌜ propagationOf r (now (bounds .exit)) ≡ propagated budget n m (now (coefs .entry)) (now (rhs .entry)) (now (bounds .entry)) ⌝ }
-    ensures clean { λ r. ⌜ Clean n m (now (coefs .entry)) (now (rhs .entry)) (now (bounds .exit)) (now (marks .exit)) ⌝ }
+    ensures watched { λ r. ⌜ Watched n m (now (coefs .entry)) (now (rhs .entry)) (now (bounds .exit)) (now (across .exit)) (now (signs .exit)) (now (seen .exit)) (now (marks .exit)) ⌝ }
 {
     if model::is_empty(bounds) {
         return Propagation::Infeasible(1);
@@ -59,7 +56,7 @@ pub fn settle(
         let mut moved = false;
         let mut r = 0;
         'rows: while r < m {
-            match visit(n, m, bounds, coefs, rhs, r, across, signs, seen, marks) {
+            match propagate_row_marked(n, m, bounds, coefs, rhs, r, across, signs, seen, marks) {
                 RowPropagation::Infeasible => {
                     infeasible = true;
                     break 'passes;
@@ -95,21 +92,19 @@ pub fn propagate(
 {
     let len = bounds.len();
     let mut across = [0u8; 15360];
-    fill_steps(n, m, coefs, &mut across);
     let mut signs = [0u8; 15360];
-    fill_signs(n, m, coefs, &mut signs);
     let mut seen = [0i32; 256];
     copy_box(bounds, &mut seen[..len]);
     let mut marks = [0u8; 120];
-    settle(
+    propagate_marked(
         n,
         m,
         bounds,
         coefs,
         rhs,
         budget,
-        &across,
-        &signs,
+        &mut across,
+        &mut signs,
         &mut seen[..len],
         &mut marks,
     )

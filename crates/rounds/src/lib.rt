@@ -1,8 +1,6 @@
 // The rounds of `reduce`: propagate, remove redundant rows, tighten coefficients and probe, again until a round changes nothing.
 // The model and the table are checked once; each call leaves them valid.
 use probing::is_free;
-use propagation::index::fill_signs;
-use propagation::index::fill_steps;
 use step::CallClass;
 use step::run_probe_record;
 use step::run_record;
@@ -115,16 +113,17 @@ fn tighten_rows(
     changed
 }
 
-// Probes each variable that is free when its turn comes, upwards, by the index of the rows and the marks of the box; says whether a bound or a table byte changed.
-fn probe_variables_by(
+// Probes each variable that is free when its turn comes, upwards, by the index of the rows and the marks of the box; says whether a
+// bound or a table byte changed.
+fn probe_variables_marked(
     n: usize,
     m: usize,
     bounds: &mut [i32],
     coefs: &[i32],
     rhs: &[i32],
     table: &mut [u8],
-    across: &[u8],
-    signs: &[u8],
+    across: &mut [u8],
+    signs: &mut [u8],
     marks: &mut [u8],
 ) -> bool
     requires { ⌜ ValidState (stateOf n m (now bounds) (now coefs) (now rhs) (now table)) ⌝ }
@@ -157,7 +156,8 @@ fn probe_variables_by(
     changed
 }
 
-// The same, with the index made once: no probe changes a row.
+// The same, of rows of which nothing is known yet. No probe changes a row, and each leaves a box inside the one before: what is
+// known is kept from probe to probe.
 fn probe_variables(
     n: usize,
     m: usize,
@@ -171,11 +171,19 @@ fn probe_variables(
     ensures changed { λ r. ⌜ r ≡ anyChange (stateOf n m (now (bounds .entry)) (now (coefs .entry)) (now (rhs .entry)) (now (table .entry))) (probes (stateOf n m (now (bounds .entry)) (now (coefs .entry)) (now (rhs .entry)) (now (table .entry)))) ⌝ }
 {
     let mut across = [0u8; 15360];
-    fill_steps(n, m, coefs, &mut across);
     let mut signs = [0u8; 15360];
-    fill_signs(n, m, coefs, &mut signs);
     let mut marks = [0u8; 120];
-    probe_variables_by(n, m, bounds, coefs, rhs, table, &across, &signs, &mut marks)
+    probe_variables_marked(
+        n,
+        m,
+        bounds,
+        coefs,
+        rhs,
+        table,
+        &mut across,
+        &mut signs,
+        &mut marks,
+    )
 }
 
 // One round; says whether anything changed. After None the box is empty, and no further call is made.

@@ -9,4 +9,5 @@ pub mod TighteningLaws
 pub mod RedundancyLaws
 pub mod AnswerLaws
 pub mod WorkedBooks
+pub mod ReachLaws
 pub mod RowLoops

@@ -54,7 +54,7 @@ rhs-within h = within-between {l = minRhs} {u = maxRhs} (within-lit tt) (within-
 
 -- ---- activities
 
-term-within : {a l u : ℤ} → Within 1_000_000 a → Within 32_768 l → Within 32_768 u → Within 32_768_000_000 (minTerm a l u)
+pub term-within : {a l u : ℤ} → Within 1_000_000 a → Within 32_768 l → Within 32_768 u → Within 32_768_000_000 (minTerm a l u)
 unfolding minTerm
 term-within {a} {l} {u} h k j =
     cond-ind (ltZ (pos 0) a) (a *ℤ l) (a *ℤ u) (Within 32_768_000_000) (λ _. within-mul h k) (λ _. within-mul h j)

@@ -14,3 +14,9 @@ unfoldable pub isChanged : Outcome → Bool
 isChanged infeasible = false
 isChanged changed = true
 isChanged unchanged = false
+
+-- 01's Same is the one answer after which nothing is other than before
+unfoldable pub isUnchanged : Outcome → Bool
+isUnchanged infeasible = false
+isUnchanged changed = false
+isUnchanged unchanged = true

@@ -2,14 +2,14 @@
 use Prim.Native.Nat.{ℕ}
 use lib.IntN.{_*ℤ_, _+ℤ_, _-ℤ_, negℤ, pos, ℤ}
 use lib.Signed.{ltZ}
-use mathlib.Core.Bool.{Bool, _&&_, cond}
+use mathlib.Core.Bool.{Bool, _&&_, cond, not}
 use mathlib.Core.List.{List}
 use Rattle.integer.specs.Division.{ceilDiv, floorDiv}
 use Rattle.integer.specs.Index.{all}
 use Rattle.integer.specs.Order.{eqZ, maxZ, minZ}
 use Rattle.model.specs.Box.{at, boxOf, emptyBox, isEmpty, lower, upper}
 use Rattle.row.specs.Activity.{minActivity}
-use Rattle.row.specs.Outcome.{Outcome, changed, infeasible, unchanged}
+use Rattle.row.specs.Outcome.{Outcome, changed, infeasible, isUnchanged, unchanged}
 
 -- "for each a > 0, u becomes the lesser of u and floor((b − Lmin + a×l) / a)"; L is Lmin
 unfoldable pub newUpper : ℤ → ℤ → ℤ → ℤ → ℤ → ℤ
@@ -46,3 +46,7 @@ propagateRow n A b B =
       outcome = cond (all n (staysAt A b (minActivity n A B) B)) unchanged changed;
       box = impliedBox n A b (minActivity n A B) B;
     }))
+
+-- whether propagating the row answers other than Same: it moves a bound, or no point of the box meets it
+unfoldable pub rowMoves : ℕ → List ℤ → ℤ → List ℤ → Bool
+rowMoves n A b B = not (isUnchanged (propagateRow n A b B .outcome))

@@ -1,5 +1,5 @@
-// Propagate a row (01's visit): one sweep for the minimum activity, one for the bounds.
-use crate::activity::minimum_activity;
+// Propagate a row (01's visit): one sweep tells whether anything moves, a second one moves it.
+use crate::activity::reach_of;
 use integer::ceil_div;
 use integer::floor_div;
 ghost use mathlib.Core.Bool.{not};
@@ -11,7 +11,7 @@ ghost use lib.ListN.{length};
 ghost use Rattle.integer.specs.Index.{all};
 ghost use Rattle.model.specs.Box.{lower, upper, withBounds};
 ghost use Rattle.row.specs.Answers.{propagationOutcome};
-ghost use Rattle.row.specs.Propagation.{newLower, newUpper, impliedBox, stays, staysAt, propagateRow};
+ghost use Rattle.row.specs.Propagation.{newLower, newUpper, impliedBox, stays, staysAt, propagateRow, rowMoves};
 ghost use Rattle.row.specs.ValidRow.{ValidRow, ImpliesBounds, Propagates};
 
 // 01's None, Narrowed, Same.
@@ -97,6 +97,19 @@ fn tighten_bounds(coefs: &[i32], b: i64, least: i64, bounds: &mut [i32]) -> bool
     moved
 }
 
+// Whether propagating the row would answer other than Unchanged: the same sweep, and nothing is written. A row that cannot be met
+// has b − least below 0, so one comparison tells both.
+pub fn moves(coefs: &[i32], b: i32, bounds: &[i32]) -> bool
+    requires { ⌜ ValidRow (length (now coefs)) (now coefs) b (now bounds) ⌝ }
+    ensures { λ r. ⌜ r ≡ rowMoves (length (now (coefs .entry))) (now (coefs .entry)) b (now (bounds .entry)) ⌝ }
+{
+    if model::is_empty(bounds) {
+        return true;
+    }
+    let r = reach_of(coefs, bounds);
+    (b as i64) - r.least < r.widest
+}
+
 // Propagates the row. Infeasible leaves the empty box in whole: the bounds are only touched once the row is known to be met.
 pub fn propagate_row(coefs: &[i32], b: i32, bounds: &mut [i32]) -> RowPropagation
     requires { ⌜ ValidRow (length (now coefs)) (now coefs) b (now bounds) ⌝ }
@@ -107,7 +120,11 @@ pub fn propagate_row(coefs: &[i32], b: i32, bounds: &mut [i32]) -> RowPropagatio
         return RowPropagation::Infeasible;
     }
     let rhs = b as i64;
-    let least = minimum_activity(coefs, bounds);
+    let r = reach_of(coefs, bounds);
+    let least = r.least;
+    if r.widest <= rhs - least {
+        return RowPropagation::Unchanged;
+    }
     if rhs < least {
         model::make_empty(bounds);
         return RowPropagation::Infeasible;

@@ -5,6 +5,7 @@ use row::activity::maximum_activity;
 use row::activity::minimum_activity;
 use row::propagation::RowPropagation;
 use row::propagation::propagate_row;
+use sweep::propagate_row_by;
 ghost use mathlib.Core.Path.{_≡_};
 ghost use Prim.Native.Nat.{_*_, _+_, _≤_};
 ghost use lib.ListN.{length};
@@ -15,6 +16,7 @@ ghost use Rattle.row.specs.Answers.{propagationOutcome};
 ghost use Rattle.row.specs.Propagation.{propagateRow};
 ghost use Rattle.row.specs.ValidRow.{ValidCoefs, ValidRow};
 ghost use Rattle.row_view.specs.RowIn.{RowIn};
+ghost use Rattle.sweep.specs.Steps.{Steps};
 
 pub struct Row<'a> {
     pub coefs: &'a [i32],
@@ -45,6 +47,15 @@ impl<'a> Row<'a> {
         ensures left { λ r. ⌜ now (bounds .exit) ≡ propagateRow (length (now (self .entry .coefs))) (now (self .entry .coefs)) (self .entry .b) (now (bounds .entry)) .box ⌝ }
     {
         propagate_row(self.coefs, self.b, bounds)
+    }
+
+    // The same by the row's steps, which pass over its zeros.
+    pub fn propagate_by<'b, 'c>(self, steps: &'b [u8], bounds: &'c mut [i32]) -> RowPropagation
+        requires { ⌜ ValidRow (length (now (self .coefs))) (now (self .coefs)) (self .b) (now bounds) × Steps (length (now (self .coefs))) (now (self .coefs)) (now steps) ⌝ }
+        ensures answer { λ r. ⌜ propagationOutcome r ≡ propagateRow (length (now (self .entry .coefs))) (now (self .entry .coefs)) (self .entry .b) (now (bounds .entry)) .outcome ⌝ }
+        ensures left { λ r. ⌜ now (bounds .exit) ≡ propagateRow (length (now (self .entry .coefs))) (now (self .entry .coefs)) (self .entry .b) (now (bounds .entry)) .box ⌝ }
+    {
+        propagate_row_by(self.coefs, steps, self.b, bounds)
     }
 }
 
@@ -82,4 +93,20 @@ pub fn propagate_row_at<'a, 'b, 'c>(
     ensures left { λ s. ⌜ now (bounds .exit) ≡ propagateRow n (rowOf n (now (coefs .entry)) r) (at (now (rhs .entry)) r) (now (bounds .entry)) .box ⌝ }
 {
     row_at(n, coefs, rhs, r).propagate(bounds)
+}
+
+// The same by the row's steps.
+pub fn propagate_row_at_by<'a, 'b, 'c, 'd>(
+    n: usize,
+    coefs: &'a [i32],
+    rhs: &'b [i32],
+    r: usize,
+    steps: &'c [u8],
+    bounds: &'d mut [i32],
+) -> RowPropagation
+    requires { ⌜ RowIn n (now coefs) (now rhs) r × ValidRow n (rowOf n (now coefs) r) (at (now rhs) r) (now bounds) × Steps n (rowOf n (now coefs) r) (now steps) ⌝ }
+    ensures answer { λ s. ⌜ propagationOutcome s ≡ propagateRow n (rowOf n (now (coefs .entry)) r) (at (now (rhs .entry)) r) (now (bounds .entry)) .outcome ⌝ }
+    ensures left { λ s. ⌜ now (bounds .exit) ≡ propagateRow n (rowOf n (now (coefs .entry)) r) (at (now (rhs .entry)) r) (now (bounds .entry)) .box ⌝ }
+{
+    row_at(n, coefs, rhs, r).propagate_by(steps, bounds)
 }

@@ -1,11 +1,9 @@
 // One call of a list: its own checks, then what its kind asks for, on a model that passed its checks. Each call leaves the model
 // valid, so a list or a round of calls checks the model once.
 use probing::sides::Probing;
-use probing::sides::copy;
-use probing::sides::probe_by;
+use probing::sides::probe_marked;
 use propagation::Propagation;
-use propagation::index::fill_signs;
-use propagation::index::fill_steps;
+use propagation::marks::copy_box;
 use propagation::propagate;
 use row::propagation::RowPropagation;
 use row::redundancy::RowRemoval;
@@ -99,9 +97,9 @@ fn same_box(xs: &[i32], ys: &[i32]) -> bool
     true
 }
 
-// An accepted probe, by the index of the rows and the marks of the box, which become those of the box that is left. Where both sides are feasible it changed something if a table byte became 1 or the hull is smaller than the
-// box before, of which a copy is kept.
-pub fn run_probe_by(
+// An accepted probe, by the index of the rows and the marks of the box, which become those of the box that is left. Where both sides
+// are feasible it changed something if a table byte became 1 or the hull is smaller than the box before, of which a copy is kept.
+fn run_probe_marked(
     n: usize,
     m: usize,
     bounds: &mut [i32],
@@ -110,8 +108,8 @@ pub fn run_probe_by(
     table: &mut [u8],
     variable: u32,
     budget: u32,
-    across: &[u8],
-    signs: &[u8],
+    across: &mut [u8],
+    signs: &mut [u8],
     marks: &mut [u8],
 ) -> CallClass
     requires { ⌜ ValidState (stateOf n m (now bounds) (now coefs) (now rhs) (now table)) ⌝ }
@@ -119,12 +117,12 @@ pub fn run_probe_by(
     requires { ⌜ Marked n m (now bounds) (now coefs) (now rhs) (now across) (now signs) (now marks) ⌝ }
     ensures class { λ r. ⌜ classIs r ≡ classOf (stateOf n m (now (bounds .entry)) (now (coefs .entry)) (now (rhs .entry)) (now (table .entry))) (callOf (stateOf n m (now (bounds .entry)) (now (coefs .entry)) (now (rhs .entry)) (now (table .entry))) 3 0 variable budget) ⌝ }
     ensures left { λ r. ⌜ stateOf n m (now (bounds .exit)) (now (coefs .entry)) (now (rhs .entry)) (now (table .exit)) ≡ step (stateOf n m (now (bounds .entry)) (now (coefs .entry)) (now (rhs .entry)) (now (table .entry))) (callOf (stateOf n m (now (bounds .entry)) (now (coefs .entry)) (now (rhs .entry)) (now (table .entry))) 3 0 variable budget) ⌝ }
-    ensures marks { λ r. ⌜ Marked n m (now (bounds .exit)) (now (coefs .entry)) (now (rhs .entry)) (now (across .entry)) (now (signs .entry)) (now (marks .exit)) ⌝ }
+    ensures marks { λ r. ⌜ Marked n m (now (bounds .exit)) (now (coefs .entry)) (now (rhs .entry)) (now (across .exit)) (now (signs .exit)) (now (marks .exit)) ⌝ }
 {
     let len = bounds.len();
     let mut before = [0i32; 256];
-    copy(bounds, &mut before[..len]);
-    match probe_by(
+    copy_box(bounds, &mut before[..len]);
+    match probe_marked(
         n,
         m,
         bounds,
@@ -168,11 +166,9 @@ fn run_probe(
     ensures left { λ r. ⌜ stateOf n m (now (bounds .exit)) (now (coefs .entry)) (now (rhs .entry)) (now (table .exit)) ≡ step (stateOf n m (now (bounds .entry)) (now (coefs .entry)) (now (rhs .entry)) (now (table .entry))) (callOf (stateOf n m (now (bounds .entry)) (now (coefs .entry)) (now (rhs .entry)) (now (table .entry))) 3 0 variable budget) ⌝ }
 {
     let mut across = [0u8; 15360];
-    fill_steps(n, m, coefs, &mut across);
     let mut signs = [0u8; 15360];
-    fill_signs(n, m, coefs, &mut signs);
     let mut marks = [0u8; 120];
-    run_probe_by(
+    run_probe_marked(
         n,
         m,
         bounds,
@@ -181,8 +177,8 @@ fn run_probe(
         table,
         variable,
         budget,
-        &across,
-        &signs,
+        &mut across,
+        &mut signs,
         &mut marks,
     )
 }
@@ -262,21 +258,21 @@ pub fn run_probe_record(
     table: &mut [u8],
     variable: u32,
     budget: u32,
-    across: &[u8],
-    signs: &[u8],
+    across: &mut [u8],
+    signs: &mut [u8],
     marks: &mut [u8],
 ) -> CallClass
     requires { ⌜ ValidState (stateOf n m (now bounds) (now coefs) (now rhs) (now table)) ⌝ }
     requires { ⌜ Marked n m (now bounds) (now coefs) (now rhs) (now across) (now signs) (now marks) ⌝ }
     ensures class { λ r. ⌜ classIs r ≡ classOf (stateOf n m (now (bounds .entry)) (now (coefs .entry)) (now (rhs .entry)) (now (table .entry))) (callOf (stateOf n m (now (bounds .entry)) (now (coefs .entry)) (now (rhs .entry)) (now (table .entry))) 3 0 variable budget) ⌝ }
     ensures left { λ r. ⌜ stateOf n m (now (bounds .exit)) (now (coefs .entry)) (now (rhs .entry)) (now (table .exit)) ≡ step (stateOf n m (now (bounds .entry)) (now (coefs .entry)) (now (rhs .entry)) (now (table .entry))) (callOf (stateOf n m (now (bounds .entry)) (now (coefs .entry)) (now (rhs .entry)) (now (table .entry))) 3 0 variable budget) ⌝ }
-    ensures marks { λ r. ⌜ Marked n m (now (bounds .exit)) (now (coefs .entry)) (now (rhs .entry)) (now (across .entry)) (now (signs .entry)) (now (marks .exit)) ⌝ }
+    ensures marks { λ r. ⌜ Marked n m (now (bounds .exit)) (now (coefs .entry)) (now (rhs .entry)) (now (across .exit)) (now (signs .exit)) (now (marks .exit)) ⌝ }
 {
     let fault = record_fault(n, m, bounds, 3, 0, variable, budget);
     if fault != 0 {
         return CallClass::Refused;
     }
-    run_probe_by(
+    run_probe_marked(
         n,
         m,
         bounds,

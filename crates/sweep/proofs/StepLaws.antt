@@ -1,6 +1,6 @@
 -- What a sweep by steps passes over: a coefficient of 0 adds nothing to the activity and moves no bound.
 use Prim.Native.Nat.{_*_, _+_, _<_, _≤_, suc, zero, ℕ}
-use lib.IntN.{_+ℤ_, +ℤ-idr, pos, zero-*ℤ, ℤ}
+use lib.IntN.{_+ℤ_, +ℤ-idr, pos, ℤ}
 use lib.ListN.{getD, set}
 use lib.Seq.{set-getD}
 use lib.Signed.{≤ℤ-refl}
@@ -8,16 +8,17 @@ use mathlib.Core.Bool.{Bool, _&&_, false, not, true}
 use mathlib.Core.List.{List}
 use mathlib.Core.Path.{_∙_, _≡_, ap, ap₂, refl, sym}
 use native.Mathlib.Decide.{ℕ-discrete}
+use native.Mathlib.Numerals.{add-one}
 use native.Mathlib.Omega.{arith}
 use Rattle.integer.specs.Index.{all, sum}
 use Rattle.integer.proofs.Tests.{T→true}
 use Rattle.model.specs.Box.{at, lower, upper, withBounds}
 use Rattle.model.proofs.BoxLoops.{writeTo, writeTo-late}
-use Rattle.row.specs.Activity.{minTerm}
+use Rattle.row.specs.Activity.{greatest}
 use Rattle.row.specs.Propagation.{newLower, newUpper, staysAt}
 use Rattle.sweep.specs.Steps.{Steps}
-use Rattle.row.proofs.ActivityLaws.{minTerm-nonpos}
 use Rattle.row.proofs.BoundLaws.{eq→stays, newLower-nonneg, newUpper-nonpos}
+use Rattle.row.proofs.ReachLaws.{greatest-zero, minTerm-zero, minTermAt, termWidth-zero, widthAt}
 use Rattle.row.proofs.RowLoops.{movedTo, tightenTo}
 
 -- ---- sums, boxes and tests over a stretch where nothing happens
@@ -61,6 +62,14 @@ write-skip f g B i (suc k) h z = go (ℕ-discrete i (suc k)) (λ (q : i ≤ k). 
         r (omega arith) ∙ sym (same-bounds (writeTo k f g B) k
         (w .0 ∙ sym (writeTo-late f g B k (2 * k) (omega arith))) (w .1 ∙ sym (writeTo-late f g B k (2 * k + 1) (omega arith))))
 
+greatest-skip : (f : ℕ → ℤ) (i k : ℕ) → i ≤ k → ((j : ℕ) → i ≤ j → j < k → f j ≡ pos 0) → greatest i f ≡ greatest k f
+greatest-skip f i zero h z = ap (λ (q : ℕ). greatest q f) (let e : i ≡ 0 = omega arith in e)
+greatest-skip f i (suc k) h z = go (ℕ-discrete i (suc k)) (λ (q : i ≤ k). greatest-skip f i k q (λ j a b. z j a (omega arith)))
+  where
+    go : Dec (i ≡ suc k) → (i ≤ k → greatest i f ≡ greatest k f) → greatest i f ≡ greatest (suc k) f
+    go (yes e) r = ap (λ (q : ℕ). greatest q f) e
+    go (no ne) r = r (omega arith) ∙ greatest-zero f k (z k (omega arith) (omega arith)) ∙ ap (λ (q : ℕ). greatest q f) (add-one k)
+
 -- ---- a step of a row
 
 module _ {n : ℕ} {A : List ℤ} {S : List ℕ} (v : Steps n A S) {j : ℕ} (h : j < n) where
@@ -70,9 +79,11 @@ module _ {n : ℕ} {A : List ℤ} {S : List ℕ} (v : Steps n A S) {j : ℕ} (h 
   zero-between : (k : ℕ) → j + 1 ≤ k → k < j + getD S j 0 → at A k ≡ pos 0
   zero-between k a b = v .zeros j h k (omega arith) b
 
-  pub step-sum : (B : List ℤ) → sum (j + 1) (λ k. minTerm (at A k) (lower B k) (upper B k)) ≡ sum (j + getD S j 0) (λ k. minTerm (at A k) (lower B k) (upper B k))
-  step-sum B = sum-skip _ (j + 1) (j + getD S j 0) at-least-one
-      (λ k a b. rw (zero-between k a b) (minTerm-nonpos (pos 0) (lower B k) (upper B k) (≤ℤ-refl (pos 0)) ∙ zero-*ℤ (upper B k)))
+  pub step-sum : (B : List ℤ) → sum (j + 1) (minTermAt A B) ≡ sum (j + getD S j 0) (minTermAt A B)
+  step-sum B = sum-skip _ (j + 1) (j + getD S j 0) at-least-one (λ k a b. rw (zero-between k a b) (minTerm-zero (lower B k) (upper B k)))
+
+  pub step-widest : (B : List ℤ) → greatest (j + 1) (widthAt A B) ≡ greatest (j + getD S j 0) (widthAt A B)
+  step-widest B = greatest-skip _ (j + 1) (j + getD S j 0) at-least-one (λ k a b. rw (zero-between k a b) (termWidth-zero (lower B k) (upper B k)))
 
   module _ (b L : ℤ) (B : List ℤ) where
     low-stays : (k : ℕ) → j + 1 ≤ k → k < j + getD S j 0 → newLower (at A k) b L (lower B k) (upper B k) ≡ lower B k

@@ -1,30 +1,51 @@
 // Propagate a row (01's visit) by its steps: each sweep passes over the coefficients that are 0, which add nothing and move nothing.
+use row::activity::Reach;
 use row::activity::term;
+use row::activity::wider;
 use row::propagation::RowPropagation;
 use row::propagation::tighten_bounds_at;
 ghost use mathlib.Core.Bool.{not};
 ghost use mathlib.Core.Path.{_≡_};
 ghost use lib.ListN.{length};
 ghost use Rattle.integer.specs.Index.{all};
-ghost use Rattle.row.specs.Activity.{minActivity};
+ghost use Rattle.row.specs.Activity.{minActivity, widestTerm};
 ghost use Rattle.row.specs.Answers.{propagationOutcome};
-ghost use Rattle.row.specs.Propagation.{impliedBox, staysAt, propagateRow};
+ghost use Rattle.row.specs.Propagation.{impliedBox, staysAt, propagateRow, rowMoves};
 ghost use Rattle.sweep.specs.Steps.{Steps};
 ghost use Rattle.row.specs.ValidRow.{ValidCoefs, ValidRow, Propagates};
 
-// Lmin.
-fn minimum_activity_by(coefs: &[i32], steps: &[u8], bounds: &[i32]) -> i64
+// Lmin and the width of the widest term.
+fn reach_by(coefs: &[i32], steps: &[u8], bounds: &[i32]) -> Reach
     requires { ⌜ ValidCoefs (length (now coefs)) (now coefs) (now bounds) ⌝ }
     requires { ⌜ Steps (length (now coefs)) (now coefs) (now steps) ⌝ }
-    ensures { λ r. ⌜ r ≡ minActivity (length (now (coefs .entry))) (now (coefs .entry)) (now (bounds .entry)) ⌝ }
+    ensures least { λ r. ⌜ r .least ≡ minActivity (length (now (coefs .entry))) (now (coefs .entry)) (now (bounds .entry)) ⌝ }
+    ensures widest { λ r. ⌜ r .widest ≡ widestTerm (length (now (coefs .entry))) (now (coefs .entry)) (now (bounds .entry)) ⌝ }
 {
-    let mut sum: i64 = 0;
+    let mut least: i64 = 0;
+    let mut widest: i64 = 0;
     let mut j: usize = 0;
     while j < coefs.len() {
-        sum += term(coefs[j], bounds[2 * j], bounds[2 * j + 1]);
+        let a = coefs[j];
+        let low = bounds[2 * j];
+        let high = bounds[2 * j + 1];
+        least += term(a, low, high);
+        widest = wider(widest, a, low, high);
         j += steps[j] as usize;
     }
-    sum
+    Reach { least, widest }
+}
+
+// Whether propagating the row would answer other than Unchanged; nothing is written.
+pub fn moves_by(coefs: &[i32], steps: &[u8], b: i32, bounds: &[i32]) -> bool
+    requires { ⌜ ValidRow (length (now coefs)) (now coefs) b (now bounds) ⌝ }
+    requires { ⌜ Steps (length (now coefs)) (now coefs) (now steps) ⌝ }
+    ensures { λ r. ⌜ r ≡ rowMoves (length (now (coefs .entry))) (now (coefs .entry)) b (now (bounds .entry)) ⌝ }
+{
+    if model::is_empty(bounds) {
+        return true;
+    }
+    let r = reach_by(coefs, steps, bounds);
+    (b as i64) - r.least < r.widest
 }
 
 // Gives each variable the bounds that the row implies, and says whether one moved.
@@ -56,7 +77,11 @@ pub fn propagate_row_by(coefs: &[i32], steps: &[u8], b: i32, bounds: &mut [i32])
         return RowPropagation::Infeasible;
     }
     let rhs = b as i64;
-    let least = minimum_activity_by(coefs, steps, bounds);
+    let r = reach_by(coefs, steps, bounds);
+    let least = r.least;
+    if r.widest <= rhs - least {
+        return RowPropagation::Unchanged;
+    }
     if rhs < least {
         model::make_empty(bounds);
         return RowPropagation::Infeasible;

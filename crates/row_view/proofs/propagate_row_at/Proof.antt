@@ -50,6 +50,7 @@ use Rattle.row_view.specs.declared.Row.{Row}
 use Rattle.row.proofs.propagation.RowPropagation as S
 use Rattle.row.proofs.propagation.RowPropagation.Laws as S′
 use Rattle.row_view.proofs.Clauses.{tells}
+use Rattle.row_view.proofs.ViewLaws.{view-told, view-valid}
 use Rattle.row_view.proofs.Row as T
 use Rattle.row_view.proofs.Row.Laws as T′
 use Rattle.row_view.proofs.row_at as made
@@ -67,16 +68,6 @@ use Rattle.row_view.proofs.propagate_row_at.Code as code
 
 abbrev stayed : Stays (plain-row.ended .signature .params) (plain-row.ended .kept)
 stayed = (stay-none (λ _. usize) yes, (stay-none-slice (0 ∷ []) tt (plain (λ _. i32)) yes, (stay-none-slice (1 ∷ []) tt (plain (λ _. i32)) yes, (stay-none (λ _. usize) yes, (gave-slice (2 ∷ []) tt (plain (λ _. i32)), tt)))))
-
--- what is asked and told of the view d, whose coefficients are the row A and whose right side is b
-module _ {n : ℕ} {A : List ℤ} {b : ℤ} {B : List ℤ} (valid : ValidRow n A b B) (d : Row) (e : (now (d .coefs) ≡ A) × (d .b ≡ b)) where
-  view-valid : ValidRow (length (now (d .coefs))) (now (d .coefs)) (d .b) B
-  view-valid = rw (e .0, e .1, valid .coefs .len) valid
-
-  view-told : (r : RowPropagation) {zs : List ℤ}
-      → (propagationOutcome r ≡ propagateRow (length (now (d .coefs))) (now (d .coefs)) (d .b) B .outcome) × (zs ≡ propagateRow (length (now (d .coefs))) (now (d .coefs)) (d .b) B .box)
-      → (propagationOutcome r ≡ propagateRow n A b B .outcome) × (zs ≡ propagateRow n A b B .box)
-  view-told r t = rw (e .0, e .1, valid .coefs .len) at t
 
 module _ {M : Type 1} (𝓤 : URA M) (H : Heap 𝓤) (A : Atoms 𝓤) (mem : Memory → SProp 𝓤) (run : Routine → Fun 𝓤) where
   -- the contracts that the proof cites

@@ -1,5 +1,4 @@
--- `step::run_probe_record`: in a valid state the record's own checks alone say whether the call is refused; else it is run.
--- Assumes nothing.
+-- `step::run_probe_record`: a refused record changes nothing, and an accepted one is run. Assumes nothing.
 use mathlib.Core.Path.{_∙_, _≡_, refl, sym}
 use Rattle.semantics.specs.CallChecks.{callFault, recordChecks}
 use Rattle.semantics.specs.State.{Call, callOf, State, stateOf}
@@ -9,10 +8,6 @@ use Rattle.step.specs.Classes.{classIs}
 use borrow.Author.Needs.{needs}
 use Rattle.step.proofs.run_probe_record.Statement.{statement}
 use Rattle.step.proofs.run_probe_record.Tie as tie
-use Rattle.step.proofs.run_probe_record.Reads as reads
-use Rattle.step.proofs.run_probe_record.Lts as lts
-use Rattle.step.proofs.checks.record_fault.Reads as record-fault-reads
-use Rattle.step.proofs.run_probe_by.Reads as run-probe-by-reads
 
 abbrev state : tie.Start → State
 state s = let a = s .args in stateOf (a .n) (a .m) (a .bounds .now) (a .coefs .now) (a .rhs .now) (a .table .now)
@@ -39,10 +34,10 @@ returns c =
     let w = class-refused (state s) (call s) (λ e. c .if1 .taken (fault-is (c .before) ∙ e)) in
     (w .0, (w .1, s .pre .1))
 
-run-probe-by-requires : tie.Need-run-probe-by-requires
-run-probe-by-requires c κs =
-    let e = c .before .before .before in
-    let s = e .before .before .before .before .before .before .before in
+run-probe-marked-requires : tie.Need-run-probe-marked-requires
+run-probe-marked-requires c κs =
+    let e = c .before .before .before .before .before in
+    let s = c .before .before .before .before .before .before .before .before .before .before .before .before in
     (s .pre .0, (sym (fault-is (e .before)) ∙ e .if1 .left, s .pre .1))
 
 same-length-2 : tie.Need-same-length-2
@@ -54,8 +49,14 @@ same-length-3 c = search needs
 same-length-4 : tie.Need-same-length-4
 same-length-4 c = search needs
 
+same-length-5 : tie.Need-same-length-5
+same-length-5 c = search needs
+
+same-length-6 : tie.Need-same-length-6
+same-length-6 c = search needs
+
 returns-2 : tie.Need-returns-2
-returns-2 c = search needs
+returns-2 c = c .before .before .before .before .before .before .before .before .before .run-probe-marked .ensures
 
 pub run-probe-record-spec : {M : Type 1} → statement M
 run-probe-record-spec =
@@ -64,8 +65,10 @@ run-probe-record-spec =
     record-fault-requires
     same-length
     returns
-    run-probe-by-requires
+    run-probe-marked-requires
     same-length-2
     same-length-3
     same-length-4
+    same-length-5
+    same-length-6
     returns-2)

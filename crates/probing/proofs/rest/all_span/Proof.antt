@@ -1,72 +1,58 @@
--- `probing::rest::all_span`: the loop has passed the free variables below k whose sides span the box. Assumes nothing.
+-- `probing::rest::all_span`: the loop has passed the variables below k. Assumes nothing.
 use Prim.Native.Nat.{_-_, _≤_, ℕ}
 use lib.IntN.{ℤ}
-use mathlib.Core.Bool.{Bool, _||_, false, not, true}
+use lib.ListN.{length}
+use mathlib.Core.Bool.{Bool, _||_, not, true}
 use mathlib.Core.List.{List}
-use mathlib.Core.Logic.{⊎-elim}
 use mathlib.Core.Path.{_∙_, _≡_, refl, sym}
 use native.Mathlib.Omega.{arith}
 use Rattle.integer.specs.Index.{all}
 use Rattle.integer.proofs.IndexLaws.{all-false, all-next}
-use Rattle.integer.proofs.Tests.{told-false, told-true, true→T}
+use Rattle.integer.proofs.Tests.{told-false, told-true}
 use Rattle.model.specs.Box.{isFree}
+use Rattle.propagation.specs.Index.{Index}
 use Rattle.semantics.specs.RestTest.{sidesSpan}
 use Rattle.probing.proofs.rest.all_span.Statement.{statement}
 use Rattle.probing.proofs.rest.all_span.Tie as tie
-use Rattle.probing.proofs.rest.all_span.Reads as reads
-use Rattle.probing.proofs.rest.all_span.Lts as lts
-use Rattle.probing.proofs.is_free.Reads as is-free-reads
-use Rattle.probing.proofs.rest.sides_span.Reads as sides-span-reads
 
 abbrev spans : ℕ → ℕ → List ℤ → List ℤ → List ℤ → ℕ → Bool
 spans n m C R B k = not (isFree B k) || sidesSpan n m C R B k
 
 abbrev Inv-loop : tie.InvT-loop
-Inv-loop n m bounds coefs rhs across signs marks k₀ k = (k ≤ n) × (all k (spans n m coefs rhs bounds) ≡ true)
+Inv-loop n m bounds coefs rhs across₀ signs₀ marks k₀ across signs k =
+    (k ≤ n)
+    × (all k (spans n m coefs rhs bounds) ≡ true)
+    × Index n m coefs across signs
+    × (length across ≡ length across₀)
+    × (length signs ≡ length signs₀)
 
 abbrev μ-loop : tie.MeasureT-loop
-μ-loop n m bounds coefs rhs across signs marks k₀ k = n - k
+μ-loop n m bounds coefs rhs across₀ signs₀ marks k₀ across signs k = n - k
 
--- where the loop is
-module _ (c : tie.At-loop Inv-loop μ-loop) where
-  abbrev here : tie.Start Inv-loop μ-loop
-  here = c .before .before .before .before
-
-  abbrev n : ℕ
-  n = here .args .n
-
-  abbrev m : ℕ
-  m = here .args .m
-
-  abbrev B : List ℤ
-  B = here .args .bounds .now
-
-  abbrev C : List ℤ
-  C = here .args .coefs .now
-
-  abbrev R : List ℤ
-  R = here .args .rhs .now
+-- the test of each variable
+abbrev test : tie.Start Inv-loop μ-loop → ℕ → Bool
+test s = let a = s .args in spans (a .n) (a .m) (a .coefs .now) (a .rhs .now) (a .bounds .now)
 
 loop-holds : tie.Need-loop-holds Inv-loop μ-loop
 unfolding all
-loop-holds c = (omega arith, refl)
+loop-holds c = (omega arith, refl, c .before .before .before .pre .1 .index, refl, refl)
 
-is-free-requires : tie.Need-is-free-requires Inv-loop μ-loop
-is-free-requires c κs = omega (arith, here (c .before) .pre .0 .box .len)
+spans-at-requires : tie.Need-spans-at-requires Inv-loop μ-loop
+spans-at-requires c κs =
+    let p = c .before .before .before .before .before .before .before .pre in
+    (p .0, (c .before .before .loop-test .taken, record { index = c .before .before .before .loop .inv .2; clean = p .1 .clean; len = p .1 .len }))
 
-sides-span-requires : tie.Need-sides-span-requires Inv-loop μ-loop
-sides-span-requires c κs =
-    let h = c .before .before .before in
-    let p = here h .pre in
-    (p .0, (true→T (isFree (B h) (h .loop .k)) (sym (c .before .is-free .ensures) ∙ c .if1 .taken), (c .before .before .loop-test .taken, p .1)))
+same-length : tie.Need-same-length Inv-loop μ-loop
+same-length c = c .before .before .before .before .before .spans-at .kept .1 .1 .1 .1 .1 .1 .0 ∙ c .before .before .before .before .before .before .before .before .before .loop .inv .3
+
+same-length-2 : tie.Need-same-length-2 Inv-loop μ-loop
+same-length-2 c = c .before .before .before .before .before .spans-at .kept .1 .1 .1 .1 .1 .1 .1 .0 ∙ c .before .before .before .before .before .before .before .before .before .loop .inv .4
 
 returns : tie.Need-returns Inv-loop μ-loop
 returns c =
-    let t = c .before .before in
-    let h = t .before .before .before in
-    let e : spans (n h) (m h) (C h) (R h) (B h) (h .loop .k) ≡ false =
-    rw (sym (t .before .is-free .ensures) ∙ t .if1 .taken, told-false {b = sidesSpan (n h) (m h) (C h) (R h) (B h) (h .loop .k)} _ (c .before .sides-span .ensures) (c .if2 .taken)) in
-    sym (all-false (n h) (spans (n h) (m h) (C h) (R h) (B h)) (h .loop .k) (t .before .before .loop-test .taken) e)
+    let s = c .before .before .before .before .before .before .before .before .before .before .before .before .before in
+    let k = c .before .before .before .before .before .before .before .before .before .loop .k in
+    sym (all-false (s .args .n) (test s) k (c .before .before .before .before .before .before .before .before .loop-test .taken) (told-false {b = test s k} _ (c .before .before .before .before .before .spans-at .ensures .0) (c .if1 .taken)))
 
 add-k : tie.Need-add-k Inv-loop μ-loop
 add-k c = omega arith
@@ -76,19 +62,27 @@ loop-less c = omega arith
 
 loop-again : tie.Need-loop-again Inv-loop μ-loop
 loop-again c =
-    let d = c .before in
-    let h = d .before .before in (
+    let s = c .before .before .before .before .before .before .before .before .before .before .before .before .before in
+    let h = c .before .before .before .before .before .before .before .before .before .loop in
+    let call = c .before .before .before .before .before .spans-at in (
       omega arith,
-      all-next (spans (n h) (m h) (C h) (R h) (B h)) (h .loop .k) (h .loop .inv .1) (⊎-elim
-          (λ w. rw (sym (d .is-free .ensures) ∙ w .0 .taken, told-true {b = sidesSpan (n h) (m h) (C h) (R h) (B h) (h .loop .k)} _ (w .1 .ensures) (w .2 .left)))
-          (λ w. rw (sym (d .is-free .ensures) ∙ w .left))
-          (c .if1 .came)),
+      all-next (test s) (h .k) (h .inv .1) (told-true {b = test s (h .k)} _ (call .ensures .0) (c .if1 .left)),
+      call .ensures .1,
+      call .kept .1 .1 .1 .1 .1 .1 .0 ∙ h .inv .3,
+      call .kept .1 .1 .1 .1 .1 .1 .1 .0 ∙ h .inv .4,
     )
+
+same-length-3 : tie.Need-same-length-3 Inv-loop μ-loop
+same-length-3 c = c .before .loop .inv .3
+
+same-length-4 : tie.Need-same-length-4 Inv-loop μ-loop
+same-length-4 c = c .before .loop .inv .4
 
 returns-2 : tie.Need-returns-2 Inv-loop μ-loop
 returns-2 c =
+    let s = c .before .before .before .before .before in
     let h = c .before in
-    let e : h .loop .k ≡ n h = omega arith in
+    let e : h .loop .k ≡ s .args .n = omega arith in
     sym (rw e at (h .loop .inv .1))
 
 pub all-span-spec : {M : Type 1} → statement M
@@ -98,10 +92,13 @@ all-span-spec =
     Inv-loop
     μ-loop
     loop-holds
-    is-free-requires
-    sides-span-requires
+    spans-at-requires
+    same-length
+    same-length-2
     returns
     add-k
     loop-less
     loop-again
+    same-length-3
+    same-length-4
     returns-2)

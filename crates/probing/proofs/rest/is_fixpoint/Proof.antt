@@ -1,90 +1,86 @@
--- `probing::rest::is_fixpoint`: the copy is the box, and a box is a fixpoint exactly if its first pass converges (`fixpoint-converges`).
--- Assumes nothing.
-use borrow.Author.Needs.{needs}
+-- `probing::rest::is_fixpoint`: the loop has passed the rows below r, which move nothing. Assumes nothing.
+use Prim.Native.Nat.{_-_, _≤_, ℕ}
 use lib.IntN.{ℤ}
-use lib.ListN.{drop, length, take}
-use mathlib.Core.Bool.{Bool}
-use mathlib.Core.List.{List, _++_}
-use mathlib.Core.Path.{_∙_, _≡_, ap, sym}
-use Rattle.semantics.specs.Propagate.{Propagation, propagate}
+use mathlib.Core.Bool.{Bool, true}
+use mathlib.Core.List.{List}
+use mathlib.Core.Path.{_∙_, _≡_, refl, sym}
+use native.Mathlib.Omega.{arith}
+use Rattle.integer.specs.Index.{all}
+use Rattle.integer.proofs.IndexLaws.{all-false, all-next}
+use Rattle.model.specs.Box.{at, sameList}
+use Rattle.model.specs.Point.{rowOf}
+use Rattle.row.specs.Propagation.{propagateRow}
 use Rattle.semantics.specs.RestTest.{isFixpoint}
-use Rattle.propagation.specs.Results.{propagationOf}
-use Rattle.propagation.specs.declared.Propagation as code
-use Rattle.probing.proofs.LocalBox.{blank, box-room, held, held-fits, held-length}
-use Rattle.probing.proofs.RestLaws.{fixpoint-converges, isConverged, not-converged}
+use Rattle.propagation.proofs.PropagationLoops.{row-in, valid-row}
+use Rattle.probing.proofs.RestLaws.{row-moved, row-stays}
 use Rattle.probing.proofs.rest.is_fixpoint.Statement.{statement}
 use Rattle.probing.proofs.rest.is_fixpoint.Tie as tie
 
-array-borrow-prefix-box-copy : tie.Need-array-borrow-prefix-box-copy
-array-borrow-prefix-box-copy c = search needs
+abbrev stays : ℕ → List ℤ → List ℤ → List ℤ → ℕ → Bool
+stays n C R B i = sameList (propagateRow n (rowOf n C i) (at R i) B .box) B
 
-slice-aggregate-copy : tie.Need-slice-aggregate-copy
-slice-aggregate-copy c = sym (box-room (c .before .pre .0))
+abbrev Inv-loop : tie.InvT-loop
+Inv-loop n m bounds coefs rhs r₀ r = (r ≤ m) × (all r (stays n coefs rhs bounds) ≡ true)
 
-copy-requires : tie.Need-copy-requires
-copy-requires c κs = sym (box-room (c .before .pre .0))
+abbrev μ-loop : tie.MeasureT-loop
+μ-loop n m bounds coefs rhs r₀ r = m - r
 
--- the array's front is the box
-module _ (c : tie.After-copy) where
-  abbrev B : List ℤ
-  B = c .before .before .args .bounds .now
+loop-holds : tie.Need-loop-holds Inv-loop μ-loop
+unfolding all
+loop-holds c = (omega arith, refl)
 
-  abbrev P : List ℤ
-  P = c .copy .last .1 .0
+row-moves-requires : tie.Need-row-moves-requires Inv-loop μ-loop
+row-moves-requires c κs =
+    let s = c .before .before in
+    let h = c .before in
+    let v = s .pre .0 in
+    let k = c .loop-test .taken in
+    (row-in v (h .loop .r) k, valid-row v (h .loop .r) k (v .box))
 
-  copied : P ≡ B
-  copied = c .copy .ensures
+returns : tie.Need-returns Inv-loop μ-loop
+unfolding isFixpoint
+returns c =
+    let s = c .before .before .before .before in
+    let a = s .args in
+    let h = c .before .before .before in
+    let i = h .loop .r in
+    sym (all-false (a .m) (stays (a .n) (a .coefs .now) (a .rhs .now) (a .bounds .now)) i (c .before .before .loop-test .taken)
+    (row-moved (a .n) (rowOf (a .n) (a .coefs .now) i) (at (a .rhs .now) i) (a .bounds .now) (s .pre .0 .some) (s .pre .1) (sym (c .before .row-moves .ensures) ∙ c .if1 .taken)))
 
-  copied-length : length P ≡ length B
-  copied-length = ap length copied
+add-r : tie.Need-add-r Inv-loop μ-loop
+add-r c = omega arith
 
-  front : take (length B) (P ++ drop (length B) blank) ≡ B
-  front = held P (length B) copied-length ∙ copied
+loop-less : tie.Need-loop-less Inv-loop μ-loop
+loop-less c = omega arith
 
-array-borrow-prefix-box-copy-2 : tie.Need-array-borrow-prefix-box-copy-2
-array-borrow-prefix-box-copy-2 c = held-fits (P (c .before)) (length (B (c .before))) (copied-length (c .before))
+loop-again : tie.Need-loop-again Inv-loop μ-loop
+loop-again c =
+    let s = c .before .before .before .before in
+    let a = s .args in
+    let h = c .before .before .before in
+    let i = h .loop .r in (
+      omega arith,
+      all-next (stays (a .n) (a .coefs .now) (a .rhs .now) (a .bounds .now)) i (h .loop .inv .1)
+          (row-stays (a .n) (rowOf (a .n) (a .coefs .now) i) (at (a .rhs .now) i) (a .bounds .now) (s .pre .0 .box .len) (sym (c .before .row-moves .ensures) ∙ c .if1 .left)),
+    )
 
-slice-aggregate-propagate : tie.Need-slice-aggregate-propagate
-slice-aggregate-propagate c = sym (held-length (P (c .before .before)) (length (B (c .before .before))) (copied-length (c .before .before)))
-
-propagate-requires : tie.Need-propagate-requires
-propagate-requires c κs = rw (front (c .before .before)) (c .before .before .before .before .pre .0)
-
-enum-told : tie.Need-enum-told
-enum-told c = search needs
-
--- what its first pass says
-module _ (c : tie.After-propagate) where
-  abbrev s : tie.Start
-  s = c .before .before .before .before .before
-
-  abbrev fixed : Bool
-  fixed = isFixpoint (s .args .n) (s .args .m) (s .args .coefs .now) (s .args .rhs .now) (s .args .bounds .now)
-
-  told : isConverged (propagationOf (c .propagate .result) (c .propagate .last .1 .1 .0) .ending) ≡ fixed
-  told = ap (λ (p : Propagation). isConverged (p .ending)) (c .propagate .ensures)
-      ∙ ap (λ (X : List ℤ). isConverged (propagate 1 (s .args .n) (s .args .m) (s .args .coefs .now) (s .args .rhs .now) X .ending)) (front (c .before .before .before))
-      ∙ sym (fixpoint-converges (s .args .n) (s .args .m) (s .args .coefs .now) (s .args .rhs .now) (s .args .bounds .now) (s .pre .0 .some) (s .pre .1))
-
-returns : tie.Need-returns
-returns c = sym (not-converged _ _ (c .match .keys2)) ∙ told (c .before .before)
-
-returns-2 : tie.Need-returns-2
-unfolding propagationOf isConverged
+returns-2 : tie.Need-returns-2 Inv-loop μ-loop
+unfolding isFixpoint
 returns-2 c =
-    let d = c .before .before .before in
-    sym (ap (λ (p : code.Propagation). isConverged (propagationOf p (d .propagate .last .1 .1 .0) .ending)) (c .enum-told .given .1)) ∙ told d
+    let h = c .before in
+    let e : h .loop .r ≡ c .before .before .args .m = omega arith in
+    sym (rw e at (h .loop .inv .1))
 
 pub is-fixpoint-spec : {M : Type 1} → statement M
 is-fixpoint-spec =
     tie.close
     (tie.spec
-    array-borrow-prefix-box-copy
-    slice-aggregate-copy
-    copy-requires
-    array-borrow-prefix-box-copy-2
-    slice-aggregate-propagate
-    propagate-requires
-    enum-told
+    Inv-loop
+    μ-loop
+    loop-holds
+    row-moves-requires
     returns
+    add-r
+    loop-less
+    loop-again
     returns-2)

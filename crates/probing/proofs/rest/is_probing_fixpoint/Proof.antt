@@ -1,18 +1,13 @@
 -- `probing::rest::is_probing_fixpoint`: its tests are the definition's. Assumes nothing.
 use mathlib.Core.Bool.{false}
 use mathlib.Core.Path.{_∙_, _≡_, sym}
-use Rattle.integer.proofs.Tests.{false→T, told-false, told-true}
+use Rattle.integer.proofs.Tests.{false→T, told-false, told-true, true→T}
 use Rattle.model.specs.Box.{isEmpty}
 use Rattle.row.proofs.ImpliedBoxLaws.{valid-nonEmpty}
 use Rattle.semantics.specs.RestTest.{isProbingFixpoint}
 use borrow.Author.Needs.{needs}
 use Rattle.probing.proofs.rest.is_probing_fixpoint.Statement.{statement}
 use Rattle.probing.proofs.rest.is_probing_fixpoint.Tie as tie
-use Rattle.probing.proofs.rest.is_probing_fixpoint.Reads as reads
-use Rattle.probing.proofs.rest.is_probing_fixpoint.Lts as lts
-use Rattle.model.proofs.is_empty.Reads as is-empty-reads
-use Rattle.probing.proofs.rest.every_side_spans.Reads as every-side-spans-reads
-use Rattle.probing.proofs.rest.is_fixpoint.Reads as is-fixpoint-reads
 
 is-empty-requires : tie.Need-is-empty-requires
 is-empty-requires c κs = search needs
@@ -42,7 +37,10 @@ unfolding isProbingFixpoint
 returns-2 c = rw (some (c .before .before), told-false _ (c .before .is-fixpoint .ensures) (c .if2 .taken))
 
 every-side-spans-requires : tie.Need-every-side-spans-requires
-every-side-spans-requires c κs = search needs
+every-side-spans-requires c κs =
+    let p = s (c .before .before .before) .pre in
+    let n = valid-nonEmpty (p .box) (false→T _ (some (c .before .before))) in
+    (p, (n, true→T _ (told-true _ (c .before .is-fixpoint .ensures) (c .if2 .left))))
 
 returns-3 : tie.Need-returns-3
 unfolding isProbingFixpoint

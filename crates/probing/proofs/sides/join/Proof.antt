@@ -115,8 +115,8 @@ survives-one c =
 survivor-requires : tie.Need-survivor-requires
 survivor-requires c κs = search needs
 
-copy-requires : tie.Need-copy-requires
-copy-requires c κs = ap length (survives-zero (c .before)) ∙ length-zero (c .before .before .before .before .before .before .before .before)
+copy-box-requires : tie.Need-copy-box-requires
+copy-box-requires c κs = ap length (survives-zero (c .before)) ∙ length-zero (c .before .before .before .before .before .before .before .before)
 
 same-length-3 : tie.Need-same-length-3
 same-length-3 c = search needs
@@ -130,7 +130,7 @@ returns-2 c =
     rw (← (s .pre .boxLen))
     (joins-zero (a .n) (a .k) (a .bounds .now) (a .table .now) (a .s0) (a .s1) (zero s) (one s) _ _ (o .before .side-of .ensures) (o .side-of2 .ensures)
     (is-some (a .s0) (zero s) (v .before .before .before .match .keys2)) (is-none (one s) (v .before .enum-told2 .given .1))
-    (c .before .copy .ensures ∙ survives-zero v))
+    (c .before .copy-box .ensures ∙ survives-zero v))
 
 enum-told-3 : tie.Need-enum-told-3
 enum-told-3 c = search needs
@@ -138,8 +138,8 @@ enum-told-3 c = search needs
 survivor-requires-2 : tie.Need-survivor-requires-2
 survivor-requires-2 c κs = search needs
 
-copy-requires-2 : tie.Need-copy-requires-2
-copy-requires-2 c κs = ap length (survives-one (c .before)) ∙ length-one (c .before .before .before .before .before .before .before .before)
+copy-box-requires-2 : tie.Need-copy-box-requires-2
+copy-box-requires-2 c κs = ap length (survives-one (c .before)) ∙ length-one (c .before .before .before .before .before .before .before .before)
 
 same-length-4 : tie.Need-same-length-4
 same-length-4 c = search needs
@@ -153,7 +153,7 @@ returns-3 c =
     rw (← (s .pre .boxLen))
     (joins-one (a .n) (a .k) (a .bounds .now) (a .table .now) (a .s0) (a .s1) (zero s) (one s) _ _ (o .before .side-of .ensures) (o .side-of2 .ensures)
     (is-none (zero s) (v .before .before .enum-told .given .1)) (is-some (a .s1) (one s) (v .before .match3 .keys2))
-    (c .before .copy2 .ensures ∙ survives-one v))
+    (c .before .copy-box2 .ensures ∙ survives-one v))
 
 make-empty-requires : tie.Need-make-empty-requires
 make-empty-requires c κs = search needs
@@ -190,12 +190,12 @@ join-spec =
     same-length-2
     returns
     survivor-requires
-    copy-requires
+    copy-box-requires
     same-length-3
     returns-2
     enum-told-3
     survivor-requires-2
-    copy-requires-2
+    copy-box-requires-2
     same-length-4
     returns-3
     make-empty-requires

@@ -9,8 +9,6 @@ use mir.Val.{SFits}
 use Rattle.propagation.specs.Index.{signOf}
 use Rattle.propagation.proofs.index.sign.Statement.{statement}
 use Rattle.propagation.proofs.index.sign.Tie as tie
-use Rattle.propagation.proofs.index.sign.Reads as reads
-use Rattle.propagation.proofs.index.sign.Lts as lts
 
 abbrev a-fits : (s : tie.Start) → SFits w32 (s .args .a)
 a-fits s = s .fits .a

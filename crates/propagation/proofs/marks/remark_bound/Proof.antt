@@ -1,4 +1,6 @@
--- `propagation::marks::remark_bound`: a number that did not move is written by nothing. Assumes nothing.
+-- `propagation::marks::remark_bound`: a number that did not move is written by nothing; where it moved, the column's signs say which rows read
+-- it. Assumes nothing.
+use borrow.Author.Needs.{needs}
 use lib.IntN.{pos, ℤ}
 use lib.ListN.{set}
 use lib.Seq.{set-getD}
@@ -6,14 +8,12 @@ use mathlib.Core.Path.{_∙_, _≡_, ap, sym}
 use mir.Facts.{toZ-ofZ}
 use mir.Syntax.{w32}
 use mir.Val.{SFits}
+use native.Mathlib.Omega.{arith}
 use Rattle.integer.proofs.Reading.{eq-read}
 use Rattle.model.specs.Box.{at}
-use borrow.Author.Needs.{needs}
+use Rattle.propagation.proofs.IndexLoops.{column-end, column-start}
 use Rattle.propagation.proofs.marks.remark_bound.Statement.{statement}
 use Rattle.propagation.proofs.marks.remark_bound.Tie as tie
-use Rattle.propagation.proofs.marks.remark_bound.Reads as reads
-use Rattle.propagation.proofs.marks.remark_bound.Lts as lts
-use Rattle.propagation.proofs.marks.unmark.Reads as unmark-reads
 
 mul-z : tie.Need-mul-z
 mul-z c = search needs
@@ -33,10 +33,16 @@ returns c =
     let f : SFits w32 (at (s .args .old .now) (s .args .q)) = record { sfits = c .before .if12 .given } in
     let g : SFits w32 (at (s .args .new .now) (s .args .q)) = record { sfits = c .before .before .z .given } in
     let e : at (s .args .old .now) (s .args .q) ≡ at (s .args .new .now) (s .args .q) = eq-read w32 f g (c .if1 .taken) in
-    (sym (rw (← e) (set-getD (s .args .old .now) (s .args .q) (pos 0))), (λ r h k. (k, λ _. sym e)))
+    (sym (rw (← e) (set-getD (s .args .old .now) (s .args .q) (pos 0))), ((λ r h k. (k, λ _. sym e)), s .pre .0))
+
+know-signs-requires : tie.Need-know-signs-requires
+know-signs-requires c κs = search needs
+
+mul-unmark : tie.Need-mul-unmark
+mul-unmark c = let s = c .before .before .before .before .before .before .before .before .before .before in omega (arith, column-start (s .pre .0) (s .args .j) (s .pre .1))
 
 unmark-requires : tie.Need-unmark-requires
-unmark-requires c κs = search needs
+unmark-requires c κs = let s = c .before .before .before .before .before .before .before .before .before .before .before in (column-end (c .before .before .before .before .know-signs .ensures .0) (s .args .j) (s .pre .1), s .pre .2)
 
 mul-z-2 : tie.Need-mul-z-2
 mul-z-2 c = search needs
@@ -50,12 +56,19 @@ same-length c = search needs
 same-length-2 : tie.Need-same-length-2
 same-length-2 c = search needs
 
+same-length-3 : tie.Need-same-length-3
+same-length-3 c = search needs
+
 returns-2 : tie.Need-returns-2
 returns-2 c =
-    let s = c .before .before .before .before .before .before .before .before .before in
-    let g : SFits w32 (at (s .args .new .now) (s .args .q)) = record { sfits = c .before .before .before .before .before .before .z .given } in (
+    let s = c .before .before .before .before .before .before .before .before .before .before .before .before .before .before in
+    let g : SFits w32 (at (s .args .new .now) (s .args .q)) = record { sfits = c .before .before .before .before .before .before .before .before .before .before .before .z .given } in
+    let known = c .before .before .before .before .before .before .before .know-signs .ensures in (
       ap (set (s .args .old .now) (s .args .q)) (toZ-ofZ {w = w32} g),
-      (λ r h k. let w = c .before .before .unmark .ensures r h k in (w .0, λ e. absurd (w .1 e))),
+      (
+        (λ r h k. let w = c .before .before .unmark .ensures r h k in (w .0, λ e. absurd (w .1 (known .1 r h ∙ e)))),
+        known .0,
+      ),
     )
 
 pub remark-bound-spec : {M : Type 1} → statement M
@@ -67,9 +80,12 @@ remark-bound-spec =
     mul-if1
     slice-copy-out-if1
     returns
+    know-signs-requires
+    mul-unmark
     unmark-requires
     mul-z-2
     slice-set-from-z
     same-length
     same-length-2
+    same-length-3
     returns-2)

@@ -7,9 +7,6 @@ use mathlib.Core.Path.{_∙_, _≡_, refl, sym}
 use native.Mathlib.Omega.{arith}
 use Rattle.propagation.proofs.marks.unmark.Statement.{statement}
 use Rattle.propagation.proofs.marks.unmark.Tie as tie
-use Rattle.propagation.proofs.marks.unmark.Reads as reads
-use Rattle.propagation.proofs.marks.unmark.Lts as lts
-use Rattle.propagation.proofs.marks.kept.Reads as kept-reads
 
 abbrev Inv-loop : tie.InvT-loop
 Inv-loop m signs start sign marks₀ r₀ marks r =

@@ -1,0 +1,37 @@
+-- `propagation::clean::test_row`: both tests are of the whole row. Assumes nothing.
+use borrow.Author.Needs.{needs}
+use Rattle.propagation.proofs.IndexLoops.{row-end}
+use Rattle.propagation.proofs.clean.test_row.Statement.{statement}
+use Rattle.propagation.proofs.clean.test_row.Tie as tie
+
+row-moves-requires : tie.Need-row-moves-requires
+row-moves-requires c κs = search needs
+
+returns : tie.Need-returns
+returns c = search needs
+
+know-steps-requires : tie.Need-know-steps-requires
+know-steps-requires c κs = search needs
+
+row-moves-by-requires : tie.Need-row-moves-by-requires
+row-moves-by-requires c κs =
+    let s = c .before .before .before .before .before .before .before in
+    let known = c .before .before .before .know-steps .ensures in
+    (s .pre .0, (row-end (known .0) (s .args .r) (s .pre .1 .1) .0, known .1))
+
+same-length : tie.Need-same-length
+same-length c = search needs
+
+returns-2 : tie.Need-returns-2
+returns-2 c = search needs
+
+pub test-row-spec : {M : Type 1} → statement M
+test-row-spec =
+    tie.close
+    (tie.spec
+    row-moves-requires
+    returns
+    know-steps-requires
+    row-moves-by-requires
+    same-length
+    returns-2)

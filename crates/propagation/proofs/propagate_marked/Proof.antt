@@ -1,0 +1,388 @@
+-- `propagation::propagate_marked` is the definition: rows 0 to r − 1 came to what `passTo` says, and the passes that are left from here
+-- give what the whole gives. The two ways out of the passes meet in `met`. Assumes nothing.
+use Prim.Native.Nat.{_-_, _≤_, ℕ}
+use borrow.Author.Needs.{needs}
+use borrow.Author.Tests.{not-false, not-true}
+use lib.IntN.{ℤ}
+use lib.ListN.{length}
+use mathlib.Core.Bool.{Bool, cond, false}
+use mathlib.Core.List.{List}
+use mathlib.Core.Logic.{inl, inr, ⊎-elim}
+use mathlib.Core.Path.{_∙_, _≡_, ap, refl, subst, sym}
+use native.Mathlib.Nat.{sub-zero}
+use native.Mathlib.Omega.{arith}
+use Rattle.integer.proofs.Tests.{false→T}
+use Rattle.model.specs.Box.{at, isEmpty}
+use Rattle.model.specs.Point.{rowOf}
+use Rattle.row.specs.Answers.{propagationOutcome}
+use Rattle.row.specs.Propagation.{propagateRow}
+use Rattle.row.specs.declared.propagation.RowPropagation.the-variants.{Infeasible}
+use Rattle.semantics.specs.Propagate.{Propagation, passTo, propagate, propagateFrom}
+use Rattle.propagation.specs.Results.{propagationOf}
+use Rattle.propagation.specs.declared.Propagation.the-variants as code
+use Rattle.propagation.proofs.PropagationLoops.{budget-spent, pass-converged, pass-infeasible, pass-moved, row-feasible, row-infeasible}
+use Rattle.row.proofs.ImpliedBoxLaws.{valid-nonEmpty}
+use Rattle.propagation.specs.Marks.{Watched}
+use Rattle.propagation.proofs.MarkLaws.{Ready, model-at, ready, ready-trans, ready-visit, tightened, unmoved}
+use Rattle.propagation.proofs.propagate_marked.Statement.{statement}
+use Rattle.propagation.proofs.propagate_marked.Tie as tie
+
+abbrev Inv-rows : tie.InvT-rows
+Inv-rows n m bounds₀ coefs rhs budget across₀ signs₀ seen₀ marks₀ passes infeasible₀ moved₀ r₀ bounds across signs seen marks infeasible moved r =
+    (r ≤ m)
+    × (passTo n r coefs rhs bounds₀ ≡ record { ended = false; moved = moved; box = bounds })
+    × Ready n m coefs rhs bounds₀ across₀ signs₀ seen₀ marks₀ bounds across signs seen marks
+    × (infeasible ≡ false)
+
+abbrev μ-rows : tie.MeasureT-rows
+μ-rows n m bounds₀ coefs rhs budget across₀ signs₀ seen₀ marks₀ passes infeasible₀ moved₀ r₀ bounds across signs seen marks infeasible moved r = m - r
+
+abbrev Inv-passes : tie.InvT-passes
+Inv-passes n m bounds₀ coefs rhs budget across₀ signs₀ seen₀ marks₀ passes₀ infeasible₀ bounds across signs seen marks passes infeasible =
+    (passes ≤ budget)
+    × (propagateFrom (budget - passes) passes n m coefs rhs bounds ≡ propagateFrom budget 0 n m coefs rhs bounds₀)
+    × Ready n m coefs rhs bounds₀ across₀ signs₀ seen₀ marks₀ bounds across signs seen marks
+    × (infeasible ≡ false)
+
+abbrev μ-passes : tie.MeasureT-passes
+μ-passes n m bounds₀ coefs rhs budget across₀ signs₀ seen₀ marks₀ passes₀ infeasible₀ bounds across signs seen marks passes infeasible = budget - passes
+
+is-empty-requires : tie.Need-is-empty-requires Inv-rows μ-rows Inv-passes μ-passes
+is-empty-requires c κs = let p = c .before .before .before .before .pre .0 in omega (arith, p .some, p .box .len)
+
+same-length : tie.Need-same-length Inv-rows μ-rows Inv-passes μ-passes
+same-length c = search needs
+
+returns : tie.Need-returns Inv-rows μ-rows Inv-passes μ-passes
+unfolding propagate propagationOf
+returns c =
+    let s = c .before .before .before .before .before .before in
+    let p = s .pre .0 in
+    (rw (sym (c .before .is-empty .ensures _ (p .some) (p .box)) ∙ c .if1 .taken), s .pre .1 .0)
+
+passes-holds : tie.Need-passes-holds Inv-rows μ-rows Inv-passes μ-passes
+passes-holds c =
+    let s = c .before .before .before .before .before .before in
+    let p = s .pre .0 in
+    let e = sym (c .before .is-empty .ensures _ (p .some) (p .box)) ∙ c .if1 .left in
+    (omega arith, rw sub-zero, ready (p .box) (valid-nonEmpty (p .box) (false→T (isEmpty (s .args .n) (s .args .bounds .now)) e)) (s .pre .1 .0), refl)
+
+add-passes : tie.Need-add-passes Inv-rows μ-rows Inv-passes μ-passes
+add-passes c = omega arith
+
+rows-holds : tie.Need-rows-holds Inv-rows μ-rows Inv-passes μ-passes
+unfolding passTo
+rows-holds c =
+    let i = c .before .passes .inv in
+    (omega arith, refl, ready (i .2 .box) (i .2 .nonEmpty) (i .2 .watched), i .3)
+
+-- the call, where it comes to a pass
+module _ (h : tie.At-passes Inv-rows μ-rows Inv-passes μ-passes) where
+  abbrev s : tie.Start Inv-rows μ-rows Inv-passes μ-passes
+  s = h .before .before .before .before .before .before .before
+
+  abbrev n : ℕ
+  n = s .args .n
+
+  abbrev m : ℕ
+  m = s .args .m
+
+  abbrev budget : ℕ
+  budget = s .args .budget
+
+  abbrev C : List ℤ
+  C = s .args .coefs .now
+
+  abbrev R : List ℤ
+  R = s .args .rhs .now
+
+  abbrev B₀ : List ℤ
+  B₀ = s .args .bounds .now
+
+  abbrev made : ℕ
+  made = h .passes .passes
+
+  abbrev B : List ℤ
+  B = h .passes .bounds
+
+  whole : propagate budget n m C R B₀ ≡ propagateFrom budget 0 n m C R B₀
+  unfolding propagate
+  whole = rw (sym (h .before .before .is-empty .ensures _ (s .pre .0 .some) (s .pre .0 .box)) ∙ h .before .if1 .left)
+
+-- and to a row of it, which lies in the matrix
+module _ (c : tie.In-rows Inv-rows μ-rows Inv-passes μ-passes) where
+  abbrev here : tie.At-passes Inv-rows μ-rows Inv-passes μ-passes
+  here = c .before .before .before
+
+  abbrev r : ℕ
+  r = c .before .rows .r
+
+  abbrev P : List ℤ
+  P = c .before .rows .bounds
+
+propagate-row-marked-requires : tie.Need-propagate-row-marked-requires Inv-rows μ-rows Inv-passes μ-passes
+propagate-row-marked-requires c κs =
+    let i = c .before .before .before .before .before in
+    let q = here i in
+    let t = s q in
+    let y = i .before .rows .inv .2 in (
+      record {
+        valid = model-at (t .pre .0) (y .box);
+        nonEmpty = y .nonEmpty;
+        watched = y .watched;
+        room = omega (arith, t .pre .1 .1, y .marksLen, q .passes .inv .2 .marksLen);
+      },
+      i .rows-test .taken,
+    )
+
+-- what the row answers and leaves
+module _ (c : tie.After-propagate-row-marked Inv-rows μ-rows Inv-passes μ-passes) where
+  abbrev row : tie.In-rows Inv-rows μ-rows Inv-passes μ-passes
+  row = c .before .before .before .before .before .before
+
+  abbrev h : tie.At-passes Inv-rows μ-rows Inv-passes μ-passes
+  h = here row
+
+  abbrev Q : List ℤ
+  Q = c .propagate-row-marked .last .1 .1 .0
+
+  abbrev A : List ℤ
+  A = rowOf (n h) (C h) (r row)
+
+  abbrev b : ℤ
+  b = at (R h) (r row)
+
+  answered : propagationOutcome (c .propagate-row-marked .result) ≡ propagateRow (n h) A b (P row) .outcome
+  answered = c .propagate-row-marked .ensures .0
+
+  left : Q ≡ propagateRow (n h) A b (P row) .box
+  left = c .propagate-row-marked .ensures .1 .0
+
+enum-told : tie.Need-enum-told Inv-rows μ-rows Inv-passes μ-passes
+enum-told c = search needs
+
+enum-told-2 : tie.Need-enum-told-2 Inv-rows μ-rows Inv-passes μ-passes
+enum-told-2 c = search needs
+
+enum-told-3 : tie.Need-enum-told-3 Inv-rows μ-rows Inv-passes μ-passes
+enum-told-3 c = search needs
+
+add-r : tie.Need-add-r Inv-rows μ-rows Inv-passes μ-passes
+add-r c = omega arith
+
+rows-less : tie.Need-rows-less Inv-rows μ-rows Inv-passes μ-passes
+rows-less c = omega arith
+
+rows-again : tie.Need-rows-again Inv-rows μ-rows Inv-passes μ-passes
+rows-again c =
+    let d = c .before .before .before .before .before .before .before .before .before in
+    let k = row d .before in
+    let f = ⊎-elim (λ w. tightened _ (answered d) (w .1 .given .1)) (λ w. unmoved _ (answered d) (w .1 .given .1) .0) (c .match .came) in (
+      omega arith,
+      row-feasible (n (h d)) (r (row d)) (C (h d)) (R (h d)) (B (h d)) _ (k .rows .inv .1) (answered d) (left d)
+          (⊎-elim (λ w. inl (w .1 .given .1, w .2)) (λ w. inr (w .1 .given .1, w .2)) (c .match .came)),
+      ready-visit (A d) (b d) (k .rows .inv .2) (left d) f (d .propagate-row-marked .ensures .1 .1)
+          (d .propagate-row-marked .kept .1 .1 .0) (d .propagate-row-marked .kept .1 .1 .1 .1 .1 .1 .0) (d .propagate-row-marked .kept .1 .1 .1 .1 .1 .1 .1 .0)
+          (d .propagate-row-marked .kept .1 .1 .1 .1 .1 .1 .1 .1 .0) (d .propagate-row-marked .kept .1 .1 .1 .1 .1 .1 .1 .1 .1 .0),
+      k .rows .inv .3,
+    )
+
+-- a pass over all rows
+passed : (c : tie.After-rows Inv-rows μ-rows Inv-passes μ-passes) →
+    let q = c .before .before .before in
+    passTo (n q) (m q) (C q) (R q) (B q) ≡ record { ended = false; moved = c .before .rows .moved; box = c .before .rows .bounds }
+passed c =
+    let q = c .before .before .before in
+    let k : c .before .rows .r ≡ m q = omega arith in
+    rw k at (c .before .rows .inv .1)
+
+-- box, copy and marks after the rows of a pass
+pass-ready : (c : tie.After-rows Inv-rows μ-rows Inv-passes μ-passes) →
+    let q = c .before .before .before in
+    let w = c .before .rows in
+    Ready (n q) (m q) (C q) (R q) (B₀ q) (s q .args .across .now) (s q .args .signs .now) (s q .args .seen .now) (s q .args .marks .now) (w .bounds) (w .across) (w .signs) (w .seen) (w .marks)
+pass-ready c = ready-trans (c .before .before .before .passes .inv .2) (c .before .rows .inv .2)
+
+same-length-2 : tie.Need-same-length-2 Inv-rows μ-rows Inv-passes μ-passes
+same-length-2 c = pass-ready (c .before) .boxLen
+
+same-length-3 : tie.Need-same-length-3 Inv-rows μ-rows Inv-passes μ-passes
+same-length-3 c = pass-ready (c .before) .acrossLen
+
+same-length-4 : tie.Need-same-length-4 Inv-rows μ-rows Inv-passes μ-passes
+same-length-4 c = pass-ready (c .before) .signsLen
+
+same-length-5 : tie.Need-same-length-5 Inv-rows μ-rows Inv-passes μ-passes
+same-length-5 c = pass-ready (c .before) .seenLen
+
+same-length-6 : tie.Need-same-length-6 Inv-rows μ-rows Inv-passes μ-passes
+same-length-6 c = pass-ready (c .before) .marksLen
+
+returns-2 : tie.Need-returns-2 Inv-rows μ-rows Inv-passes μ-passes
+unfolding propagationOf
+returns-2 c =
+    let q = c .before .before .before .before in
+    let e = rw (not-true (c .before .before .rows .moved) (c .if2 .taken)) at (passed (c .before)) in (
+      sym (whole q ∙ pass-converged (budget q) (made q) (n q) (m q) (C q) (R q) (B q) (c .before .before .before .passes-test .taken) (q .passes .inv .1) e),
+      c .before .before .rows .inv .2 .watched,
+    )
+
+passes-less : tie.Need-passes-less Inv-rows μ-rows Inv-passes μ-passes
+passes-less c = omega arith
+
+passes-again : tie.Need-passes-again Inv-rows μ-rows Inv-passes μ-passes
+passes-again c =
+    let q = c .before .before .before .before in
+    let e = rw (not-false (c .before .before .rows .moved) (c .if2 .left)) at (passed (c .before)) in (
+      omega arith,
+      pass-moved (budget q) (made q) (n q) (m q) (C q) (R q) (B q) (c .before .before .before .passes-test .taken) (q .passes .inv .1) e,
+      pass-ready (c .before),
+      c .before .before .rows .inv .3,
+    )
+
+-- where the two ways out of the passes meet
+abbrev after : Bool → ℕ → List ℤ → Propagation
+after i p B = propagationOf (cond i (code.Infeasible p) (code.BudgetSpent p)) B
+
+after-is : {i j : Bool} {p q : ℕ} {B P : List ℤ} → i ≡ j → p ≡ q → B ≡ P → after i p B ≡ after j q P
+after-is d e f = rw (d, e, f)
+
+watched-is : {n m : ℕ} {C R B P : List ℤ} {a a′ s s′ : List ℕ} {e e′ : List ℤ} {k k′ : List ℕ} → B ≡ P → a ≡ a′ → s ≡ s′ → e ≡ e′ → k ≡ k′
+    → Watched n m C R P a′ s′ e′ k′ → Watched n m C R B a s e k
+watched-is b a s e k w = rw (b, a, s, e, k) w
+
+-- the lengths of what is lent, and what is known of the rows
+record Left (q : tie.At-passes Inv-rows μ-rows Inv-passes μ-passes) (bounds : List ℤ) (across signs : List ℕ) (seen : List ℤ) (marks : List ℕ) : Type 0 where
+  boxLen : length bounds ≡ length (B₀ q)
+  acrossLen : length across ≡ length (s q .args .across .now)
+  signsLen : length signs ≡ length (s q .args .signs .now)
+  seenLen : length seen ≡ length (s q .args .seen .now)
+  marksLen : length marks ≡ length (s q .args .marks .now)
+  watched : Watched (n q) (m q) (C q) (R q) bounds across signs seen marks
+
+met : (c : tie.Left-passes Inv-rows μ-rows Inv-passes μ-passes) →
+    let q = c .before in
+    let o = c .passes-test in
+    (after (o .infeasible) (o .passes) (o .bounds) ≡ propagate (budget q) (n q) (m q) (C q) (R q) (B₀ q)) × Left q (o .bounds) (o .across) (o .signs) (o .seen) (o .marks)
+unfolding propagationOf
+met c =
+    let q = c .before in
+    let y = q .passes .inv .2 in
+    ⊎-elim
+    (λ w. (
+      after-is (w .7 ∙ q .passes .inv .3) (w .6) (w .1)
+          ∙ sym (whole q ∙ budget-spent (budget q) (made q) (n q) (m q) (C q) (R q) (B q) (w .0 .left) (q .passes .inv .1)),
+      record {
+        boxLen = ap length (w .1) ∙ y .boxLen;
+        acrossLen = ap length (w .2) ∙ y .acrossLen;
+        signsLen = ap length (w .3) ∙ y .signsLen;
+        seenLen = ap length (w .4) ∙ y .seenLen;
+        marksLen = ap length (w .5) ∙ y .marksLen;
+        watched = watched-is (w .1) (w .2) (w .3) (w .4) (w .5) (y .watched);
+      },
+    ))
+    (λ w.
+    let i : tie.In-rows Inv-rows μ-rows Inv-passes μ-passes = record { before = record { before = record { before = q; passes-test = w .0 }; rows = w .1 }; rows-test = w .2 } in
+    let d : tie.After-propagate-row-marked Inv-rows μ-rows Inv-passes μ-passes = record {
+      before = record {
+        before = record {
+          before = record { before = record { before = record { before = i; propagate-row-marked-arg = w .3 }; propagate-row-marked-arg2 = w .4 }; propagate-row-marked-arg3 = w .5 };
+          propagate-row-marked-arg4 = w .6;
+        };
+        propagate-row-marked-arg5 = w .7;
+      };
+      propagate-row-marked = w .8;
+    } in
+    let z = ready-trans y (w .1 .inv .2) in
+    let k = w .8 .kept in
+    let e = row-infeasible (n q) (r (row d)) (C q) (R q) (B q) _ (w .1 .inv .1) (answered d) (left d) (m q) (w .2 .taken) (w .18 .given .1) in (
+      after-is (w .25) (w .24) (w .19)
+          ∙ sym (whole q ∙ pass-infeasible (budget q) (made q) (n q) (m q) (C q) (R q) (B q) (w .0 .taken) (q .passes .inv .1) e),
+      record {
+        boxLen = ap length (w .19) ∙ k .1 .1 .0 ∙ z .boxLen;
+        acrossLen = ap length (w .20) ∙ k .1 .1 .1 .1 .1 .1 .0 ∙ z .acrossLen;
+        signsLen = ap length (w .21) ∙ k .1 .1 .1 .1 .1 .1 .1 .0 ∙ z .signsLen;
+        seenLen = ap length (w .22) ∙ k .1 .1 .1 .1 .1 .1 .1 .1 .0 ∙ z .seenLen;
+        marksLen = ap length (w .23) ∙ k .1 .1 .1 .1 .1 .1 .1 .1 .1 .0 ∙ z .marksLen;
+        watched = watched-is (w .19) (w .20) (w .21) (w .22) (w .23) (w .8 .ensures .1 .1);
+      },
+    ))
+    (c .passes-test .came)
+
+same-length-7 : tie.Need-same-length-7 Inv-rows μ-rows Inv-passes μ-passes
+same-length-7 c = met (c .before) .1 .boxLen
+
+same-length-8 : tie.Need-same-length-8 Inv-rows μ-rows Inv-passes μ-passes
+same-length-8 c = met (c .before) .1 .acrossLen
+
+same-length-9 : tie.Need-same-length-9 Inv-rows μ-rows Inv-passes μ-passes
+same-length-9 c = met (c .before) .1 .signsLen
+
+same-length-10 : tie.Need-same-length-10 Inv-rows μ-rows Inv-passes μ-passes
+same-length-10 c = met (c .before) .1 .seenLen
+
+same-length-11 : tie.Need-same-length-11 Inv-rows μ-rows Inv-passes μ-passes
+same-length-11 c = met (c .before) .1 .marksLen
+
+returns-3 : tie.Need-returns-3 Inv-rows μ-rows Inv-passes μ-passes
+returns-3 c = let k = met (c .before) in (rw (c .if3 .taken) at (k .0), k .1 .watched)
+
+same-length-12 : tie.Need-same-length-12 Inv-rows μ-rows Inv-passes μ-passes
+same-length-12 c = met (c .before) .1 .boxLen
+
+same-length-13 : tie.Need-same-length-13 Inv-rows μ-rows Inv-passes μ-passes
+same-length-13 c = met (c .before) .1 .acrossLen
+
+same-length-14 : tie.Need-same-length-14 Inv-rows μ-rows Inv-passes μ-passes
+same-length-14 c = met (c .before) .1 .signsLen
+
+same-length-15 : tie.Need-same-length-15 Inv-rows μ-rows Inv-passes μ-passes
+same-length-15 c = met (c .before) .1 .seenLen
+
+same-length-16 : tie.Need-same-length-16 Inv-rows μ-rows Inv-passes μ-passes
+same-length-16 c = met (c .before) .1 .marksLen
+
+returns-4 : tie.Need-returns-4 Inv-rows μ-rows Inv-passes μ-passes
+returns-4 c = let k = met (c .before) in (rw (c .if3 .left) at (k .0), k .1 .watched)
+
+pub propagate-marked-spec : {M : Type 1} → statement M
+propagate-marked-spec =
+    tie.close
+    (tie.spec
+    Inv-rows
+    μ-rows
+    Inv-passes
+    μ-passes
+    is-empty-requires
+    same-length
+    returns
+    passes-holds
+    add-passes
+    rows-holds
+    propagate-row-marked-requires
+    enum-told
+    enum-told-2
+    enum-told-3
+    add-r
+    rows-less
+    rows-again
+    same-length-2
+    same-length-3
+    same-length-4
+    same-length-5
+    same-length-6
+    returns-2
+    passes-less
+    passes-again
+    same-length-7
+    same-length-8
+    same-length-9
+    same-length-10
+    same-length-11
+    returns-3
+    same-length-12
+    same-length-13
+    same-length-14
+    same-length-15
+    same-length-16
+    returns-4)
