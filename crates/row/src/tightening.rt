@@ -23,13 +23,13 @@ pub fn may_tighten(a: i32, b: i32, most: i64) -> bool
     ensures { λ r. ⌜ r ≡ mayTighten a most b ⌝ }
 {
     let rhs = b as i64;
-    if most <= rhs {
+    if rhs >= most {
         return false;
     }
-    if a > 0 {
-        return most - (a as i64) < rhs;
+    if a <= 0 {
+        return most + (a as i64) < rhs;
     }
-    most + (a as i64) < rhs
+    most - (a as i64) < rhs
 }
 
 // Tightens the coefficient of the free binary variable k. Where the row can be broken (most > b) but not without x_k, or not

@@ -7,7 +7,7 @@ use mir.Syntax.{w32, w64}
 use mir.Val.{SFits, ofZ, toZ}
 use Rattle.integer.proofs.Parts.{lt-is, lt-isn't}
 use Rattle.integer.proofs.RangeLaws.{within-add, within-fits, within-sub}
-use Rattle.integer.proofs.Reading.{ge-read, gt-read, le-read, lt-read, read, read-wide, wide-fits}
+use Rattle.integer.proofs.Reading.{gt-read, le-read, read, read-wide, wide-fits}
 use Rattle.row.proofs.RowLoops.{less-abs-neg, less-abs-pos}
 use Rattle.row.proofs.tightening.may_tighten.Statement.{statement}
 use Rattle.row.proofs.tightening.may_tighten.Tie as tie
@@ -53,28 +53,28 @@ breakable c = gt-read (most-is (c .before)) (rhs-is (c .before)) (c .if1 .left)
 cast-result : tie.Need-cast-result
 cast-result c = wide-fits (c .before .before .fits .a)
 
-sub-result : tie.Need-sub-result
-sub-result c = let s = c .before .before in rw (less-is s) (within-fits w64 tt (within-sub (s .pre .1) (s .pre .0)))
+add-result : tie.Need-add-result
+add-result c = let s = c .before .before in rw (more-is s) (within-fits w64 tt (within-add (s .pre .1) (s .pre .0)))
 
 returns-2 : tie.Need-returns-2
 returns-2 c =
     let s = c .before .before in
-    let p : pos 0 <ℤ a s = lt-read refl (a-is s) (c .if2 .taken) in
-    ap₂ ltZ (read w64 (sub-result c) (less-is s)) (rhs-is s) ∙ rw (lt-is (breakable (c .before)), less-abs-pos (L s) p) refl
+    let p : a s ≤ℤ pos 0 = le-read (a-is s) refl (c .if2 .taken) in
+    ap₂ ltZ (read w64 (add-result c) (more-is s)) (rhs-is s) ∙ rw (lt-is (breakable (c .before)), less-abs-neg (L s) p) refl
 
 cast-result-2 : tie.Need-cast-result-2
 cast-result-2 c = wide-fits (c .before .before .fits .a)
 
-add-result : tie.Need-add-result
-add-result c = let s = c .before .before in rw (more-is s) (within-fits w64 tt (within-add (s .pre .1) (s .pre .0)))
+sub-result : tie.Need-sub-result
+sub-result c = let s = c .before .before in rw (less-is s) (within-fits w64 tt (within-sub (s .pre .1) (s .pre .0)))
 
 returns-3 : tie.Need-returns-3
 returns-3 c =
     let s = c .before .before in
-    let p : a s ≤ℤ pos 0 = ge-read refl (a-is s) (c .if2 .left) in
-    ap₂ ltZ (read w64 (add-result c) (more-is s)) (rhs-is s) ∙ rw (lt-is (breakable (c .before)), less-abs-neg (L s) p) refl
+    let p : pos 0 <ℤ a s = gt-read (a-is s) refl (c .if2 .left) in
+    ap₂ ltZ (read w64 (sub-result c) (less-is s)) (rhs-is s) ∙ rw (lt-is (breakable (c .before)), less-abs-pos (L s) p) refl
 
 pub may-tighten-spec : {M : Type 1} → statement M
 may-tighten-spec =
     tie.close
-    (tie.spec cast-rhs returns cast-result sub-result returns-2 cast-result-2 add-result returns-3)
+    (tie.spec cast-rhs returns cast-result add-result returns-2 cast-result-2 sub-result returns-3)
