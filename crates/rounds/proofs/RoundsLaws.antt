@@ -17,6 +17,8 @@ use Rattle.model.specs.Point.{rowOf}
 use Rattle.row.specs.Activity.{maxActivity}
 use Rattle.row.specs.Outcome.{isChanged, isInfeasible}
 use Rattle.row.specs.Tightening.{NewRow, mayTighten, tightenCoefficient}
+use Rattle.row.specs.ValidRow.{ValidCoefs}
+use Rattle.row.proofs.RowLoops.{coefs-small, max-activity-small}
 use Rattle.row.proofs.TighteningLaws.{tighten-coefficient-unchanged, tighten-fails}
 use Rattle.semantics.specs.CallChecks.{callFault}
 use Rattle.semantics.specs.Perform.{act, perform}
@@ -25,8 +27,10 @@ use Rattle.semantics.specs.Run.{CallClass, classOf, isRefused, run, step}
 use Rattle.semantics.specs.State.{Call, callOf, kindOf, State, withRow}
 use Rattle.semantics.proofs.CallLaws.{step-ind}
 use Rattle.semantics.proofs.ClassLaws.{classBy, tighten-class}
-use Rattle.semantics.proofs.RowChange.{at-rowOf, withRow-same}
+use Rattle.semantics.proofs.RowChange.{at-rowOf, row-valid, withRow-same}
 use Rattle.semantics.proofs.Preserved.{Preserves, run-preserves}
+use Rattle.propagation.proofs.PropagationLoops.{row-fits}
+use Rattle.rounds.specs.TightenedAt.{TightenedAt}
 use Rattle.rounds.specs.Rounds.{Rounds, RoundsAnswer, RoundsEnding, SamePoints, after, andThen, anyChange, atLimit, dropCall, drops, ended, infeasible, isChange, nothingChanged, probes, refusedRounds, round, roundsFault, roundsFrom, runRounds, settleCall, sharpenCall, sharpens, unlessEmpty, upwards}
 
 -- ---- where calls lead
@@ -176,6 +180,21 @@ module _ (s : State) (r k : ℕ) where
       go : (free : Bool) → (free && mayTighten (at (s .coefs) (r * s .n + k)) most (at (s .rhs) r)) ≡ false → Leads s (cond free (callOf s 4 r k 0 ∷ []) []) s false
       go true q = quiet-call (rw (at-rowOf (s .n) (s .coefs) r k h, sym e) q)
       go false q = no-call s
+
+-- what is asked where the greatest activity of a row is found, and where a coefficient is tested
+module _ {s : State} (v : ValidState s) {r : ℕ} (h : r < s .m) where
+  pub row-ready : (r * s .n + s .n ≤ length (s .coefs)) × ValidCoefs (s .n) (rowOf (s .n) (s .coefs) r) (s .box)
+  row-ready = (row-fits (v .model) r h, row-valid s r (v .model) h .coefs)
+
+  pub looked-at : {k : ℕ} {most : ℤ} → k < s .n → most ≡ maxActivity (s .n) (rowOf (s .n) (s .coefs) r) (s .box)
+      → TightenedAt (s .n) (s .box) (s .coefs) (s .rhs) r k most
+  looked-at {k} i e = record {
+    box = omega (arith, v .model .box .len);
+    coefs = omega (arith, row-ready .0);
+    rhs = rw (v .model .rhsLen) h;
+    coef = rw (sym (at-rowOf (s .n) (s .coefs) r k i)) (coefs-small (row-ready .1) k);
+    small = rw e (max-activity-small (row-ready .1));
+  }
 
 -- ---- the phases of a round
 
