@@ -1,28 +1,41 @@
 -- What the functions of `rounds` need of the definitions: where calls lead, one turn of a loop over calls, and the rounds that are
 -- still to be made.
 use Prim.Native.Nat.{_*_, _+_, _-_, _<_, _≤_, suc, zero, ℕ}
-use borrow.Author.Tests.{ne-eqb}
 use lib.Dec.{T, eqb, eqb→eq}
+use borrow.Author.Tests.{ne-eqb}
 use lib.IntN.{ℤ}
 use lib.ListN.{length}
-use mathlib.Core.Bool.{Bool, _||_, cond, false, or-assoc, or-false, or-true, true}
+use mathlib.Core.Bool.{Bool, _&&_, _||_, cond, false, not, or-assoc, or-false, or-true, true}
 use mathlib.Core.List.{List, [], _++_, _∷_, append-assoc, append-nil}
+use mathlib.Core.Logic.{⊎-elim}
 use mathlib.Core.Path.{_∙_, _≡_, ap, ap₂, refl, subst, sym}
 use native.Mathlib.Numerals.{add-one}
 use native.Mathlib.Omega.{arith}
-use Rattle.integer.proofs.Tests.{cond-ind}
-use Rattle.model.specs.Box.{isEmpty}
+use Rattle.integer.proofs.Tests.{cond-ind, T→false, decide}
+use Rattle.model.specs.Box.{isEmpty, at, isFree}
 use Rattle.model.proofs.BoxLaws.{isEmpty-test}
-use Rattle.semantics.specs.Perform.{act}
+use Rattle.semantics.specs.Perform.{act, perform}
 use Rattle.semantics.specs.Points.{PointOf, TableHolds, ValidState}
-use Rattle.semantics.specs.Run.{CallClass, classOf, run, step}
+use Rattle.semantics.specs.Run.{CallClass, classOf, run, step, isRefused}
+use Rattle.model.specs.Point.{rowOf}
+use Rattle.row.specs.Activity.{maxActivity}
+use Rattle.row.specs.Outcome.{isChanged, isInfeasible}
+use Rattle.row.specs.Tightening.{NewRow, mayTighten, tightenCoefficient}
+use Rattle.row.specs.ValidRow.{ValidCoefs}
+use Rattle.row.proofs.RowLoops.{coefs-small, max-activity-small}
+use Rattle.row.proofs.TighteningLaws.{tighten-coefficient-unchanged, tighten-fails}
+use Rattle.semantics.specs.CallChecks.{callFault}
 use Rattle.semantics.specs.State.{Call, callOf, kindOf, State, withRow}
 use Rattle.semantics.proofs.Accepted.{accepted-valid}
 use Rattle.semantics.proofs.CallLaws.{step-ind}
 use Rattle.semantics.proofs.Demand2.{no-point}
 use Rattle.semantics.proofs.ImplicationLaws.{zeros-hold}
 use Rattle.semantics.proofs.Preserved.{Preserves, run-preserves}
-use Rattle.rounds.specs.Rounds.{Rounds, RoundsAnswer, RoundsEnding, RoundsRun, SamePoints, after, andThen, anyChange, atLimit, dropCall, drops, ended, infeasible, isChange, nothingChanged, probes, refusedRounds, round, roundsFault, roundsFrom, runRounds, settleCall, sharpens, unlessEmpty, upwards}
+use Rattle.rounds.specs.Rounds.{Rounds, RoundsAnswer, RoundsEnding, RoundsRun, SamePoints, after, andThen, anyChange, atLimit, dropCall, drops, ended, infeasible, isChange, nothingChanged, probes, refusedRounds, round, roundsFault, roundsFrom, runRounds, settleCall, sharpens, unlessEmpty, upwards, sharpenCall}
+use Rattle.semantics.proofs.ClassLaws.{classBy, tighten-class}
+use Rattle.semantics.proofs.RowChange.{at-rowOf, row-valid, withRow-same}
+use Rattle.propagation.proofs.PropagationLoops.{row-fits}
+use Rattle.rounds.specs.TightenedAt.{TightenedAt}
 
 -- ---- where calls lead
 
@@ -126,6 +139,66 @@ module _ {count i : ℕ} {f : ℕ → State → List Call} {s t : State} {b : Bo
 
   pub turns-lengths : SameLengths s t
   turns-lengths = same-lengths (w .made) (w .start)
+
+-- ---- a coefficient that fails the rule's test
+
+-- a class other than changed
+same-class : (none : Bool) → isChange (classBy none true) ≡ false
+unfolding isChange
+same-class true = refl
+same-class false = refl
+
+module _ (s : State) (r k : ℕ) where
+  abbrev row : List ℤ
+  row = rowOf (s .n) (s .coefs) r
+
+  abbrev tightening : NewRow
+  tightening = tightenCoefficient (s .n) row (at (s .rhs) r) (s .box) k
+
+  -- the call to tighten it leaves the state and changes nothing, refused or not
+  quiet-class : T (not (isChanged (tightening .outcome))) → isChange (classOf s (callOf s 4 r k 0)) ≡ false
+  unfolding callOf kindOf classOf perform isRefused isChange
+  quiet-class t = ⊎-elim
+      (λ f. ap isChange (tighten-class s (callOf s 4 r k 0) (eqb→eq (callFault s (callOf s 4 r k 0)) 0 f) refl)
+      ∙ ap (λ (x : Bool). isChange (classBy (isInfeasible (tightening .outcome)) (not x))) (T→false (isChanged (tightening .outcome)) t)
+      ∙ same-class (isInfeasible (tightening .outcome)))
+      (λ f. rw (T→false (eqb (callFault s (callOf s 4 r k 0)) 0) f) refl)
+      (decide (eqb (callFault s (callOf s 4 r k 0)) 0))
+
+  quiet-call : mayTighten (at row k) (maxActivity (s .n) row (s .box)) (at (s .rhs) r) ≡ false → Leads s (callOf s 4 r k 0 ∷ []) s false
+  unfolding run anyChange act callOf kindOf
+  quiet-call h =
+      let t = tighten-fails (s .n) row (at (s .rhs) r) (s .box) k h in
+      let u = tighten-coefficient-unchanged (s .n) row (at (s .rhs) r) (s .box) k t in
+      record {
+        left = sym (step-ind s (callOf s 4 r k 0) (λ x. x ≡ s) (λ _. withRow-same s r _ _ (u .0) (u .1)) refl);
+        changed = sym (or-false (isChange (classOf s (callOf s 4 r k 0))) ∙ quiet-class t);
+      }
+
+  -- so the turn of a variable that is not free, or whose coefficient fails the test, is made by doing nothing
+  pub quiet-turn : {most : ℤ} → k < s .n → most ≡ maxActivity (s .n) row (s .box)
+      → (isFree (s .box) k && mayTighten (at (s .coefs) (r * s .n + k)) most (at (s .rhs) r)) ≡ false → Leads s (sharpenCall r k s) s false
+  unfolding sharpenCall
+  quiet-turn {most} h e z = go (isFree (s .box) k) z
+    where
+      go : (free : Bool) → (free && mayTighten (at (s .coefs) (r * s .n + k)) most (at (s .rhs) r)) ≡ false → Leads s (cond free (callOf s 4 r k 0 ∷ []) []) s false
+      go true q = quiet-call (rw (at-rowOf (s .n) (s .coefs) r k h, sym e) q)
+      go false q = no-call s
+
+-- what is asked where the greatest activity of a row is found, and where a coefficient is tested
+module _ {s : State} (v : ValidState s) {r : ℕ} (h : r < s .m) where
+  pub row-ready : (r * s .n + s .n ≤ length (s .coefs)) × ValidCoefs (s .n) (rowOf (s .n) (s .coefs) r) (s .box)
+  row-ready = (row-fits (v .model) r h, row-valid s r (v .model) h .coefs)
+
+  pub looked-at : {k : ℕ} {most : ℤ} → k < s .n → most ≡ maxActivity (s .n) (rowOf (s .n) (s .coefs) r) (s .box)
+      → TightenedAt (s .n) (s .box) (s .coefs) (s .rhs) r k most
+  looked-at {k} i e = record {
+    box = omega (arith, v .model .box .len);
+    coefs = omega (arith, row-ready .0);
+    rhs = rw (v .model .rhsLen) h;
+    coef = rw (sym (at-rowOf (s .n) (s .coefs) r k i)) (coefs-small (row-ready .1) k);
+    small = rw e (max-activity-small (row-ready .1));
+  }
 
 -- ---- the phases of a round
 

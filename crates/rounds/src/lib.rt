@@ -1,17 +1,27 @@
 // The rounds of `reduce`: propagate, remove redundant rows, tighten coefficients and probe, again until a round changes nothing.
 // The model and the table are checked once; each call leaves them valid.
 use probing::is_free;
+use row::activity::maximum_activity;
+use row::tightening::may_tighten;
 use step::CallClass;
 use step::run_probe_record;
 use step::run_record;
 ghost use mathlib.Core.Path.{_≡_};
-ghost use Prim.Native.Nat.{_<_};
+ghost use mathlib.Core.Bool.{_&&_};
+ghost use Prim.Native.Nat.{_*_, _+_, _<_, _≤_};
+ghost use lib.ListN.{length};
+ghost use Rattle.model.specs.Box.{at, isFree};
+ghost use Rattle.model.specs.Point.{rowOf};
 ghost use Rattle.probing.specs.Marked.{Marked};
+ghost use Rattle.row.specs.Activity.{maxActivity};
+ghost use Rattle.row.specs.Tightening.{mayTighten};
+ghost use Rattle.row.specs.ValidRow.{ValidCoefs};
 ghost use Rattle.semantics.specs.Points.{ValidState};
 ghost use Rattle.semantics.specs.Run.{run as ran};
 ghost use Rattle.step.specs.Classes.{classIs};
 ghost use Rattle.semantics.specs.State.{stateOf};
 ghost use Rattle.rounds.specs.Answers.{roundsAnswer};
+ghost use Rattle.rounds.specs.TightenedAt.{TightenedAt};
 ghost use Rattle.rounds.specs.Rounds.{SamePoints, anyChange, drops, isChange, probes, round as roundOf, runRounds, sharpenRow, sharpens};
 
 const PASSES: u32 = 1_000;
@@ -61,7 +71,38 @@ fn remove_rows(
     changed
 }
 
-// Tightens row `row` at each variable that is free when its turn comes, upwards; says whether a number changed.
+// Lmax of row `row`.
+fn row_maximum(n: usize, coefs: &[i32], bounds: &[i32], row: usize) -> i64
+    requires { ⌜ row * n + n ≤ length (now coefs) ⌝ }
+    requires { ⌜ ValidCoefs n (rowOf n (now coefs) row) (now bounds) ⌝ }
+    ensures { λ r. ⌜ r ≡ maxActivity n (rowOf n (now (coefs .entry)) row) (now (bounds .entry)) ⌝ }
+{
+    let start = row * n;
+    let end = start + n;
+    maximum_activity(&coefs[start..end], bounds)
+}
+
+// Whether variable k is free and its coefficient in the row, of which `most` is Lmax, passes the rule's test.
+fn may_tighten_at(
+    n: usize,
+    bounds: &[i32],
+    coefs: &[i32],
+    rhs: &[i32],
+    row: usize,
+    k: usize,
+    most: i64,
+) -> bool
+    requires { ⌜ TightenedAt n (now bounds) (now coefs) (now rhs) row k most ⌝ }
+    ensures { λ r. ⌜ r ≡ (isFree (now (bounds .entry)) k && mayTighten (at (now (coefs .entry)) (row * n + k)) most (at (now (rhs .entry)) row)) ⌝ }
+{
+    if !is_free(bounds, k) {
+        return false;
+    }
+    may_tighten(coefs[row * n + k], rhs[row], most)
+}
+
+// Tightens row `row` at each variable that is free when its turn comes, upwards; says whether a number changed. A coefficient that
+// fails the rule's test stays, so only the others are called for; Lmax is found once, and anew after each of them.
 fn tighten_row(
     n: usize,
     m: usize,
@@ -76,13 +117,15 @@ fn tighten_row(
     ensures left { λ r. ⌜ stateOf n m (now (bounds .exit)) (now (coefs .exit)) (now (rhs .exit)) (now (table .exit)) ≡ ran (stateOf n m (now (bounds .entry)) (now (coefs .entry)) (now (rhs .entry)) (now (table .entry))) (sharpenRow row (stateOf n m (now (bounds .entry)) (now (coefs .entry)) (now (rhs .entry)) (now (table .entry)))) ⌝ }
     ensures changed { λ r. ⌜ r ≡ anyChange (stateOf n m (now (bounds .entry)) (now (coefs .entry)) (now (rhs .entry)) (now (table .entry))) (sharpenRow row (stateOf n m (now (bounds .entry)) (now (coefs .entry)) (now (rhs .entry)) (now (table .entry)))) ⌝ }
 {
+    let mut most = row_maximum(n, coefs, bounds, row as usize);
     let mut changed = false;
     let mut k: u32 = 0;
     while (k as usize) < n {
-        if is_free(bounds, k as usize) {
+        if may_tighten_at(n, bounds, coefs, rhs, row as usize, k as usize, most) {
             if is_changed(run_record(n, m, bounds, coefs, rhs, table, 4, row, k, 0)) {
                 changed = true;
             }
+            most = row_maximum(n, coefs, bounds, row as usize);
         }
         k += 1;
     }

@@ -350,11 +350,11 @@ clear-turn i xs {P} h e f (inr w) =
 
 -- ---- the cases of one coefficient
 
-less-abs-pos : {a : ℤ} (L : ℤ) → pos 0 <ℤ a → L -ℤ pos (natAbs a) ≡ L -ℤ a
+pub less-abs-pos : {a : ℤ} (L : ℤ) → pos 0 <ℤ a → L -ℤ pos (natAbs a) ≡ L -ℤ a
 less-abs-pos {a = pos n} L h = refl
 less-abs-pos {a = negsuc n} L h = absurd (h .lt)
 
-less-abs-neg : {a : ℤ} (L : ℤ) → a ≤ℤ pos 0 → L -ℤ pos (natAbs a) ≡ L +ℤ a
+pub less-abs-neg : {a : ℤ} (L : ℤ) → a ≤ℤ pos 0 → L -ℤ pos (natAbs a) ≡ L +ℤ a
 less-abs-neg {a = pos n} L h = simp zify (omega zarith)
 less-abs-neg {a = negsuc n} L h = refl
 

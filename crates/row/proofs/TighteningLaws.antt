@@ -5,7 +5,7 @@ use lib.IntN.{+ℤ-comm, _*ℤ_, _+ℤ_, _-ℤ_, natAbs, negsuc, negℤ, negℤ-
 use lib.ListN.{length, length-set, set}
 use lib.Seq.{getD-set-other, getD-set-same}
 use lib.Signed.{_<ℤ_, _≤ℤ_, leZ, leZ-yes, ltZ, ltZ-no, ltZ-yes}
-use mathlib.Core.Bool.{_&&_, _||_, not}
+use mathlib.Core.Bool.{_&&_, _||_, false, not}
 use mathlib.Core.List.{List}
 use mathlib.Core.Logic.{_↔_, _≢_, _⊎_, inl, inr}
 use mathlib.Core.Path.{_∙_, _≡_, ap, refl, sym}
@@ -21,7 +21,7 @@ use Rattle.model.specs.Valid.{Between}
 use Rattle.model.proofs.BoxLaws.{free-lower, free-upper, ≤ℤ-trans}
 use Rattle.row.specs.Activity.{maxActivity}
 use Rattle.row.specs.Outcome.{changed, infeasible, isChanged, isInfeasible, unchanged}
-use Rattle.row.specs.Tightening.{NewRow, tightenAt, tightenCoefficient}
+use Rattle.row.specs.Tightening.{NewRow, mayTighten, tightenAt, tightenCoefficient}
 use Rattle.row.specs.ValidRow.{ValidRow}
 use Rattle.row.proofs.ActivityLaws.{maxActivity-gap-dot, maxTerm-nonpos, maxTerm-pos}
 use Rattle.row.proofs.Replacement.{Replaces, replaces-i, replaces-refl}
@@ -81,6 +81,11 @@ module _ (n : ℕ) (A : List ℤ) (b : ℤ) (B : List ℤ) (k : ℕ) where
     where
       moved : (a : ℤ) → set A k a ≡ A → a ≡ at A k
       moved a e = sym (getD-set-same A k a (pos 0) h) ∙ ap (λ (c : List ℤ). at c k) e
+
+  -- a coefficient that fails the rule's test stays as it is
+  pub tighten-fails : mayTighten (at A k) (maxActivity n A B) b ≡ false → T (not (isChanged (tightenCoefficient n A b B k .outcome)))
+  unfolding tightenCoefficient tightenAt isChanged
+  tighten-fails h = cond-ind (isEmpty n B) _ _ (λ (r : NewRow). T (not (isChanged (r .outcome)))) (λ _. tt) (λ _. rw h tt)
 
   -- a redundant row stays as it is
   pub tighten-coefficient-redundant : maxActivity n A B ≤ℤ b → T (not (isChanged (tightenCoefficient n A b B k .outcome)))

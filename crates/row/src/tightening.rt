@@ -3,8 +3,9 @@ use crate::activity::maximum_activity;
 ghost use mathlib.Core.Path.{_≡_};
 ghost use Prim.Native.Nat.{_<_};
 ghost use lib.ListN.{length};
+ghost use Rattle.integer.specs.Range.{Within};
 ghost use Rattle.row.specs.Answers.{tighteningOutcome};
-ghost use Rattle.row.specs.Tightening.{tightenCoefficient};
+ghost use Rattle.row.specs.Tightening.{mayTighten, tightenCoefficient};
 ghost use Rattle.row.specs.ValidRow.{ValidRow};
 
 // 01's None, Sharpened, Same.
@@ -12,6 +13,23 @@ pub enum CoefficientTightening {
     Infeasible,
     Tightened,
     Unchanged,
+}
+
+// The rule's test, for a row with the greatest activity `most`. Where it fails, tightening answers Unchanged (`tighten-fails`), so a
+// caller that knows `most` of a row need not have it found anew for each variable.
+pub fn may_tighten(a: i32, b: i32, most: i64) -> bool
+    requires { ⌜ Within 1000000 a ⌝ }
+    requires { ⌜ Within 5000000000000 most ⌝ }
+    ensures { λ r. ⌜ r ≡ mayTighten a most b ⌝ }
+{
+    let rhs = b as i64;
+    if rhs >= most {
+        return false;
+    }
+    if a <= 0 {
+        return most + (a as i64) < rhs;
+    }
+    most - (a as i64) < rhs
 }
 
 // Tightens the coefficient of the free binary variable k. Where the row can be broken (most > b) but not without x_k, or not

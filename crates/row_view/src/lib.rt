@@ -52,8 +52,8 @@ impl<'a> Row<'a> {
     // The same by the row's steps, which pass over its zeros.
     pub fn propagate_by<'b, 'c>(self, steps: &'b [u8], bounds: &'c mut [i32]) -> RowPropagation
         requires { ⌜ ValidRow (length (now (self .coefs))) (now (self .coefs)) (self .b) (now bounds) × Steps (length (now (self .coefs))) (now (self .coefs)) (now steps) ⌝ }
-        ensures answer { λ r. ⌜ propagationOutcome r ≡ propagateRow (length (now (self .entry .coefs))) (now (self .entry .coefs)) (self .entry .b) (now (bounds .entry)) .outcome ⌝ }
-        ensures left { λ r. ⌜ now (bounds .exit) ≡ propagateRow (length (now (self .entry .coefs))) (now (self .entry .coefs)) (self .entry .b) (now (bounds .entry)) .box ⌝ }
+        ensures answer { λ t. ⌜ propagationOutcome t ≡ propagateRow (length (now (self .entry .coefs))) (now (self .entry .coefs)) (self .entry .b) (now (bounds .entry)) .outcome ⌝ }
+        ensures left { λ t. ⌜ now (bounds .exit) ≡ propagateRow (length (now (self .entry .coefs))) (now (self .entry .coefs)) (self .entry .b) (now (bounds .entry)) .box ⌝ }
     {
         propagate_row_by(self.coefs, steps, self.b, bounds)
     }
@@ -105,8 +105,8 @@ pub fn propagate_row_at_by<'a, 'b, 'c, 'd>(
     bounds: &'d mut [i32],
 ) -> RowPropagation
     requires { ⌜ RowIn n (now coefs) (now rhs) r × ValidRow n (rowOf n (now coefs) r) (at (now rhs) r) (now bounds) × Steps n (rowOf n (now coefs) r) (now steps) ⌝ }
-    ensures answer { λ s. ⌜ propagationOutcome s ≡ propagateRow n (rowOf n (now (coefs .entry)) r) (at (now (rhs .entry)) r) (now (bounds .entry)) .outcome ⌝ }
-    ensures left { λ s. ⌜ now (bounds .exit) ≡ propagateRow n (rowOf n (now (coefs .entry)) r) (at (now (rhs .entry)) r) (now (bounds .entry)) .box ⌝ }
+    ensures answer { λ t. ⌜ propagationOutcome t ≡ propagateRow n (rowOf n (now (coefs .entry)) r) (at (now (rhs .entry)) r) (now (bounds .entry)) .outcome ⌝ }
+    ensures left { λ t. ⌜ now (bounds .exit) ≡ propagateRow n (rowOf n (now (coefs .entry)) r) (at (now (rhs .entry)) r) (now (bounds .entry)) .box ⌝ }
 {
     row_at(n, coefs, rhs, r).propagate_by(steps, bounds)
 }

@@ -1,48 +1,72 @@
--- `rounds::tighten_row`: the invariant says that the calls so far were made; a variable that is not free is passed over.
--- Assumes nothing.
-use Prim.Native.Nat.{_-_}
+-- `rounds::tighten_row`: the invariant says that the calls so far were made and that `most` is Lmax of the row as it is. A variable that
+-- is not free is passed over, and the call for a coefficient that fails the test would change nothing (`quiet-turn`). Assumes nothing.
+use Prim.Native.Nat.{_*_, _+_, _-_}
+use mathlib.Core.Bool.{_&&_}
 use mathlib.Core.Logic.{⊎-elim}
-use mathlib.Core.Path.{_∙_, refl, sym}
+use mathlib.Core.Path.{_∙_, _≡_, refl, sym}
+use mir.Facts.{toZ-ofZ}
+use mir.Syntax.{w64}
+use mir.Val.{toZ}
 use native.Mathlib.Omega.{arith}
-use Rattle.model.specs.Box.{isFree}
+use Rattle.integer.proofs.Tests.{T→true, and-l, true→T}
+use Rattle.model.specs.Box.{at, isFree}
+use Rattle.model.specs.Point.{rowOf}
+use Rattle.row.specs.Activity.{maxActivity}
+use Rattle.row.specs.Tightening.{mayTighten}
 use Rattle.semantics.specs.State.{callOf, stateOf}
 use Rattle.rounds.specs.Rounds.{sharpenCall, sharpenRow}
-use Rattle.rounds.proofs.RoundsLaws.{Turns, all-turns, call-turn, flag-kept, flag-raised, no-turn, skip-turn, turns-lengths, turns-valid}
+use Rattle.rounds.proofs.RoundsLaws.{Turns, all-turns, call-turn, flag-kept, flag-raised, leads-valid, looked-at, no-turn, one-call, quiet-turn, row-ready, turn, turns-lengths, turns-valid}
 use Rattle.rounds.proofs.tighten_row.Statement.{statement}
 use Rattle.rounds.proofs.tighten_row.Tie as tie
 
 abbrev Inv-loop : tie.InvT-loop
-Inv-loop n m bounds₀ coefs₀ rhs₀ table₀ row changed₀ k₀ bounds coefs rhs table changed k =
+Inv-loop n m bounds₀ coefs₀ rhs₀ table₀ row most₀ changed₀ k₀ bounds coefs rhs table most changed k =
     Turns n (sharpenCall row) (stateOf n m bounds₀ coefs₀ rhs₀ table₀) (stateOf n m bounds coefs rhs table) changed k
+    × (toZ w64 most ≡ maxActivity n (rowOf n coefs row) bounds)
 
 abbrev μ-loop : tie.MeasureT-loop
-μ-loop n m bounds₀ coefs₀ rhs₀ table₀ row changed₀ k₀ bounds coefs rhs table changed k = n - k
+μ-loop n m bounds₀ coefs₀ rhs₀ table₀ row most₀ changed₀ k₀ bounds coefs rhs table most changed k = n - k
+
+row-maximum-requires : tie.Need-row-maximum-requires Inv-loop μ-loop
+unfolding stateOf
+row-maximum-requires c κs = let s = c .before .before .before in row-ready (s .pre .1) (s .pre .0)
 
 loop-holds : tie.Need-loop-holds Inv-loop μ-loop
 unfolding stateOf
-loop-holds c = let s = c .before in no-turn (s .args .n) (sharpenCall (s .args .row)) (s .pre .1)
+loop-holds c = let s = c .before .before .before .before in (
+  no-turn (s .args .n) (sharpenCall (s .args .row)) (s .pre .1),
+  toZ-ofZ {w = w64} (record { sfits = c .row-maximum .ok }) ∙ c .row-maximum .ensures,
+)
 
 cast-loop : tie.Need-cast-loop Inv-loop μ-loop
 cast-loop c = omega arith
 
-cast-is-free : tie.Need-cast-is-free Inv-loop μ-loop
-cast-is-free c = omega arith
+cast-may-tighten-at : tie.Need-cast-may-tighten-at Inv-loop μ-loop
+cast-may-tighten-at c = omega arith
 
-is-free-requires : tie.Need-is-free-requires Inv-loop μ-loop
+may-tighten-at-requires : tie.Need-may-tighten-at-requires Inv-loop μ-loop
 unfolding stateOf
-is-free-requires c κs =
-    let t = c .before in omega (arith, t .loop-test .taken, turns-valid (t .before .loop .inv) .model .box .len)
+may-tighten-at-requires c κs =
+    let t = c .before .before .before in
+    let l = t .before .loop in
+    looked-at (turns-valid (l .inv .0)) (t .before .before .before .before .before .before .pre .0) (t .loop-test .taken) (l .inv .1)
 
 run-record-requires : tie.Need-run-record-requires Inv-loop μ-loop
-run-record-requires c κs = turns-valid (c .before .before .before .before .before .before .before .before .loop .inv)
+run-record-requires c κs = turns-valid (c .before .before .before .before .before .before .before .before .before .before .loop .inv .0)
 
 is-changed-requires : tie.Need-is-changed-requires Inv-loop μ-loop
 is-changed-requires c κs = tt
 
+row-maximum-requires-2 : tie.Need-row-maximum-requires-2 Inv-loop μ-loop
+unfolding stateOf
+row-maximum-requires-2 c κs =
+    let h = c .before .before .before .before .before .before .before .before .before .before .before .before .before .before .before .before .before .before .before .before in
+    row-ready (leads-valid (one-call _ (c .before .before .before .before .before .before .before .before .before .run-record .ensures) refl) (turns-valid (h .loop .inv .0))) (h .before .before .before .before .before .pre .0)
+
 add-k : tie.Need-add-k Inv-loop μ-loop
 unfolding stateOf
 add-k c =
-    let t = c .before .before .before in omega (arith, t .loop-test .taken, turns-valid (t .before .loop .inv) .model .few)
+    let t = c .before .before .before .before .before in omega (arith, t .loop-test .taken, turns-valid (t .before .loop .inv .0) .model .few)
 
 loop-less : tie.Need-loop-less Inv-loop μ-loop
 loop-less c = omega arith
@@ -50,46 +74,51 @@ loop-less c = omega arith
 loop-again : tie.Need-loop-again Inv-loop μ-loop
 unfolding stateOf callOf sharpenCall
 loop-again c =
-    let t = c .before .before .before in
-    let s = t .before .before .before in
+    let t = c .before .before .before .before .before in
+    let s = t .before .before .before .before .before .before in
     let l = t .before .loop in
-    let known = sym (c .before .is-free .ensures) in
+    let n = s .args .n in
+    let r = s .args .row in
+    let known = sym (c .before .may-tighten-at .ensures) in
+    let now = stateOf n (s .args .m) (l .bounds) (l .coefs) (l .rhs) (l .table) in
     let free = isFree (l .bounds) (l .k) in
-    let call = callOf (stateOf (s .args .n) (s .args .m) (l .bounds) (l .coefs) (l .rhs) (l .table)) 4 (s .args .row) (l .k) 0 in
-    let f = sharpenCall (s .args .row) in
+    let test = mayTighten (at (l .coefs) (r * n + l .k)) (toZ w64 (l .most)) (at (l .rhs) r) in
+    let call = callOf now 4 r (l .k) 0 in
+    let f = sharpenCall r in
     let h = t .loop-test .taken in
     ⊎-elim
-    (λ w. rw (w .13, w .14, w .15, w .16)
-    (call-turn (s .args .n) f (l .inv) free call refl h (known ∙ w .0 .taken) (w .5 .ensures) (w .11 .ensures)
-    (flag-raised (l .changed) (w .12 .taken) (w .17))))
-    (⊎-elim
-    (λ w. rw (w .13, w .14, w .15, w .16)
-    (call-turn (s .args .n) f (l .inv) free call refl h (known ∙ w .0 .taken) (w .5 .ensures) (w .11 .ensures)
-    (flag-kept (l .changed) (w .12 .left) (w .17))))
-    (λ w. rw (w .1, w .2, w .3, w .4) (skip-turn (s .args .n) f (l .inv) free call refl h (known ∙ w .0 .left) (w .5))))
+    (λ w. rw (w .16, w .17, w .18, w .19, w .20) (
+      call-turn n f (l .inv .0) free call refl h (T→true free (and-l free test (true→T (free && test) (known ∙ w .0 .taken)))) (w .5 .ensures) (w .11 .ensures)
+          (⊎-elim (λ v. flag-raised (l .changed) (v .0 .taken) (w .21 ∙ v .1)) (λ v. flag-kept (l .changed) (v .0 .left) (w .21 ∙ v .1)) (w .12 .came)),
+      toZ-ofZ {w = w64} (record { sfits = w .15 .ok }) ∙ w .15 .ensures,
+    ))
+    (λ w. rw (w .1, w .2, w .3, w .4, w .5) (
+      turn n f (l .inv .0) h (quiet-turn now r (l .k) h (l .inv .1) (known ∙ w .0 .left)) (flag-kept (l .changed) refl (w .6)),
+      l .inv .1,
+    ))
     (c .if1 .came)
 
 same-length : tie.Need-same-length Inv-loop μ-loop
 unfolding stateOf
-same-length c = turns-lengths (c .before .loop .inv) .box
+same-length c = turns-lengths (c .before .loop .inv .0) .box
 
 same-length-2 : tie.Need-same-length-2 Inv-loop μ-loop
 unfolding stateOf
-same-length-2 c = turns-lengths (c .before .loop .inv) .coefs
+same-length-2 c = turns-lengths (c .before .loop .inv .0) .coefs
 
 same-length-3 : tie.Need-same-length-3 Inv-loop μ-loop
 unfolding stateOf
-same-length-3 c = turns-lengths (c .before .loop .inv) .rhs
+same-length-3 c = turns-lengths (c .before .loop .inv .0) .rhs
 
 same-length-4 : tie.Need-same-length-4 Inv-loop μ-loop
 unfolding stateOf
-same-length-4 c = turns-lengths (c .before .loop .inv) .table
+same-length-4 c = turns-lengths (c .before .loop .inv .0) .table
 
 returns : tie.Need-returns Inv-loop μ-loop
 unfolding stateOf sharpenRow
 returns c =
-    let s = c .before .before .before in
-    let p = all-turns (s .args .n) (sharpenCall (s .args .row)) (c .before .loop .inv) (c .loop-test .left) in (p .left, p .changed)
+    let s = c .before .before .before .before .before .before in
+    let p = all-turns (s .args .n) (sharpenCall (s .args .row)) (c .before .loop .inv .0) (c .loop-test .left) in (p .left, p .changed)
 
 pub tighten-row-spec : {M : Type 1} → statement M
 tighten-row-spec =
@@ -97,12 +126,14 @@ tighten-row-spec =
     (tie.spec
     Inv-loop
     μ-loop
+    row-maximum-requires
     loop-holds
     cast-loop
-    cast-is-free
-    is-free-requires
+    cast-may-tighten-at
+    may-tighten-at-requires
     run-record-requires
     is-changed-requires
+    row-maximum-requires-2
     add-k
     loop-less
     loop-again
