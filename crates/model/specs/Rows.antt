@@ -1,8 +1,8 @@
 -- The rows of a model as one thing, and one row of them.
-use Prim.Native.Nat.{_*_, ℕ}
+use Prim.Native.Nat.{_*_, _+_, ℕ}
 use lib.IntN.{ℤ}
-use lib.ListN.{drop, take}
-use mathlib.Core.List.{List}
+use lib.ListN.{drop, length, set, take}
+use mathlib.Core.List.{List, _++_}
 use Rattle.model.specs.Box.{at}
 
 -- one row (01: "sum of coefficient × variable ≤ right side b")
@@ -25,3 +25,11 @@ rowOf n C i = take n (drop (i * n) C)
 -- row i: the one definition that opens it
 abbrev pub rowAt : ℕ → Rows → ℕ → Row
 rowAt n A i = record { coefs = rowOf n (A .coefs) i; rhs = at (A .rhs) i }
+
+-- the numbers A in place of those of C from p on
+unfoldable pub splice : List ℤ → List ℤ → ℕ → List ℤ
+splice C A p = take p C ++ (A ++ drop (p + length A) C)
+
+-- the rows A with r for row i
+unfoldable pub setRow : ℕ → Rows → ℕ → Row → Rows
+setRow n A i r = record { coefs = splice (A .coefs) (r .coefs) (i * n); rhs = set (A .rhs) i (r .rhs) }

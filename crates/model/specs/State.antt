@@ -1,10 +1,9 @@
 -- The state that calls work on, and what a call can change of it.
-use Prim.Native.Nat.{_*_, _+_, ℕ}
+use Prim.Native.Nat.{ℕ}
 use lib.IntN.{ℤ}
-use lib.ListN.{drop, length, set, take}
-use mathlib.Core.List.{List, _++_}
+use mathlib.Core.List.{List}
 use Rattle.model.specs.Model.{Model, modelOf}
-use Rattle.model.specs.Rows.{Row}
+use Rattle.model.specs.Rows.{Row, setRow}
 
 -- "The state is the model and the table."
 pub record State : Type 0 where
@@ -17,24 +16,10 @@ stateOf n m B C R t = record { model = modelOf n m B C R; table = t }
 
 -- another box and another table
 unfoldable pub withBox : State → List ℤ → List ℕ → State
-withBox s B t = record { model = record { n = s .model .n; m = s .model .m; box = B; rows = s .model .rows }; table = t }
-
--- the numbers A in place of those of C from p on
-unfoldable pub splice : List ℤ → List ℤ → ℕ → List ℤ
-splice C A p = take p C ++ (A ++ drop (p + length A) C)
+withBox s B t = let M = s .model in record { model = record { n = M .n; m = M .m; box = B; rows = M .rows }; table = t }
 
 -- row i becomes r
 unfoldable pub withRow : State → ℕ → Row → State
 withRow s i r =
-    record {
-      model = record {
-        n = s .model .n;
-        m = s .model .m;
-        box = s .model .box;
-        rows = record {
-          coefs = splice (s .model .rows .coefs) (r .coefs) (i * s .model .n);
-          rhs = set (s .model .rows .rhs) i (r .rhs);
-        };
-      };
-      table = s .table;
-    }
+    let M = s .model in
+    record { model = record { n = M .n; m = M .m; box = M .box; rows = setRow (M .n) (M .rows) i r }; table = s .table }

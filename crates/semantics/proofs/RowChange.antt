@@ -1,7 +1,7 @@
 -- A row that is changed: what stays, and that the points stay where the new row may take the old one's place.
 use Prim.Native.Nat.{_*_, _+_, _-_, _<_, _≤_, suc, zero, ℕ}
 use lib.IntN.{pos, ℤ}
-use lib.ListN.{List·getD-append, drop, length, length-append, length-drop, length-set, length-take, take, take-append-drop}
+use lib.ListN.{List·getD-append, drop, set, length, length-append, length-drop, length-set, length-take, take, take-append-drop}
 use lib.Seq.{drop-drop, ext-getD, getD-append-add, getD-drop, getD-set-other, getD-set-same, getD-take, length-take-le, set-getD}
 use mathlib.Core.List.{List, [], _++_, _∷_}
 use mathlib.Core.Logic.{_↔_, _≢_}
@@ -13,18 +13,21 @@ use Rattle.integer.proofs.IndexLaws.{getD-all, getD-set-all}
 use Rattle.integer.proofs.Parts.{zarith}
 use Rattle.model.specs.Box.{at}
 use Rattle.model.specs.Limits.{maxCoef, maxRhs, minCoef, minRhs}
-use Rattle.model.specs.Point.{InBox, InBoxOver, RowHolds, RowHoldsOver, rowOf}
-use Rattle.model.specs.Valid.{Between}
-use Rattle.row.specs.Redundancy.{removeRedundantRow}
-use Rattle.row.specs.Tightening.{tightenCoefficient}
+use Rattle.model.specs.Point.{InBox, InBoxOver, Meets, MeetsOver}
+use Rattle.model.specs.Rows.{Row, Rows, rowAt, rowOf, setRow, splice}
+use Rattle.model.specs.Valid.{Between, ValidModel}
 use Rattle.row.specs.ValidRow.{ValidRow}
 use Rattle.row.proofs.RedundancyLaws.{remove-redundant-row-replaces}
 use Rattle.row.proofs.Replacement.{Replaces}
 use Rattle.row.proofs.TighteningLaws.{tighten-coefficient-length, tighten-coefficient-other}
+use Rattle.row.specs.Tightening.{rowLeft, tightenRowOf}
+use Rattle.row.specs.Redundancy.{removeRowOf}
 use Rattle.semantics.specs.Demand2.{Untouched}
 use Rattle.semantics.specs.Perform.{act}
-use Rattle.semantics.specs.Points.{FractionalPointOf, PointOf, ValidModelOf}
-use Rattle.semantics.specs.State.{Call, State, removes, splice, tightens, withRow}
+use Rattle.semantics.specs.Points.{FractionalPointOf, PointOf}
+use Rattle.semantics.specs.Call.{Call, removal, tightening}
+use Rattle.model.specs.State.{State, withRow}
+use Rattle.model.specs.Model.{Model}
 
 -- ---- rows of a matrix
 
@@ -39,19 +42,21 @@ pub length-rowOf : (n m : ℕ) (C : List ℤ) (i : ℕ) → length C ≡ m * n �
 unfolding rowOf
 length-rowOf n m C i l h = let a : suc i * n ≤ m * n = mul-le-mul-right n h in simp (length-take, length-drop) (omega arith)
 
-pub row-valid : (s : State) (r : ℕ) → ValidModelOf s → r < s .m → ValidRow (s .n) (rowOf (s .n) (s .coefs) r) (at (s .rhs) r) (s .box)
-row-valid s r v h =
-    let l = length-rowOf (s .n) (s .m) (s .coefs) r (v .coefsLen) h in
+pub row-valid : (M : Model) (i : ℕ) → ValidModel M → i < M .m
+    → let r = rowAt (M .n) (M .rows) i in ValidRow (M .n) (r .coefs) (r .rhs) (M .box)
+row-valid M i v h =
+    let C = M .rows .coefs in
+    let l = length-rowOf (M .n) (M .m) C i (v .coefsLen) h in
     record {
       coefs = record {
         some = v .some;
         few = v .few;
         len = l;
-        range = getD-all (rowOf (s .n) (s .coefs) r) (pos 0) (Between minCoef maxCoef) (record { above = omega zarith; below = omega zarith })
-            (λ j k. rw (at-rowOf (s .n) (s .coefs) r j (omega arith)) (v .coefs (r * s .n + j)));
+        range = getD-all (rowOf (M .n) C i) (pos 0) (Between minCoef maxCoef) (record { above = omega zarith; below = omega zarith })
+            (λ j k. rw (at-rowOf (M .n) C i j (omega arith)) (v .coefs (i * M .n + j)));
         box = v .box;
       };
-      rhs = v .rhs r;
+      rhs = v .rhs i;
     }
 
 -- ---- A in place of the numbers from p on
@@ -111,137 +116,168 @@ unfolding splice
 splice-same C n p =
     rw (← drop-drop (length (take n (drop p C))) p C, take-drop-length n (drop p C)) (take-append-drop p C)
 
--- a row that is as it was
-pub withRow-same : (s : State) (r : ℕ) (A : List ℤ) (b : ℤ) → A ≡ rowOf (s .n) (s .coefs) r → b ≡ at (s .rhs) r → withRow s r A b ≡ s
-unfolding withRow rowOf
-withRow-same s r A b e f = rw (e, f, splice-same (s .coefs) (s .n) (r * s .n), set-getD (s .rhs) r (pos 0))
+-- ---- row i of rows with the right lengths becomes r
 
--- ---- row r of a valid model becomes A, with the right side b
+module _ (n m : ℕ) (A : Rows) (i : ℕ) (r : Row)
+    (coefsLen : length (A .coefs) ≡ m * n) (rhsLen : length (A .rhs) ≡ m) (im : i < m) (len : length (r .coefs) ≡ n) where
+  fits : i * n + length (r .coefs) ≤ length (A .coefs)
+  fits = let a : suc i * n ≤ m * n = mul-le-mul-right n im in omega arith
 
-module _ (s : State) (r : ℕ) (A : List ℤ) (b : ℤ) (v : ValidModelOf s) (rm : r < s .m) (len : length A ≡ s .n) where
-  fits : r * s .n + length A ≤ length (s .coefs)
-  fits = let a : suc r * s .n ≤ s .m * s .n = mul-le-mul-right (s .n) rm in omega (arith, v .coefsLen)
-
-  pub withRow-coefs : (i j : ℕ) → j < s .n → i ≢ r → at (withRow s r A b .coefs) (i * s .n + j) ≡ at (s .coefs) (i * s .n + j)
-  unfolding withRow
-  withRow-coefs i j h ne = cases (decLt i r)
+  pub setRow-coefs : (k j : ℕ) → j < n → k ≢ i → at (setRow n A i r .coefs) (k * n + j) ≡ at (A .coefs) (k * n + j)
+  unfolding setRow
+  setRow-coefs k j h ne = cases (decLt k i)
     where
-      cases : Dec (i < r) → at (splice (s .coefs) A (r * s .n)) (i * s .n + j) ≡ at (s .coefs) (i * s .n + j)
-      cases (yes l) = splice-before (s .coefs) A (r * s .n) fits (i * s .n + j) (omega (arith, index-lt (s .n) i j r 0 h l))
+      cases : Dec (k < i) → at (splice (A .coefs) (r .coefs) (i * n)) (k * n + j) ≡ at (A .coefs) (k * n + j)
+      cases (yes l) = splice-before (A .coefs) (r .coefs) (i * n) fits (k * n + j) (omega (arith, index-lt n k j i 0 h l))
       cases (no l) =
-          let a : suc r * s .n ≤ i * s .n = mul-le-mul-right (s .n) (omega arith) in
-          splice-after (s .coefs) A (r * s .n) fits (i * s .n + j) (omega arith)
+          let a : suc i * n ≤ k * n = mul-le-mul-right n (omega arith) in
+          splice-after (A .coefs) (r .coefs) (i * n) fits (k * n + j) (omega arith)
 
-  -- where A differs from the old row in coefficient k only
-  pub withRow-coef : (k : ℕ) → ((j : ℕ) → j ≢ k → at A j ≡ at (rowOf (s .n) (s .coefs) r) j)
-      → (i : ℕ) → i ≢ r * s .n + k → at (withRow s r A b .coefs) i ≡ at (s .coefs) i
-  unfolding withRow
-  withRow-coef k f i ne = cases (decLt i (r * s .n)) (decLt i (r * s .n + length A))
+  -- where r differs from the old row in coefficient k only
+  pub setRow-coef : (k : ℕ) → ((j : ℕ) → j ≢ k → at (r .coefs) j ≡ at (rowAt n A i .coefs) j)
+      → (p : ℕ) → p ≢ i * n + k → at (setRow n A i r .coefs) p ≡ at (A .coefs) p
+  unfolding setRow
+  setRow-coef k f p ne = cases (decLt p (i * n)) (decLt p (i * n + length (r .coefs)))
     where
-      cases : Dec (i < r * s .n) → Dec (i < r * s .n + length A) → at (splice (s .coefs) A (r * s .n)) i ≡ at (s .coefs) i
-      cases (yes l) d = splice-before (s .coefs) A (r * s .n) fits i l
+      cases : Dec (p < i * n) → Dec (p < i * n + length (r .coefs)) → at (splice (A .coefs) (r .coefs) (i * n)) p ≡ at (A .coefs) p
+      cases (yes l) d = splice-before (A .coefs) (r .coefs) (i * n) fits p l
       cases (no l) (yes h) =
-          let j : ℕ = i - r * s .n in
-          let e : r * s .n + j ≡ i = omega arith in
-          rw e at (splice-at (s .coefs) A (r * s .n) fits j (omega arith) ∙ f j (omega arith) ∙ at-rowOf (s .n) (s .coefs) r j (omega arith))
-      cases (no l) (no h) = splice-after (s .coefs) A (r * s .n) fits i (omega arith)
+          let j : ℕ = p - i * n in
+          let e : i * n + j ≡ p = omega arith in
+          rw e at (splice-at (A .coefs) (r .coefs) (i * n) fits j (omega arith) ∙ f j (omega arith) ∙ at-rowOf n (A .coefs) i j (omega arith))
+      cases (no l) (no h) = splice-after (A .coefs) (r .coefs) (i * n) fits p (omega arith)
 
-  pub withRow-rhs : (i : ℕ) → i ≢ r → at (withRow s r A b .rhs) i ≡ at (s .rhs) i
-  unfolding withRow
-  withRow-rhs i ne = getD-set-other (s .rhs) r i b (pos 0) ne
+  pub setRow-rhs : (k : ℕ) → k ≢ i → at (setRow n A i r .rhs) k ≡ at (A .rhs) k
+  unfolding setRow
+  setRow-rhs k ne = getD-set-other (A .rhs) i k (r .rhs) (pos 0) ne
 
-  pub withRow-length : length (withRow s r A b .coefs) ≡ s .m * s .n
-  unfolding withRow
-  withRow-length = length-splice (s .coefs) A (r * s .n) fits ∙ v .coefsLen
+  pub setRow-length : length (setRow n A i r .coefs) ≡ m * n
+  unfolding setRow
+  setRow-length = length-splice (A .coefs) (r .coefs) (i * n) fits ∙ coefsLen
 
-  -- the rows, and with them their right sides
-  pub withRow-row : rowOf (s .n) (withRow s r A b .coefs) r ≡ A
-  unfolding withRow
-  withRow-row =
-      let C = splice (s .coefs) A (r * s .n) in
-      let l = length-rowOf (s .n) (s .m) C r withRow-length rm in
-      ext-getD (pos 0) (rowOf (s .n) C r) A (cc)
-      (λ j h. at-rowOf (s .n) C r j (omega arith) ∙ splice-at (s .coefs) A (r * s .n) fits j (omega arith))
-
-  pub withRow-row-rhs : at (withRow s r A b .rhs) r ≡ b
-  unfolding withRow
-  withRow-row-rhs = getD-set-same (s .rhs) r b (pos 0) (omega (arith, v .rhsLen))
-
-  pub withRow-row-other : (i : ℕ) → i < s .m → i ≢ r → rowOf (s .n) (withRow s r A b .coefs) i ≡ rowOf (s .n) (s .coefs) i
-  withRow-row-other i h ne =
-      let l = length-rowOf (s .n) (s .m) (withRow s r A b .coefs) i withRow-length h in
-      let k = length-rowOf (s .n) (s .m) (s .coefs) i (v .coefsLen) h in
-      ext-getD (pos 0) (rowOf (s .n) (withRow s r A b .coefs) i) (rowOf (s .n) (s .coefs) i) (cc)
-      (λ j q. at-rowOf (s .n) (withRow s r A b .coefs) i j (omega arith) ∙ withRow-coefs i j (omega arith) ne
-      ∙ sym (at-rowOf (s .n) (s .coefs) i j (omega arith)))
-
-  -- what holds of A and b, and held of the rows before, holds of the rows
-  withRow-ind : (P : ℕ → List ℤ → ℤ → Type 0) → P r A b → ((i : ℕ) → i < s .m → i ≢ r → P i (rowOf (s .n) (s .coefs) i) (at (s .rhs) i))
-      → (i : ℕ) → i < s .m → P i (rowOf (s .n) (withRow s r A b .coefs) i) (at (withRow s r A b .rhs) i)
-  withRow-ind P p f i h = cases (ℕ-discrete i r)
+  -- the rows then
+  pub setRow-row : rowAt n (setRow n A i r) i ≡ r
+  unfolding setRow
+  setRow-row = rw (coefs, rhs)
     where
-      cases : Dec (i ≡ r) → P i (rowOf (s .n) (withRow s r A b .coefs) i) (at (withRow s r A b .rhs) i)
-      cases (yes e) = rw (e, withRow-row, withRow-row-rhs) p
-      cases (no ne) = rw (withRow-row-other i h ne, withRow-rhs i ne) (f i h ne)
+      coefs : rowOf n (splice (A .coefs) (r .coefs) (i * n)) i ≡ r .coefs
+      coefs =
+          let C = splice (A .coefs) (r .coefs) (i * n) in
+          let l = length-rowOf n m C i setRow-length im in
+          ext-getD (pos 0) (rowOf n C i) (r .coefs) (cc)
+          (λ j h. at-rowOf n C i j (omega arith) ∙ splice-at (A .coefs) (r .coefs) (i * n) fits j (omega arith))
 
-pub withRow-valid : (s : State) (r : ℕ) (A : List ℤ) (b : ℤ) → ValidModelOf s → r < s .m → ValidRow (s .n) A b (s .box) → ValidModelOf (withRow s r A b)
+      rhs : at (set (A .rhs) i (r .rhs)) i ≡ r .rhs
+      rhs = getD-set-same (A .rhs) i (r .rhs) (pos 0) (omega arith)
+
+  pub setRow-other : (k : ℕ) → k < m → k ≢ i → rowAt n (setRow n A i r) k ≡ rowAt n A k
+  setRow-other k h ne = rw (coefs, setRow-rhs k ne)
+    where
+      coefs : rowOf n (setRow n A i r .coefs) k ≡ rowOf n (A .coefs) k
+      coefs =
+          let l = length-rowOf n m (setRow n A i r .coefs) k setRow-length h in
+          let o = length-rowOf n m (A .coefs) k coefsLen h in
+          ext-getD (pos 0) (rowOf n (setRow n A i r .coefs) k) (rowOf n (A .coefs) k) (cc)
+          (λ j q. at-rowOf n (setRow n A i r .coefs) k j (omega arith) ∙ setRow-coefs k j (omega arith) ne
+          ∙ sym (at-rowOf n (A .coefs) k j (omega arith)))
+
+  -- what holds of r, and held of the other rows before, holds of the rows
+  setRow-ind : (P : ℕ → Row → Type 0) → P i r → ((k : ℕ) → k < m → k ≢ i → P k (rowAt n A k))
+      → (k : ℕ) → k < m → P k (rowAt n (setRow n A i r) k)
+  setRow-ind P p f k h = cases (ℕ-discrete k i)
+    where
+      cases : Dec (k ≡ i) → P k (rowAt n (setRow n A i r) k)
+      cases (yes e) = subst (λ (z : ℕ). P z (rowAt n (setRow n A i r) z)) (sym e) (subst (P i) (sym setRow-row) p)
+      cases (no ne) = subst (P k) (sym (setRow-other k h ne)) (f k h ne)
+
+-- a row that is as it was
+pub setRow-same : (n : ℕ) (A : Rows) (i : ℕ) (r : Row) → r .coefs ≡ rowAt n A i .coefs → r .rhs ≡ rowAt n A i .rhs → setRow n A i r ≡ A
+unfolding setRow rowOf
+setRow-same n A i r e f = rw (e, f, splice-same (A .coefs) n (i * n), set-getD (A .rhs) i (pos 0))
+
+pub withRow-same : (s : State) (i : ℕ) (r : Row) → let q = rowAt (s .model .n) (s .model .rows) i in
+    r .coefs ≡ q .coefs → r .rhs ≡ q .rhs → withRow s i r ≡ s
 unfolding withRow
-withRow-valid s r A b v rm w = record {
-  some = v .some;
-  few = v .few;
-  fewRows = v .fewRows;
-  box = v .box;
-  coefsLen = withRow-length s r A b v rm (w .coefs .len);
-  coefs = splice-all (s .coefs) A (r * s .n) (fits s r A b v rm (w .coefs .len)) (Between minCoef maxCoef) (v .coefs) (w .coefs .range);
-  rhsLen = length-set (s .rhs) r b ∙ v .rhsLen;
-  rhs = getD-set-all (s .rhs) r b (pos 0) (Between minRhs maxRhs) (w .rhs) (v .rhs);
-}
+withRow-same s i r e f = rw (setRow-same (s .model .n) (s .model .rows) i r e f)
 
--- A may take the old row's place: the integer points stay, and no fractional point is added
-module _ (s : State) (r : ℕ) (A : List ℤ) (b : ℤ) (v : ValidModelOf s) (rm : r < s .m)
-    (w : Replaces (s .n) (rowOf (s .n) (s .coefs) r) (at (s .rhs) r) A b (s .box)) where
-  row-points : (x : List ℤ) → InBox (s .n) (s .box) x → (i : ℕ) → i < s .m
-      → RowHolds (s .n) (rowOf (s .n) (withRow s r A b .coefs) i) (at (withRow s r A b .rhs) i) x ↔ RowHolds (s .n) (rowOf (s .n) (s .coefs) i) (at (s .rhs) i) x
-  row-points x q = withRow-ind s r A b v rm (w .len) (λ i A′ b′. RowHolds (s .n) A′ b′ x ↔ RowHolds (s .n) (rowOf (s .n) (s .coefs) i) (at (s .rhs) i) x)
-      (w .points q) (λ i h ne. ((λ p. p), (λ p. p)))
+pub withRow-valid : (s : State) (i : ℕ) (r : Row) → ValidModel (s .model) → i < s .model .m
+    → ValidRow (s .model .n) (r .coefs) (r .rhs) (s .model .box) → ValidModel (withRow s i r .model)
+unfolding withRow setRow
+withRow-valid s i r v im w =
+    let n = s .model .n in
+    let A = s .model .rows in
+    record {
+      some = v .some;
+      few = v .few;
+      fewRows = v .fewRows;
+      box = v .box;
+      coefsLen = setRow-length n (s .model .m) A i r (v .coefsLen) (v .rhsLen) im (w .coefs .len);
+      coefs = splice-all (A .coefs) (r .coefs) (i * n) (fits n (s .model .m) A i r (v .coefsLen) (v .rhsLen) im (w .coefs .len))
+          (Between minCoef maxCoef) (v .coefs) (w .coefs .range);
+      rhsLen = length-set (A .rhs) i (r .rhs) ∙ v .rhsLen;
+      rhs = getD-set-all (A .rhs) i (r .rhs) (pos 0) (Between minRhs maxRhs) (w .rhs) (v .rhs);
+    }
 
-  pub withRow-points : (x : List ℤ) → PointOf (withRow s r A b) x ↔ PointOf s x
+-- r may take the old row's place: the integer points stay, and no fractional point is added
+module _ (s : State) (i : ℕ) (r : Row) (v : ValidModel (s .model)) (im : i < s .model .m)
+    (w : let q = rowAt (s .model .n) (s .model .rows) i in Replaces (s .model .n) (q .coefs) (q .rhs) (r .coefs) (r .rhs) (s .model .box)) where
+  abbrev n : ℕ
+  n = s .model .n
+
+  abbrev A : Rows
+  A = s .model .rows
+
+  row-points : (x : List ℤ) → InBox n (s .model .box) x → (k : ℕ) → k < s .model .m
+      → Meets n (rowAt n (setRow n A i r) k) x ↔ Meets n (rowAt n A k) x
+  row-points x q = setRow-ind n (s .model .m) A i r (v .coefsLen) (v .rhsLen) im (w .len)
+      (λ k t. Meets n t x ↔ Meets n (rowAt n A k) x) (w .points q) (λ k h ne. ((λ p. p), (λ p. p)))
+
+  pub withRow-points : (x : List ℤ) → PointOf (withRow s i r) x ↔ PointOf s x
   unfolding withRow
   withRow-points x = (
-    (λ p. record { len = p .len; inside = p .inside; rows = λ i h. row-points x (p .inside) i h .0 (p .rows i h) }),
-    (λ p. record { len = p .len; inside = p .inside; rows = λ i h. row-points x (p .inside) i h .1 (p .rows i h) }),
+    (λ p. record { len = p .len; inside = p .inside; rows = λ k h. row-points x (p .inside) k h .0 (p .rows k h) }),
+    (λ p. record { len = p .len; inside = p .inside; rows = λ k h. row-points x (p .inside) k h .1 (p .rows k h) }),
   )
 
-  row-fractional : (x : List ℤ) (d : ℕ) → InBoxOver (s .n) (s .box) x d → (i : ℕ) → i < s .m
-      → RowHoldsOver (s .n) (rowOf (s .n) (withRow s r A b .coefs) i) (at (withRow s r A b .rhs) i) x d
-      → RowHoldsOver (s .n) (rowOf (s .n) (s .coefs) i) (at (s .rhs) i) x d
-  row-fractional x d q = withRow-ind s r A b v rm (w .len)
-      (λ i A′ b′. RowHoldsOver (s .n) A′ b′ x d → RowHoldsOver (s .n) (rowOf (s .n) (s .coefs) i) (at (s .rhs) i) x d) (w .over q) (λ i h ne p. p)
+  row-fractional : (x : List ℤ) (d : ℕ) → InBoxOver n (s .model .box) x d → (k : ℕ) → k < s .model .m
+      → MeetsOver n (rowAt n (setRow n A i r) k) x d → MeetsOver n (rowAt n A k) x d
+  row-fractional x d q = setRow-ind n (s .model .m) A i r (v .coefsLen) (v .rhsLen) im (w .len)
+      (λ k t. MeetsOver n t x d → MeetsOver n (rowAt n A k) x d) (w .over q) (λ k h ne p. p)
 
-  pub withRow-fractional : (x : List ℤ) (d : ℕ) → FractionalPointOf (withRow s r A b) x d → FractionalPointOf s x d
+  pub withRow-fractional : (x : List ℤ) (d : ℕ) → FractionalPointOf (withRow s i r) x d → FractionalPointOf s x d
   unfolding withRow
   withRow-fractional x d p =
-      record { len = p .len; positive = p .positive; inside = p .inside; rows = λ i h. row-fractional x d (p .inside) i h (p .rows i h) }
+      record { len = p .len; positive = p .positive; inside = p .inside; rows = λ k h. row-fractional x d (p .inside) k h (p .rows k h) }
 
 -- ---- what a tightening and a removal leave
 
-pub tightens-untouched : (s : State) (c : Call) → ValidModelOf s → c .row < s .m → Untouched tightens s c (act tightens s c .state)
-unfolding Untouched act withRow
-tightens-untouched s c v rm =
-    let A = rowOf (s .n) (s .coefs) (c .row) in
-    let q = tightenCoefficient (s .n) A (at (s .rhs) (c .row)) (s .box) (c .variable) in
-    let len : length (q .coefs) ≡ s .n = tighten-coefficient-length (s .n) A (at (s .rhs) (c .row)) (s .box) (c .variable)
-    ∙ length-rowOf (s .n) (s .m) (s .coefs) (c .row) (v .coefsLen) rm in (
-      refl,
-      refl,
-      withRow-coef s (c .row) (q .coefs) (q .rhs) v rm len (c .variable) (λ j. tighten-coefficient-other (s .n) A (at (s .rhs) (c .row)) (s .box) (c .variable) j),
-      withRow-rhs s (c .row) (q .coefs) (q .rhs) v rm len,
-    )
+module _ (s : State) (c : Call) (v : ValidModel (s .model)) (rm : c .row < s .model .m) where
+  abbrev old : Row
+  old = rowAt (s .model .n) (s .model .rows) (c .row)
 
-pub removes-untouched : (s : State) (c : Call) → ValidModelOf s → c .row < s .m → Untouched removes s c (act removes s c .state)
-unfolding Untouched act withRow
-removes-untouched s c v rm =
-    let A = rowOf (s .n) (s .coefs) (c .row) in
-    let q = removeRedundantRow (s .n) A (at (s .rhs) (c .row)) (s .box) in
-    let len = remove-redundant-row-replaces (s .n) A (at (s .rhs) (c .row)) (s .box) (length-rowOf (s .n) (s .m) (s .coefs) (c .row) (v .coefsLen) rm) .len in
-    (refl, refl, withRow-coefs s (c .row) (q .coefs) (q .rhs) v rm len, withRow-rhs s (c .row) (q .coefs) (q .rhs) v rm len)
+  old-length : length (old .coefs) ≡ s .model .n
+  old-length = length-rowOf (s .model .n) (s .model .m) (s .model .rows .coefs) (c .row) (v .coefsLen) rm
+
+  pub tightening-untouched : Untouched tightening s c (act tightening s c .state)
+  unfolding Untouched act withRow
+  tightening-untouched =
+      let q = tightenRowOf (s .model .n) old (s .model .box) (c .variable) in
+      let len : length (q .coefs) ≡ s .model .n =
+      tighten-coefficient-length (s .model .n) (old .coefs) (old .rhs) (s .model .box) (c .variable) ∙ old-length in (
+        refl,
+        refl,
+        setRow-coef (s .model .n) (s .model .m) (s .model .rows) (c .row) (rowLeft q) (v .coefsLen) (v .rhsLen) rm len (c .variable)
+            (λ j. tighten-coefficient-other (s .model .n) (old .coefs) (old .rhs) (s .model .box) (c .variable) j),
+        setRow-rhs (s .model .n) (s .model .m) (s .model .rows) (c .row) (rowLeft q) (v .coefsLen) (v .rhsLen) rm len,
+      )
+
+  pub removal-untouched : Untouched removal s c (act removal s c .state)
+  unfolding Untouched act withRow
+  removal-untouched =
+      let q = removeRowOf (s .model .n) old (s .model .box) in
+      let len = remove-redundant-row-replaces (s .model .n) (old .coefs) (old .rhs) (s .model .box) old-length .len in (
+        refl,
+        refl,
+        setRow-coefs (s .model .n) (s .model .m) (s .model .rows) (c .row) (rowLeft q) (v .coefsLen) (v .rhsLen) rm len,
+        setRow-rhs (s .model .n) (s .model .m) (s .model .rows) (c .row) (rowLeft q) (v .coefsLen) (v .rhsLen) rm len,
+      )

@@ -4,13 +4,14 @@ use lib.IntN.{negsuc, negℤ, pos, ℤ}
 use mathlib.Core.Bool.{false, true}
 use mathlib.Core.List.{List, [], _∷_}
 use Rattle.row.specs.Outcome.{changed, infeasible, unchanged}
-use Rattle.semantics.specs.Books.{Line, boxed, callOn, drop, is, kept, model, probe, rowed, settle, sharpen, visit}
+use Rattle.semantics.specs.Books.{Line, boxed, callOn, removeCall, is, kept, model, probeCall, rowed, propagateCall, tightenCall, propagateRowCall}
 use Rattle.semantics.specs.Perform.{perform, probed, propagated, propagatedRow, refused, removed, tightened}
 use Rattle.semantics.specs.Probe.{Side, bothFeasible, fixed, infeasible as bothInfeasible}
 use Rattle.semantics.specs.Propagate.{converged, infeasible as none}
 use Rattle.semantics.specs.Run.{noCounts, tally}
 use Rattle.semantics.specs.RestTest.{isProbingFixpoint, restFault}
-use Rattle.semantics.specs.State.{Call, Lengths, State, withBox}
+use Rattle.semantics.specs.Call.{Call, Lengths}
+use Rattle.model.specs.State.{State, withBox}
 use Rattle.semantics.specs.WorkedBooks.{binary2, empty2, pair, single}
 
 -- x + y ≤ 1 on the empty box
@@ -50,31 +51,31 @@ spentSide p = record { passes = p; spent = true }
 unfoldable pub corners : List Line
 corners =
     -- the empty box: each call answers None and changes nothing, a settle with 1 pass, a probe with 0 for each side; rest says yes
-    is (perform emptied (visit emptied 0)) (kept emptied (propagatedRow infeasible))
-    ∷ is (perform emptied (settle emptied 7)) (kept emptied (propagated none 1))
-    ∷ is (perform emptied (probe emptied 1 7)) (kept emptied (probed bothInfeasible (unspent 0) (unspent 0)))
-    ∷ is (perform emptied (sharpen emptied 0 1)) (kept emptied (tightened infeasible))
-    ∷ is (perform emptied (drop emptied 0)) (kept emptied (removed infeasible))
-    ∷ is (isProbingFixpoint 2 1 (emptied .coefs) (emptied .rhs) empty2) true
+    is (perform emptied (propagateRowCall emptied 0)) (kept emptied (propagatedRow infeasible))
+    ∷ is (perform emptied (propagateCall emptied 7)) (kept emptied (propagated none 1))
+    ∷ is (perform emptied (probeCall emptied 1 7)) (kept emptied (probed bothInfeasible (unspent 0) (unspent 0)))
+    ∷ is (perform emptied (tightenCall emptied 0 1)) (kept emptied (tightened infeasible))
+    ∷ is (perform emptied (removeCall emptied 0)) (kept emptied (removed infeasible))
+    ∷ is (isProbingFixpoint 2 1 (emptied .model .rows) empty2) true
     -- and 11, 12, 13 and 15 still refuse there, while 14 does not apply
     ∷ is (perform emptied (callOn emptied 0 0 0 1)) (kept emptied (refused 11))
     ∷ is (perform emptied (callOn emptied 6 0 0 1)) (kept emptied (refused 11))
-    ∷ is (perform emptied (visit emptied 1)) (kept emptied (refused 12))
-    ∷ is (perform emptied (probe emptied 2 7)) (kept emptied (refused 13))
-    ∷ is (perform emptied (probe emptied 1 0)) (kept emptied (refused 15))
-    ∷ is (perform emptied (settle emptied 0)) (kept emptied (refused 15))
-    ∷ is (perform emptied (sharpen emptied 1 0)) (kept emptied (refused 12))
-    ∷ is (perform emptied (sharpen emptied 0 2)) (kept emptied (refused 13))
-    ∷ is (perform emptied (drop emptied 1)) (kept emptied (refused 12))
+    ∷ is (perform emptied (propagateRowCall emptied 1)) (kept emptied (refused 12))
+    ∷ is (perform emptied (probeCall emptied 2 7)) (kept emptied (refused 13))
+    ∷ is (perform emptied (probeCall emptied 1 0)) (kept emptied (refused 15))
+    ∷ is (perform emptied (propagateCall emptied 0)) (kept emptied (refused 15))
+    ∷ is (perform emptied (tightenCall emptied 1 0)) (kept emptied (refused 12))
+    ∷ is (perform emptied (tightenCall emptied 0 2)) (kept emptied (refused 13))
+    ∷ is (perform emptied (removeCall emptied 1)) (kept emptied (refused 12))
     -- n and m, then the lengths, before the call's own checks; a table's length only where one is lent
-    ∷ is (perform emptied (withSizes (visit emptied 1) 0 1)) (kept emptied (refused 3))
-    ∷ is (perform emptied (withSizes (visit emptied 1) 129 1)) (kept emptied (refused 3))
-    ∷ is (perform emptied (withSizes (visit emptied 1) 2 121)) (kept emptied (refused 3))
-    ∷ is (perform emptied (withSizes (visit emptied 1) 1 1)) (kept emptied (refused 5))
-    ∷ is (perform emptied (withLengths (visit emptied 1) (record { box = 3; coefs = 2; rhs = 1; table = 16 }))) (kept emptied (refused 5))
-    ∷ is (perform emptied (withLengths (visit emptied 0) (record { box = 4; coefs = 2; rhs = 1; table = 0 })))
+    ∷ is (perform emptied (withSizes (propagateRowCall emptied 1) 0 1)) (kept emptied (refused 3))
+    ∷ is (perform emptied (withSizes (propagateRowCall emptied 1) 129 1)) (kept emptied (refused 3))
+    ∷ is (perform emptied (withSizes (propagateRowCall emptied 1) 2 121)) (kept emptied (refused 3))
+    ∷ is (perform emptied (withSizes (propagateRowCall emptied 1) 1 1)) (kept emptied (refused 5))
+    ∷ is (perform emptied (withLengths (propagateRowCall emptied 1) (record { box = 3; coefs = 2; rhs = 1; table = 16 }))) (kept emptied (refused 5))
+    ∷ is (perform emptied (withLengths (propagateRowCall emptied 0) (record { box = 4; coefs = 2; rhs = 1; table = 0 })))
     (kept emptied (propagatedRow infeasible))
-    ∷ is (perform emptied (withLengths (probe emptied 0 1) (record { box = 4; coefs = 2; rhs = 1; table = 15 }))) (kept emptied (refused 5))
+    ∷ is (perform emptied (withLengths (probeCall emptied 0 1) (record { box = 4; coefs = 2; rhs = 1; table = 15 }))) (kept emptied (refused 5))
     -- each call of another box by its own checks, in their order: 12 before 13 before 14 before 15
     ∷ (let s = single (pos 2) (pos 5) (pos 0) (pos 5) in is (perform s (callOn s 4 1 1 0)) (kept s (refused 12)))
     ∷ (let s = single (pos 2) (pos 5) (pos 0) (pos 5) in is (perform s (callOn s 4 0 1 0)) (kept s (refused 13)))
@@ -85,59 +86,59 @@ corners =
     ∷ (let s = single (pos 2) (pos 5) (pos 0) (pos 1) in is (perform s (callOn s 2 9 9 0)) (kept s (refused 15)))
     -- the largest budget, and one more
     ∷ (let s = single (pos 2) (pos 5) (pos 0) (pos 5) in
-    is (perform s (settle s 8_388_481)) (boxed s (propagated converged 2) (pos 0 ∷ pos 2 ∷ [])))
-    ∷ (let s = single (pos 2) (pos 5) (pos 0) (pos 5) in is (perform s (settle s 8_388_482)) (kept s (refused 15)))
-    ∷ (let s = single (pos 2) (pos 5) (pos 0) (pos 1) in is (perform s (probe s 0 8_388_482)) (kept s (refused 15)))
+    is (perform s (propagateCall s 8_388_481)) (boxed s (propagated converged 2) (pos 0 ∷ pos 2 ∷ [])))
+    ∷ (let s = single (pos 2) (pos 5) (pos 0) (pos 5) in is (perform s (propagateCall s 8_388_482)) (kept s (refused 15)))
+    ∷ (let s = single (pos 2) (pos 5) (pos 0) (pos 1) in is (perform s (probeCall s 0 8_388_482)) (kept s (refused 15)))
     -- a sharpen at a variable that is not free is refused by 14, also where its coefficient is 0
-    ∷ (let s = single (pos 0) (pos 5) (pos 0) (pos 5) in is (perform s (sharpen s 0 0)) (kept s (refused 14)))
+    ∷ (let s = single (pos 0) (pos 5) (pos 0) (pos 5) in is (perform s (tightenCall s 0 0)) (kept s (refused 14)))
     -- no rows: Settled after 1; a visit has no row to take; both sides of a probe are the box itself
-    ∷ (let s = model 1 0 (pos 0 ∷ pos 5 ∷ []) [] [] in is (perform s (settle s 3)) (kept s (propagated converged 1)))
-    ∷ (let s = model 1 0 (pos 1 ∷ pos 0 ∷ []) [] [] in is (perform s (settle s 3)) (kept s (propagated none 1)))
-    ∷ (let s = model 1 0 (pos 0 ∷ pos 1 ∷ []) [] [] in is (perform s (visit s 0)) (kept s (refused 12)))
+    ∷ (let s = model 1 0 (pos 0 ∷ pos 5 ∷ []) [] [] in is (perform s (propagateCall s 3)) (kept s (propagated converged 1)))
+    ∷ (let s = model 1 0 (pos 1 ∷ pos 0 ∷ []) [] [] in is (perform s (propagateCall s 3)) (kept s (propagated none 1)))
+    ∷ (let s = model 1 0 (pos 0 ∷ pos 1 ∷ []) [] [] in is (perform s (propagateRowCall s 0)) (kept s (refused 12)))
     ∷ (let s = model 1 0 (pos 0 ∷ pos 1 ∷ []) [] [] in
-    is (perform s (probe s 0 1)) (kept s (probed (bothFeasible 0) (unspent 1) (unspent 1))))
+    is (perform s (probeCall s 0 1)) (kept s (probed (bothFeasible 0) (unspent 1) (unspent 1))))
     -- one pass is enough where nothing moves; a pass that None breaks off counts as made
-    ∷ (let s = single (pos 2) (pos 5) (pos 0) (pos 2) in is (perform s (settle s 1)) (kept s (propagated converged 1)))
+    ∷ (let s = single (pos 2) (pos 5) (pos 0) (pos 2) in is (perform s (propagateCall s 1)) (kept s (propagated converged 1)))
     ∷ (let s = single (pos 2) (negsuc 0) (pos 0) (pos 2) in
-    is (perform s (settle s 9)) (boxed s (propagated none 1) (pos 1 ∷ pos 0 ∷ [])))
+    is (perform s (propagateCall s 9)) (boxed s (propagated none 1) (pos 1 ∷ pos 0 ∷ [])))
     -- zero rows: b above 0 is dropped to 0, b = 0 is Same, b below 0 is not redundant; nothing to sharpen
-    ∷ (let s = pair (pos 0) (pos 0) (pos 4) in is (perform s (drop s 0)) (rowed s (removed changed) (pos 0 ∷ pos 0 ∷ []) (pos 0)))
-    ∷ (let s = pair (pos 0) (pos 0) (pos 0) in is (perform s (drop s 0)) (kept s (removed unchanged)))
-    ∷ (let s = pair (pos 0) (pos 0) (negsuc 0) in is (perform s (drop s 0)) (kept s (removed unchanged)))
-    ∷ (let s = pair (pos 0) (pos 3) (pos 2) in is (perform s (sharpen s 0 0)) (kept s (tightened unchanged)))
+    ∷ (let s = pair (pos 0) (pos 0) (pos 4) in is (perform s (removeCall s 0)) (rowed s (removed changed) (pos 0 ∷ pos 0 ∷ []) (pos 0)))
+    ∷ (let s = pair (pos 0) (pos 0) (pos 0) in is (perform s (removeCall s 0)) (kept s (removed unchanged)))
+    ∷ (let s = pair (pos 0) (pos 0) (negsuc 0) in is (perform s (removeCall s 0)) (kept s (removed unchanged)))
+    ∷ (let s = pair (pos 0) (pos 3) (pos 2) in is (perform s (tightenCall s 0 0)) (kept s (tightened unchanged)))
     -- both sides fix y alike: both are recorded, 4 bytes; again, none is new
-    ∷ is (perform alike (probe alike 0 5))
+    ∷ is (perform alike (probeCall alike 0 5))
     (record {
       answer = probed (bothFeasible 4) (unspent 2) (unspent 2);
       state = withBox alike (pos 0 ∷ pos 1 ∷ pos 1 ∷ pos 1 ∷ []) (0 ∷ 0 ∷ 0 ∷ 1 ∷ 0 ∷ 0 ∷ 0 ∷ 1 ∷ 1 ∷ 1 ∷ 0 ∷ 0 ∷ 0 ∷ 0 ∷ 0 ∷ 0 ∷ []);
     })
     ∷ (let s = withBox alike binary2 (0 ∷ 0 ∷ 0 ∷ 1 ∷ 0 ∷ 0 ∷ 0 ∷ 1 ∷ 1 ∷ 1 ∷ 0 ∷ 0 ∷ 0 ∷ 0 ∷ 0 ∷ 0 ∷ []) in
-    is (perform s (probe s 0 5)) (boxed s (probed (bothFeasible 0) (unspent 2) (unspent 2)) (pos 0 ∷ pos 1 ∷ pos 1 ∷ pos 1 ∷ [])))
+    is (perform s (probeCall s 0 5)) (boxed s (probed (bothFeasible 0) (unspent 2) (unspent 2)) (pos 0 ∷ pos 1 ∷ pos 1 ∷ pos 1 ∷ [])))
     -- a variable that was not free before the call is not recorded, though both sides fix it at 1
     ∷ (let s = model 2 1 (pos 0 ∷ pos 1 ∷ pos 1 ∷ pos 2 ∷ []) (pos 0 ∷ pos 1 ∷ []) (pos 1 ∷ []) in
-    is (perform s (probe s 0 5)) (boxed s (probed (bothFeasible 0) (unspent 2) (unspent 2)) (pos 0 ∷ pos 1 ∷ pos 1 ∷ pos 1 ∷ [])))
+    is (perform s (probeCall s 0 5)) (boxed s (probed (bothFeasible 0) (unspent 2) (unspent 2)) (pos 0 ∷ pos 1 ∷ pos 1 ∷ pos 1 ∷ [])))
     -- Spent sides are used with the box they reached, and record
-    ∷ is (perform either (probe either 0 1))
+    ∷ is (perform either (probeCall either 0 1))
     (record {
       answer = probed (bothFeasible 4) (spentSide 1) (spentSide 1);
       state = withBox either binary2 (0 ∷ 0 ∷ 0 ∷ 1 ∷ 0 ∷ 0 ∷ 1 ∷ 0 ∷ 0 ∷ 1 ∷ 0 ∷ 0 ∷ 1 ∷ 0 ∷ 0 ∷ 0 ∷ []);
     })
     -- both sides None: the sides' own passes, not Spent; one side None: its passes are told too, and it is not Spent
-    ∷ is (perform neither (probe neither 0 1)) (boxed neither (probed bothInfeasible (unspent 1) (unspent 1)) empty2)
+    ∷ is (perform neither (probeCall neither 0 1)) (boxed neither (probed bothInfeasible (unspent 1) (unspent 1)) empty2)
     ∷ (let s = pair (negsuc 0) (negsuc 0) (negsuc 1) in
-    is (perform s (probe s 0 1)) (boxed s (probed (fixed 1) (unspent 1) (spentSide 1)) (pos 1 ∷ pos 1 ∷ pos 1 ∷ pos 1 ∷ [])))
+    is (perform s (probeCall s 0 1)) (boxed s (probed (fixed 1) (unspent 1) (spentSide 1)) (pos 1 ∷ pos 1 ∷ pos 1 ∷ pos 1 ∷ [])))
     -- a new right side of exactly −1,000,000,000 is made; one less is not
     ∷ (let s = deep (pos 0) (negℤ (pos 999_999_999)) in
-    is (perform s (sharpen s 0 0)) (rowed s (tightened changed) (pos 2 ∷ pos 1_000_000 ∷ pos 1 ∷ []) (negℤ (pos 1_000_000_000))))
-    ∷ (let s = deep (negsuc 0) (negℤ (pos 1_000_000_000)) in is (perform s (sharpen s 0 0)) (kept s (tightened unchanged)))
+    is (perform s (tightenCall s 0 0)) (rowed s (tightened changed) (pos 2 ∷ pos 1_000_000 ∷ pos 1 ∷ []) (negℤ (pos 1_000_000_000))))
+    ∷ (let s = deep (negsuc 0) (negℤ (pos 1_000_000_000)) in is (perform s (tightenCall s 0 0)) (kept s (tightened unchanged)))
     -- the rest call's own checks: no table
     ∷ is (restFault (withBox emptied empty2 [])) 0
     ∷ is (restFault (withBox emptied (pos 0 ∷ pos 1 ∷ pos 1 ∷ pos 0 ∷ []) [])) 7
     -- the four counts: a refused call, a None (that empties the box), a change, an unchanged call
     ∷ (let s = single (pos 2) (pos 5) (pos 0) (pos 5) in
-    is (tally noCounts s (visit s 1 ∷ visit s 0 ∷ visit s 0 ∷ drop s 0 ∷ []))
+    is (tally noCounts s (propagateRowCall s 1 ∷ propagateRowCall s 0 ∷ propagateRowCall s 0 ∷ removeCall s 0 ∷ []))
     (record { refusals = 1; infeasibles = 0; changes = 2; unchanges = 1 }))
     ∷ (let s = single (pos 2) (negsuc 0) (pos 0) (pos 5) in
-    is (tally noCounts s (visit s 0 ∷ visit s 0 ∷ drop s 0 ∷ settle s 0 ∷ []))
+    is (tally noCounts s (propagateRowCall s 0 ∷ propagateRowCall s 0 ∷ removeCall s 0 ∷ propagateCall s 0 ∷ []))
     (record { refusals = 1; infeasibles = 3; changes = 0; unchanges = 0 }))
     ∷ []

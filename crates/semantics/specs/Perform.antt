@@ -2,16 +2,16 @@
 use Prim.Native.Nat.{ℕ}
 use lib.Dec.{eqb}
 use mathlib.Core.Bool.{cond}
-use Rattle.model.specs.Box.{at}
-use Rattle.model.specs.Point.{rowOf}
 use Rattle.row.specs.Outcome.{Outcome}
-use Rattle.row.specs.Propagation.{propagateRow}
-use Rattle.row.specs.Redundancy.{removeRedundantRow}
-use Rattle.row.specs.Tightening.{tightenCoefficient}
+use Rattle.row.specs.Propagation.{propagateRowOf}
+use Rattle.row.specs.Tightening.{rowLeft, tightenRowOf}
+use Rattle.row.specs.Redundancy.{removeRowOf}
 use Rattle.semantics.specs.CallChecks.{callFault}
 use Rattle.semantics.specs.Probe.{ProbeEnding, Side, probe}
 use Rattle.semantics.specs.Propagate.{Ending, propagate}
-use Rattle.semantics.specs.State.{Call, Kind, State, kindOf, other, probes, propagates, propagatesRow, removes, tightens, withBox, withRow}
+use Rattle.semantics.specs.Call.{Call, Kind, kindOf, unknown, probing, propagation, rowPropagation, removal, tightening}
+use Rattle.model.specs.State.{State, withBox, withRow}
+use Rattle.model.specs.Rows.{rowAt}
 
 -- 01's answers: the number of the check that refused the call; or the case and the numbers of the call's kind
 pub data Answer : Type 0 where
@@ -33,22 +33,22 @@ pub record Performed : Type 0 where
 
 -- an accepted call of each kind; its rule's own definition says the rest
 unfoldable pub act : Kind → State → Call → Performed
-act propagatesRow s c =
-    let r = propagateRow (s .n) (rowOf (s .n) (s .coefs) (c .row)) (at (s .rhs) (c .row)) (s .box) in
+act rowPropagation s c =
+    let r = propagateRowOf (s .model .n) (rowAt (s .model .n) (s .model .rows) (c .row)) (s .model .box) in
     record { answer = propagatedRow (r .outcome); state = withBox s (r .box) (s .table) }
-act propagates s c =
-    let r = propagate (c .budget) (s .n) (s .m) (s .coefs) (s .rhs) (s .box) in
+act propagation s c =
+    let r = propagate (c .budget) (s .model .n) (s .model .m) (s .model .rows) (s .model .box) in
     record { answer = propagated (r .ending) (r .passes); state = withBox s (r .box) (s .table) }
-act probes s c =
-    let r = probe (c .variable) (c .budget) (s .n) (s .m) (s .coefs) (s .rhs) (s .box) (s .table) in
+act probing s c =
+    let r = probe (c .variable) (c .budget) (s .model .n) (s .model .m) (s .model .rows) (s .model .box) (s .table) in
     record { answer = probed (r .ending) (r .side0) (r .side1); state = withBox s (r .box) (r .table) }
-act tightens s c =
-    let r = tightenCoefficient (s .n) (rowOf (s .n) (s .coefs) (c .row)) (at (s .rhs) (c .row)) (s .box) (c .variable) in
-    record { answer = tightened (r .outcome); state = withRow s (c .row) (r .coefs) (r .rhs) }
-act removes s c =
-    let r = removeRedundantRow (s .n) (rowOf (s .n) (s .coefs) (c .row)) (at (s .rhs) (c .row)) (s .box) in
-    record { answer = removed (r .outcome); state = withRow s (c .row) (r .coefs) (r .rhs) }
-act other s c = record { answer = refused 11; state = s }
+act tightening s c =
+    let r = tightenRowOf (s .model .n) (rowAt (s .model .n) (s .model .rows) (c .row)) (s .model .box) (c .variable) in
+    record { answer = tightened (r .outcome); state = withRow s (c .row) (rowLeft r) }
+act removal s c =
+    let r = removeRowOf (s .model .n) (rowAt (s .model .n) (s .model .rows) (c .row)) (s .model .box) in
+    record { answer = removed (r .outcome); state = withRow s (c .row) (rowLeft r) }
+act unknown s c = record { answer = refused 11; state = s }
 
 -- "The first [check] that applies to the call is the answer; every lent number stays." Everything else is accepted.
 unfoldable pub perform : State → Call → Performed

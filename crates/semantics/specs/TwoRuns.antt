@@ -12,21 +12,22 @@ use Rattle.model.specs.Checks.{modelFault, table}
 use Rattle.semantics.specs.CallChecks.{callFault}
 use Rattle.semantics.specs.Points.{AtRest, PointOf, TableHolds}
 use Rattle.semantics.specs.Run.{run, step}
-use Rattle.semantics.specs.State.{Call, Kind, State, kindOf, other, probes, propagates, propagatesRow, removes, tightens}
+use Rattle.semantics.specs.Call.{Call, Kind, kindOf, unknown, probing, propagation, rowPropagation, removal, tightening}
+use Rattle.model.specs.State.{State}
 
 -- "the model handed in, before the first list, is any that passes the checks, its box void or not, with a table all 0"
 pub record HandedIn (s : State) : Type 0 where
-  pub accepted : modelFault (s .n) (s .m) (s .box) (s .coefs) (s .rhs) (table (s .table)) ≡ 0
-  pub zeros : s .table ≡ replicate (4 * (s .n * s .n)) 0
+  pub accepted : modelFault (s .model) (table (s .table)) true ≡ 0
+  pub zeros : s .table ≡ replicate (4 * (s .model .n * s .model .n)) 0
 
 -- a visit, a settle or a probe
 unfoldable pub narrows : Kind → Bool
-narrows propagatesRow = true
-narrows propagates = true
-narrows probes = true
-narrows tightens = false
-narrows removes = false
-narrows other = false
+narrows rowPropagation = true
+narrows propagation = true
+narrows probing = true
+narrows tightening = false
+narrows removal = false
+narrows unknown = false
 
 -- "after it an accepted call is a visit, a settle or a probe": of the calls that the run from s makes
 unfoldable pub Narrows : State → List Call → Type 0
@@ -39,11 +40,11 @@ Narrows s (c ∷ cs) = (callFault s c ≡ 0 → T (narrows (kindOf (c .kind)))) 
 -- holds at all of them."
 pub record TwoRuns (s : State) (before one two : List Call) : Type 0 where
   pub sameEnd : AtRest (run (run s before) one)
-      → ((run (run s before) one .box ≡ run (run s before) two .box) ↔ AtRest (run (run s before) two))
+      → ((run (run s before) one .model .box ≡ run (run s before) two .model .box) ↔ AtRest (run (run s before) two))
   pub points1 : (x : List ℤ) → PointOf (run (run s before) one) x ↔ PointOf s x
   pub points2 : (x : List ℤ) → PointOf (run (run s before) two) x ↔ PointOf s x
-  pub implied1 : (x : List ℤ) → PointOf s x → TableHolds (s .n) (run (run s before) one .table) x
-  pub implied2 : (x : List ℤ) → PointOf s x → TableHolds (s .n) (run (run s before) two .table) x
+  pub implied1 : (x : List ℤ) → PointOf s x → TableHolds (s .model .n) (run (run s before) one .table) x
+  pub implied2 : (x : List ℤ) → PointOf s x → TableHolds (s .model .n) (run (run s before) two .table) x
 
 -- "All this is a single claim about the three lists together" (proved as `demand-3`)
 unfoldable pub Demand3 : Type 0
