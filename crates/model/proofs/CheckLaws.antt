@@ -14,9 +14,9 @@ use Rattle.integer.proofs.IndexLaws.{all-test, getD-all}
 use Rattle.integer.proofs.Parts.{zarith}
 use Rattle.integer.proofs.Tests.{all-three, and-l, and-r, both, cond-ind, eqb-test, le-test, leb-test, ltb-test, neqb→ne, or-cases, or-inl, or-inr, true→T}
 use Rattle.model.specs.Box.{NonEmpty, at, emptyBox, isEmpty, lower, upper}
-use Rattle.model.specs.Checks.{Check, bits, first, inRange, modelChecks, modelFault, must, none, numberChecks, lengthChecks, ordered, sizeChecks, table, tableByteChecks, tableLengthChecks}
-use Rattle.model.specs.Model.{Model}
+use Rattle.model.specs.Checks.{Check, bits, first, inRange, lengthChecks, modelChecks, modelFault, must, none, numberChecks, ordered, sizeChecks, table, tableByteChecks, tableLengthChecks}
 use Rattle.model.specs.Limits.{maxBound, maxCoef, maxRhs, maxRows, maxVariables, minBound, minCoef, minRhs}
+use Rattle.model.specs.Model.{Model}
 use Rattle.model.specs.Valid.{Between, ValidModel, ValidTable}
 use Rattle.model.proofs.BoxLaws.{empty-is, isEmpty→eq}
 

@@ -9,12 +9,12 @@ use mathlib.Core.Path.{_∙_, _≡_, ap}
 use Rattle.integer.proofs.Tests.{T→true, all-three, both, eqb-test, leb-test, ltb-test, when-test}
 use Rattle.model.specs.Box.{isEmpty, isFree}
 use Rattle.model.specs.Checks.{LentTable, first, lengthChecks, modelChecks, modelFault, none, numberChecks, sizeChecks, table, tableByteChecks, tableLengthChecks}
-use Rattle.model.specs.Valid.{ValidModel, ValidTable, ValidState}
-use Rattle.model.proofs.CheckLaws.{first-append, first-none, first-zero-append, fits-fault-none, fits-table-fault-none, numbered, table-fault-none}
-use Rattle.semantics.specs.CallChecks.{callChecks, callFault, givenModel, isLent, lentTable, maxBudget, recordChecks}
-use Rattle.semantics.specs.Call.{Call, Kind, Lengths, hasBudget, hasRow, hasTable, hasVariable, isUnknown, kindOf, lengthsOf}
-use Rattle.model.specs.State.{State}
 use Rattle.model.specs.Model.{Model}
+use Rattle.model.specs.State.{State}
+use Rattle.model.specs.Valid.{ValidModel, ValidState, ValidTable}
+use Rattle.model.proofs.CheckLaws.{first-append, first-none, first-zero-append, fits-fault-none, fits-table-fault-none, numbered, table-fault-none}
+use Rattle.semantics.specs.Call.{Call, Kind, Lengths, hasBudget, hasRow, hasTable, hasVariable, isUnknown, kindOf, lengthsOf}
+use Rattle.semantics.specs.CallChecks.{callChecks, callFault, givenModel, isLent, lentTable, maxBudget, recordChecks}
 use Rattle.semantics.specs.TwoRuns.{HandedIn}
 
 -- ---- the buffers that a call is lent are the state's

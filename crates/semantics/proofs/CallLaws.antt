@@ -13,12 +13,14 @@ use Rattle.integer.proofs.Tests.{cond-ind, decide, or-r}
 use Rattle.model.specs.Box.{Inside, NonEmpty, at, emptyBox, isEmpty, isFree, lower, upper}
 use Rattle.model.specs.Point.{InBox}
 use Rattle.model.specs.Rows.{Rows, rowAt}
+use Rattle.model.specs.State.{State, withBox}
 use Rattle.model.specs.Valid.{ValidBox, ValidModel, ValidTable}
 use Rattle.model.proofs.BoxLaws.{free-lower, free-upper, inside-refl, not-in-empty}
 use Rattle.row.specs.Outcome.{isChanged, isInfeasible, unchanged}
 use Rattle.row.specs.Propagation.{propagateRow, propagateRowOf}
 use Rattle.row.proofs.PointBox.{Inside→in, boxAt, in→Inside, lower-at, nonEmpty-at, upper-at}
 use Rattle.row.proofs.PropagationLaws.{propagate-row-empty, propagate-row-infeasible-box, propagate-row-monotone, propagate-row-nonEmpty, propagate-row-point, propagate-row-shrinks, propagate-row-unchanged}
+use Rattle.semantics.specs.Call.{Call, Kind, hasRow, hasVariable, kindOf, probing, propagation, removal, rowPropagation, tightening, unknown}
 use Rattle.semantics.specs.CallChecks.{callFault}
 use Rattle.semantics.specs.Fixpoint.{ProbedFixpoint}
 use Rattle.semantics.specs.Perform.{Performed, act, perform}
@@ -26,8 +28,6 @@ use Rattle.semantics.specs.Points.{LiteralTrue, PointOf, TableHolds}
 use Rattle.semantics.specs.Probe.{fix, probe}
 use Rattle.semantics.specs.Propagate.{isNone, propagate}
 use Rattle.semantics.specs.Run.{step}
-use Rattle.semantics.specs.Call.{Call, Kind, hasRow, hasVariable, kindOf, unknown, probing, propagation, rowPropagation, removal, tightening}
-use Rattle.model.specs.State.{State, withBox}
 use Rattle.semantics.specs.TwoRuns.{narrows}
 use Rattle.semantics.proofs.Accepted.{Accepted}
 use Rattle.semantics.proofs.ImplicationLaws.{recordTo-holds}
@@ -110,10 +110,10 @@ pub narrowed-refl : (s : State) → ValidModel (s .model) → Narrowed s (s .mod
 narrowed-refl s v = record { box = narrower-refl (v .box); keeps = λ _ i. i; holds = λ _ _ i. i; table = λ w. w }
 
 module _ (s : State) (c : Call) where
-  visit-narrowed : Accepted rowPropagation s c
+  propagate-row-narrowed : Accepted rowPropagation s c
       → Narrowed s (propagateRowOf (s .model .n) (rowAt (s .model .n) (s .model .rows) (c .row)) (s .model .box) .box) (s .table)
   unfolding hasRow
-  visit-narrowed a = record {
+  propagate-row-narrowed a = record {
     box = propagate-row-narrower (rowAt (s .model .n) (s .model .rows) (c .row) .coefs) (rowAt (s .model .n) (s .model .rows) (c .row) .rhs) (a .model .box);
     keeps = λ q i. propagate-row-monotone (rowAt (s .model .n) (s .model .rows) (c .row) .coefs) (rowAt (s .model .n) (s .model .rows) (c .row) .rhs) (a .model .some)
         (q .fixpoint .nonEmpty) (q .fixpoint .same (c .row) (a .row tt)) i;
@@ -121,8 +121,8 @@ module _ (s : State) (c : Call) where
     table = λ w. w;
   }
 
-  settle-narrowed : Accepted propagation s c → Narrowed s (propagate (c .budget) (s .model .n) (s .model .m) (s .model .rows) (s .model .box) .box) (s .table)
-  settle-narrowed a = record {
+  propagate-narrowed : Accepted propagation s c → Narrowed s (propagate (c .budget) (s .model .n) (s .model .m) (s .model .rows) (s .model .box) .box) (s .table)
+  propagate-narrowed a = record {
     box = propagate-narrower (c .budget) (s .model .m) (s .model .rows) (a .model .box);
     keeps = λ q i. propagate-keeps (a .model .some) (q .fixpoint) (c .budget) i;
     holds = λ _ _ i. i;
@@ -180,8 +180,8 @@ pub record NarrowedTo (s r : State) : Type 0 where
 
 pub act-narrowed : (k : Kind) (s : State) (c : Call) → T (narrows k) → Accepted k s c → NarrowedTo s (act k s c .state)
 unfolding act narrows
-act-narrowed rowPropagation s c _ a = record { box = _; table = _; is = refl; narrowed = visit-narrowed s c a }
-act-narrowed propagation s c _ a = record { box = _; table = _; is = refl; narrowed = settle-narrowed s c a }
+act-narrowed rowPropagation s c _ a = record { box = _; table = _; is = refl; narrowed = propagate-row-narrowed s c a }
+act-narrowed propagation s c _ a = record { box = _; table = _; is = refl; narrowed = propagate-narrowed s c a }
 act-narrowed probing s c _ a = record { box = _; table = _; is = refl; narrowed = probe-narrowed s c a }
 act-narrowed tightening s c z a = absurd z
 act-narrowed removal s c z a = absurd z

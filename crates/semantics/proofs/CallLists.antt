@@ -9,12 +9,12 @@ use mathlib.Core.Path.{_∙_, _≡_, ap, refl, subst, sym}
 use native.Mathlib.Omega.{arith}
 use Rattle.integer.proofs.Tests.{cond-ind, eqb-test, neqb→ne, test-false}
 use Rattle.model.specs.Checks.{modelFault, table}
-use Rattle.semantics.specs.CallList.{ListRun, listChecks, listFault, ran, recordAt, recordsFrom, recordsOf, refusedList, runList}
-use Rattle.model.specs.Valid.{ValidState}
-use Rattle.semantics.specs.Run.{CallClass, Counts, classOf, countCall, noCounts, run, step, tally}
-use Rattle.semantics.specs.Call.{Call, lengthsOf}
 use Rattle.model.specs.State.{State}
+use Rattle.model.specs.Valid.{ValidState}
 use Rattle.model.proofs.CheckLaws.{fits-table-fault-none}
+use Rattle.semantics.specs.Call.{Call, lengthsOf}
+use Rattle.semantics.specs.CallList.{ListRun, listChecks, listFault, ran, recordAt, recordsFrom, recordsOf, refusedList, runList}
+use Rattle.semantics.specs.Run.{CallClass, Counts, classOf, countCall, noCounts, run, step, tally}
 use Rattle.semantics.specs.TwoLists.{CountsAddUp, Demand3Lists}
 use Rattle.semantics.specs.TwoRuns.{Demand3, Narrows}
 use Rattle.semantics.proofs.Demand3.{demand-3}

@@ -14,6 +14,7 @@ use Rattle.integer.proofs.Parts.{zarith}
 use Rattle.integer.proofs.Tests.{T→false, T→true, and-i, and-l, and-r, bool-ext, decide, eqb-test, not-not, or-r, test-false, test-true}
 use Rattle.model.specs.Box.{Inside, NonEmpty, at, isEmpty, isFree, sameList, width}
 use Rattle.model.specs.Rows.{Row, Rows, rowAt, rowOf, setRow}
+use Rattle.model.specs.State.{State, withBox, withRow}
 use Rattle.model.specs.Valid.{ValidModel, ValidTable}
 use Rattle.model.proofs.BoxLaws.{free-lower, free-upper, sameList-refl, sameList→eq}
 use Rattle.row.specs.Outcome.{isChanged, isInfeasible}
@@ -25,20 +26,19 @@ use Rattle.row.proofs.PropagationLaws.{propagate-row-changed, propagate-row-fea
 use Rattle.row.proofs.RedundancyLaws.{remove-redundant-row-changed, remove-redundant-row-replaces, remove-redundant-row-unchanged}
 use Rattle.row.proofs.TighteningLaws.{tighten-coefficient-changed, tighten-coefficient-length, tighten-coefficient-unchanged}
 use Rattle.row.proofs.Width.{width-mono}
+use Rattle.semantics.specs.Call.{Call, Kind, hasBudget, hasRow, hasTable, hasVariable, kindOf, probing, propagation, removal, rowPropagation, tightening}
 use Rattle.semantics.specs.CallChecks.{callFault}
 use Rattle.semantics.specs.Demand2.{ones}
 use Rattle.semantics.specs.Perform.{act, perform}
 use Rattle.semantics.specs.Probe.{ProbeEnding, bothFeasible, fix, fixed, infeasible, probe, recordTo}
 use Rattle.semantics.specs.Propagate.{isNone, isSpent, passTo, propagate, propagateFrom}
 use Rattle.semantics.specs.Run.{CallClass, answersNone, changedCall, classOf, infeasibleCall, isRefused, probeInfeasible, refusedCall, sameBytes, sameState, step, unchangedCall}
-use Rattle.semantics.specs.Call.{Call, Kind, hasBudget, hasRow, hasTable, hasVariable, kindOf, probing, propagation, rowPropagation, removal, tightening}
-use Rattle.model.specs.State.{State, withBox, withRow}
 use Rattle.semantics.proofs.Accepted.{Accepted, accepted}
 use Rattle.semantics.proofs.CallLaws.{perform-accepted, step-accepted, step-ind}
 use Rattle.semantics.proofs.Convergence.{pass-passed}
 use Rattle.semantics.proofs.ImplicationLaws.{recordTo-added, recordTo-same}
 use Rattle.semantics.proofs.ProbeLaws.{at-fix, probe-ind}
-use Rattle.semantics.proofs.PropagateLaws.{propagate-ind, propagateFrom-ind, propagateFrom-shrinks, propagate-shrinks}
+use Rattle.semantics.proofs.PropagateLaws.{propagate-ind, propagate-shrinks, propagateFrom-ind, propagateFrom-shrinks}
 use Rattle.semantics.proofs.RowChange.{length-rowOf, setRow-row, setRow-same}
 
 -- ---- the same state
@@ -132,11 +132,11 @@ module _ (n m : ℕ) (A : Rows) where
       (λ _ _ _. omega arith)
 
   -- a settle leaves the box exactly where its first pass moved nothing; a later box is less wide
-  settle-same : (budget : ℕ) {B : List ℤ} → 1 ≤ budget → NonEmpty n B → let r = propagate budget n m A B in
+  propagate-same : (budget : ℕ) {B : List ℤ} → 1 ≤ budget → NonEmpty n B → let r = propagate budget n m A B in
       T (not (isNone (r .ending))) → sameList B (r .box) ≡ (not (isSpent (r .ending)) && eqb (r .passes) 1)
   unfolding isNone isSpent
-  settle-same zero h p = absurd (let z : ⊥ = omega arith in z)
-  settle-same (suc left) {B} h p =
+  propagate-same zero h p = absurd (let z : ⊥ = omega arith in z)
+  propagate-same (suc left) {B} h p =
       propagate-ind (suc left) n m A B (λ r. T (not (isNone (r .ending))) → sameList B (r .box) ≡ (not (isSpent (r .ending)) && eqb (r .passes) 1))
       (λ _ z. absurd z)
       (λ _. propagateFrom-ind left 0 n m A B
@@ -233,7 +233,7 @@ module _ (s : State) (c : Call) (e : callFault s c ≡ 0) where
       class-of propagation q tt ∙ class-is (isNone (r .ending)) (λ f.
       let p = valid-nonEmpty (a .model .box) (propagate-ind (c .budget) (s .model .n) (s .model .m) (s .model .rows) (s .model .box)
       (λ r. T (not (isNone (r .ending))) → T (not (isEmpty (s .model .n) (s .model .box)))) (λ _ z. absurd z) (λ t _. t) f) in
-      same-box s (r .box) ∙ settle-same (s .model .n) (s .model .m) (s .model .rows) (c .budget) (a .budget tt .0) p f)
+      same-box s (r .box) ∙ propagate-same (s .model .n) (s .model .m) (s .model .rows) (c .budget) (a .budget tt .0) p f)
 
   pub probe-class : kindOf (c .kind) ≡ probing
       → let r = probe (c .variable) (c .budget) (s .model .n) (s .model .m) (s .model .rows) (s .model .box) (s .table) in

@@ -18,6 +18,8 @@ use Rattle.integer.proofs.RangeLaws.{within!, zwithin}
 use Rattle.integer.proofs.Tests.{all-three, both, false→T, not-or-l, not-or-r, or-cases, or-inl, or-inr, true→T}
 use Rattle.model.specs.Box.{Inside, NonEmpty, at, emptyBox, isEmpty, isFree, lower, sameList, upper, width}
 use Rattle.model.specs.Rows.{Rows, rowAt}
+use Rattle.model.specs.State.{State}
+use Rattle.model.specs.Valid.{ValidModel}
 use Rattle.model.proofs.BoxLaws.{empty-is, inside-antisymm, inside-refl, inside-trans, isEmpty→eq, nonEmpty-isn't, not-in-empty, sameList-refl, sameList→eq}
 use Rattle.row.specs.Outcome.{isChanged, isInfeasible}
 use Rattle.row.specs.Propagation.{PropagatedRow, propagateRowOf}
@@ -29,10 +31,8 @@ use Rattle.semantics.specs.Fixpoint.{Fixpoint, GreatestFixpoint, ProbedF
 use Rattle.semantics.specs.Probe.{ProbeEnding, bothFeasible, fix, fixed, hull, infeasible, probe}
 use Rattle.semantics.specs.Propagate.{Pass, isNone, isSpent, passTo, propagate, propagateFrom}
 use Rattle.semantics.specs.RestTest.{isFixpoint, isProbingFixpoint, sidesSpan}
-use Rattle.model.specs.State.{State}
-use Rattle.model.specs.Valid.{ValidModel}
-use Rattle.semantics.proofs.PropagateLaws.{pass-ind, pass-infeasible-box, pass-keeps, pass-shrinks, propagate-ind, propagateFrom-ind}
 use Rattle.semantics.proofs.ProbeLaws.{fix-inside, fix-nonEmpty, probe-ind}
+use Rattle.semantics.proofs.PropagateLaws.{pass-ind, pass-infeasible-box, pass-keeps, pass-shrinks, propagate-ind, propagateFrom-ind}
 
 -- ---- a pass in which no row was infeasible
 
@@ -118,16 +118,16 @@ propagate-ends budget n m A B h p w = propagate-ind budget n m A B (Ends n m A B
 
 pub width-limit : LargestBudget
 unfolding LargestBudget width
-width-limit s v =
-    let w : Within (s .model .n * 65_535) (width (s .model .n) (s .model .box)) = sum-within 65_535 (λ j. upper (s .model .box) j -ℤ lower (s .model .box) j) term (s .model .n) in
+width-limit M v =
+    let w : Within (M .n * 65_535) (width (M .n) (M .box)) = sum-within 65_535 (λ j. upper (M .box) j -ℤ lower (M .box) j) term (M .n) in
     let f = v .few in
     (omega zwithin, omega zwithin)
   where
-    term : (j : ℕ) → Within 65_535 (upper (s .model .box) j -ℤ lower (s .model .box) j)
+    term : (j : ℕ) → Within 65_535 (upper (M .box) j -ℤ lower (M .box) j)
     term j =
         let a = v .box .range (2 * j) in
         let b = v .box .range (2 * j + 1) in
-        within! 65_535 (upper (s .model .box) j -ℤ lower (s .model .box) j) (omega (zarith, sub-parts (upper (s .model .box) j) (lower (s .model .box) j)))
+        within! 65_535 (upper (M .box) j -ℤ lower (M .box) j) (omega (zarith, sub-parts (upper (M .box) j) (lower (M .box) j)))
 
 pub greatest-unique : UniqueGreatest
 unfolding UniqueGreatest
@@ -239,7 +239,7 @@ rest-test s v = (
         && all (s .model .n) (λ k. not (isFree (s .model .box) k) || sidesSpan (s .model .n) (s .model .m) (s .model .rows) (s .model .box) k)
 
     test : NonEmpty (s .model .n) (s .model .box) → T X ↔ ProbedFixpoint (s .model .n) (s .model .m) (s .model .rows) (s .model .box)
-    test p = probed-test (s .model .n) (s .model .m) (s .model .rows) (s .model .box) (v .some) p (width-limit s v .1)
+    test p = probed-test (s .model .n) (s .model .m) (s .model .rows) (s .model .box) (v .some) p (width-limit (s .model) v .1)
 
     not-empty : T X → (s .model .box ≡ emptyBox (s .model .n)) ⊎ NonEmpty (s .model .n) (s .model .box)
         → (s .model .box ≡ emptyBox (s .model .n)) ⊎ ProbedFixpoint (s .model .n) (s .model .m) (s .model .rows) (s .model .box)
@@ -254,7 +254,7 @@ module _ (s : State) (v : ValidModel (s .model)) where
       (((a : ℕ) × (r .ending ≡ bothFeasible a)) × (r .box ≡ s .model .box)) ↔ SidesSpan (s .model .n) (s .model .m) (s .model .rows) (s .model .box) k
   unfolding LargestBudget
   both-rest p k f =
-      let w = width-limit s v .1 in
+      let w = width-limit (s .model) v .1 in
       let d = both-iff maxBudget (s .model .n) (s .model .m) (s .model .rows) (s .model .box) (v .some) p w k f (s .table) in
       let e = span-iff maxBudget (s .model .n) (s .model .m) (s .model .rows) (s .model .box) (v .some) p w k f in
       ((λ q. e .0 (d .0 q)), (λ q. d .1 (e .1 q)))
@@ -262,7 +262,7 @@ module _ (s : State) (v : ValidModel (s .model)) where
   rest→nothing-moves : ProbedFixpoint (s .model .n) (s .model .m) (s .model .rows) (s .model .box) → NothingMoves s
   rest→nothing-moves q = let p = q .fixpoint .nonEmpty in record {
     nonEmpty = p;
-    visits = λ i im. ap (λ (r : PropagatedRow). r .outcome) (stable→same (v .some) p (box→stable (v .some) p (q .fixpoint .same i im)));
+    rowsLeave = λ i im. ap (λ (r : PropagatedRow). r .outcome) (stable→same (v .some) p (box→stable (v .some) p (q .fixpoint .same i im)));
     bothSides = λ k kn f. both-rest p k f .1 (q .spans k kn f) .0;
     probesLeave = λ k kn f. both-rest p k f .1 (q .spans k kn f) .1;
   }
@@ -272,7 +272,7 @@ module _ (s : State) (v : ValidModel (s .model)) where
   nothing-moves→rest q = let p = q .nonEmpty in record {
     fixpoint = record {
       nonEmpty = p;
-      same = λ i im. propagate-row-unchanged (rowAt (s .model .n) (s .model .rows) i .coefs) (rowAt (s .model .n) (s .model .rows) i .rhs) p (rw (q .visits i im) tt) (rw (q .visits i im) tt);
+      same = λ i im. propagate-row-unchanged (rowAt (s .model .n) (s .model .rows) i .coefs) (rowAt (s .model .n) (s .model .rows) i .rhs) p (rw (q .rowsLeave i im) tt) (rw (q .rowsLeave i im) tt);
     };
     spans = λ k kn f. both-rest p k f .0 (q .bothSides k kn f, q .probesLeave k kn f);
   }

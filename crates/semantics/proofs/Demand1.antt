@@ -15,14 +15,14 @@ use Rattle.integer.proofs.Tests.{and-l, and-r, both, cond-ind, eqb-test, le-tes
 use Rattle.model.specs.Box.{isEmpty, isFree, lower, upper}
 use Rattle.model.specs.Checks.{Check, bits, first, inRange, lengthChecks, modelChecks, must, numberChecks, ordered, sizeChecks, tableByteChecks, tableLengthChecks}
 use Rattle.model.specs.Limits.{maxBound, maxCoef, maxRhs, maxRows, maxVariables, minBound, minCoef, minRhs}
+use Rattle.model.specs.State.{State}
 use Rattle.model.proofs.BoxLaws.{isEmpty-test}
 use Rattle.model.proofs.CheckLaws.{Hold, bits-test, first-none, inRange-test, length-test, size-test}
+use Rattle.semantics.specs.Call.{Call, Kind, hasBudget, hasRow, hasTable, hasVariable, isUnknown, kindOf, probing, propagation, removal, rowPropagation, tightening, unknown}
 use Rattle.semantics.specs.CallChecks.{callChecks, callFault, givenModel, isLent, lentTable, maxBudget, recordChecks}
 use Rattle.semantics.specs.Demand1.{Demand1, LengthsFit, Passes}
 use Rattle.semantics.specs.Perform.{Answer, Performed, act, perform, refused}
 use Rattle.semantics.specs.Run.{isRefused}
-use Rattle.semantics.specs.Call.{Call, Kind, hasBudget, hasRow, hasTable, hasVariable, isUnknown, kindOf, unknown, probing, propagation, rowPropagation, removal, tightening}
-use Rattle.model.specs.State.{State}
 use Rattle.semantics.proofs.Accepted.{accepted, lent-test}
 
 -- ---- a list of checks in the order of their numbers

@@ -7,21 +7,21 @@ use mathlib.Core.Logic.{_↔_, _≢_, ⊎-elim}
 use mathlib.Core.Path.{_≡_, ap, refl, subst, sym}
 use Rattle.integer.proofs.Tests.{decide}
 use Rattle.model.specs.Box.{at, emptyBox, isEmpty}
+use Rattle.model.specs.Model.{modelOf}
 use Rattle.model.specs.Point.{IntegerPoint}
+use Rattle.model.specs.Rows.{rowAt}
+use Rattle.model.specs.State.{State, withBox, withRow}
 use Rattle.model.proofs.BoxLaws.{isEmpty-test, not-in-empty}
 use Rattle.row.specs.Outcome.{isChanged}
 use Rattle.row.proofs.PointBox.{boxAt, in→Inside, nonEmpty-at}
 use Rattle.row.proofs.RedundancyLaws.{remove-redundant-row-infeasible, remove-redundant-row-unchanged}
 use Rattle.row.proofs.TighteningLaws.{tighten-coefficient-infeasible, tighten-coefficient-unchanged}
+use Rattle.semantics.specs.Call.{Call, Kind, hasBudget, hasRow, hasTable, hasVariable, isUnknown, kindOf, probing, propagation, removal, rowPropagation, tightening, unknown}
 use Rattle.semantics.specs.CallChecks.{callFault}
 use Rattle.semantics.specs.Demand2.{AnswersSame, Demand2, Demand2Runs, PassesWithin, Untouched, ones}
 use Rattle.semantics.specs.Perform.{Answer, Performed, act, perform, probed, propagated, propagatedRow, refused, removed, tightened}
 use Rattle.semantics.specs.Probe.{ProbeEnding, Probed, bothFeasible, fixed, infeasible, probe}
 use Rattle.semantics.specs.Run.{answersNone, step}
-use Rattle.semantics.specs.Call.{Call, Kind, hasBudget, hasRow, hasTable, hasVariable, isUnknown, kindOf, unknown, probing, propagation, rowPropagation, removal, tightening}
-use Rattle.model.specs.State.{State, withBox, withRow}
-use Rattle.model.specs.Rows.{rowAt}
-use Rattle.model.specs.Model.{modelOf}
 use Rattle.semantics.proofs.Accepted.{Accepted, accepted}
 use Rattle.semantics.proofs.CallLaws.{perform-accepted, propagate-row-infeasible-iff, propagate-row-same}
 use Rattle.semantics.proofs.ImplicationLaws.{recordTo-added}
@@ -112,9 +112,9 @@ act-same unknown s c a z = absurd z
 
 act-untouched : (k : Kind) (s : State) (c : Call) → Accepted k s c → Untouched k s c (act k s c .state)
 unfolding act Untouched withBox hasRow
-act-untouched rowPropagation s c a = (refl, refl, refl)
-act-untouched propagation s c a = (refl, refl, refl)
-act-untouched probing s c a = (refl, refl)
+act-untouched rowPropagation s c a = (refl, refl)
+act-untouched propagation s c a = (refl, refl)
+act-untouched probing s c a = refl
 act-untouched tightening s c a = tightening-untouched s c (a .model) (a .row tt)
 act-untouched removal s c a = removal-untouched s c (a .model) (a .row tt)
 act-untouched unknown s c a = refl

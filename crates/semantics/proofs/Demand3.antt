@@ -6,14 +6,14 @@ use mathlib.Core.List.{List, [], _∷_}
 use mathlib.Core.Logic.{_↔_, inl, inr, ⊎-elim}
 use mathlib.Core.Path.{_∙_, _≡_, refl, subst, sym}
 use Rattle.model.specs.Box.{Inside}
+use Rattle.model.specs.State.{State, withBox}
+use Rattle.model.specs.Valid.{ValidModel, ValidState}
 use Rattle.model.proofs.BoxLaws.{inside-antisymm, inside-refl, not-in-empty}
+use Rattle.semantics.specs.Call.{Call, kindOf}
 use Rattle.semantics.specs.CallChecks.{callFault}
 use Rattle.semantics.specs.Fixpoint.{ProbedFixpoint, ProbingFixpoint}
 use Rattle.semantics.specs.Points.{AtRest, PointOf, TableHolds}
-use Rattle.model.specs.Valid.{ValidModel, ValidState}
 use Rattle.semantics.specs.Run.{run, step}
-use Rattle.semantics.specs.Call.{Call, kindOf}
-use Rattle.model.specs.State.{State, withBox}
 use Rattle.semantics.specs.TwoRuns.{Demand3, Narrows, narrows}
 use Rattle.semantics.proofs.Accepted.{accepted, handed-in-valid}
 use Rattle.semantics.proofs.CallLaws.{Narrowed, NarrowedTo, act-narrowed, narrowed-refl, step-ind}

@@ -9,6 +9,8 @@ use mathlib.Core.Path.{_∙_, _≡_, refl, subst, sym}
 use Rattle.integer.proofs.Parts.{mul-mono, zarith}
 use Rattle.model.specs.Box.{Inside, NonEmpty}
 use Rattle.model.specs.Point.{InBoxOver}
+use Rattle.model.specs.Rows.{Row, rowAt}
+use Rattle.model.specs.State.{State, withBox, withRow}
 use Rattle.model.specs.Valid.{ValidBox, ValidModel, ValidState}
 use Rattle.model.proofs.BoxLaws.{inside-trans, not-in-empty, ≤ℤ-trans}
 use Rattle.row.specs.ValidRow.{ValidRow}
@@ -18,12 +20,10 @@ use Rattle.row.proofs.PropagationLaws.{empty-no-point}
 use Rattle.row.proofs.RedundancyLaws.{remove-redundant-row-replaces, remove-redundant-row-valid}
 use Rattle.row.proofs.Replacement.{Replaces}
 use Rattle.row.proofs.TighteningLaws.{tighten-coefficient-replaces, tighten-coefficient-valid}
+use Rattle.semantics.specs.Call.{Call, Kind, hasRow, hasVariable, isUnknown, kindOf, probing, propagation, removal, rowPropagation, tightening, unknown}
 use Rattle.semantics.specs.Perform.{act}
 use Rattle.semantics.specs.Points.{FractionalPointOf, PointOf, TableHolds}
 use Rattle.semantics.specs.Run.{run, step}
-use Rattle.semantics.specs.Call.{Call, Kind, hasRow, hasVariable, isUnknown, kindOf, unknown, probing, propagation, rowPropagation, removal, tightening}
-use Rattle.model.specs.State.{State, withBox, withRow}
-use Rattle.model.specs.Rows.{Row, rowAt}
 use Rattle.semantics.specs.TwoRuns.{narrows}
 use Rattle.semantics.proofs.Accepted.{Accepted, accepted}
 use Rattle.semantics.proofs.CallLaws.{Narrowed, NarrowedTo, act-narrowed, point-probed, step-ind}

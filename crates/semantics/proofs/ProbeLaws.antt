@@ -11,6 +11,7 @@ use native.Mathlib.Omega.{arith}
 use Rattle.integer.proofs.Parts.{zarith}
 use Rattle.integer.proofs.Tests.{T→true, cond-ind, decide, lt-or-ge, or-r}
 use Rattle.model.specs.Box.{Inside, NonEmpty, emptyBox, isEmpty, isFree, lower, upper}
+use Rattle.model.specs.Rows.{Rows}
 use Rattle.model.specs.Valid.{ValidBox, ValidTable}
 use Rattle.model.proofs.BoxLaws.{boxOf-inside, free-i, free-lower, free-upper, inside-boxOf, inside-refl, inside-trans, isEmpty-empty, isEmpty→eq, lower-boxOf, max-i, max-l, max-r, min-i, min-l, min-r, nonEmpty-boxOf, not-in-empty, upper-boxOf, ≤ℤ-trans}
 use Rattle.row.proofs.ImpliedBoxLaws.{valid-empty, valid-inside, valid-nonEmpty}
@@ -20,7 +21,6 @@ use Rattle.semantics.specs.Propagate.{Propagated, isNone, propagate}
 use Rattle.semantics.specs.Run.{probeInfeasible}
 use Rattle.semantics.proofs.ImplicationLaws.{recordTo-valid}
 use Rattle.semantics.proofs.PropagateLaws.{propagate-infeasible-box, propagate-inside, propagate-keeps, propagate-nonEmpty, propagate-passes, propagate-shrinks}
-use Rattle.model.specs.Rows.{Rows}
 
 -- ---- one variable set to a value
 

@@ -15,8 +15,8 @@ use Rattle.model.specs.Rows.{Rows, rowAt}
 use Rattle.model.specs.Valid.{ValidBox}
 use Rattle.model.proofs.BoxLaws.{inside-refl, inside-trans, isEmpty-empty, isEmpty→eq, not-in-empty}
 use Rattle.row.specs.Outcome.{isChanged, isInfeasible}
-use Rattle.row.proofs.PropagationLaws.{propagate-row-infeasible-box, propagate-row-inside, propagate-row-monotone, propagate-row-nonEmpty, propagate-row-shrinks, propagate-row-valid}
 use Rattle.row.specs.Propagation.{propagateRowOf}
+use Rattle.row.proofs.PropagationLaws.{propagate-row-infeasible-box, propagate-row-inside, propagate-row-monotone, propagate-row-nonEmpty, propagate-row-shrinks, propagate-row-valid}
 use Rattle.semantics.specs.Fixpoint.{Fixpoint}
 use Rattle.semantics.specs.Propagate.{Pass, Propagated, budgetSpent, converged, infeasible, isNone, isSpent, passRow, passTo, propagate, propagateFrom}
 

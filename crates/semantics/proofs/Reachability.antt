@@ -15,17 +15,18 @@ use Rattle.integer.proofs.Parts.{zarith}
 use Rattle.integer.proofs.Tests.{decide, false→T, lt-or-ge, not-and, not-not, not-or-l, not-or-r, or-inr}
 use Rattle.model.specs.Box.{Inside, NonEmpty, emptyBox, isEmpty, isFree, width}
 use Rattle.model.specs.Checks.{table}
+use Rattle.model.specs.Rows.{Rows}
+use Rattle.model.specs.State.{State, withBox}
+use Rattle.model.specs.Valid.{ValidModel, ValidState}
 use Rattle.model.proofs.BoxLaws.{free-lower, free-upper, inside-refl, nonEmpty-isn't, not-in-empty}
 use Rattle.row.proofs.Width.{width-nonneg, width-same}
 use Rattle.semantics.specs.Books.{callOn, probeCall as probeCall, propagateCall}
+use Rattle.semantics.specs.Call.{Call, hasBudget, hasRow, hasTable, hasVariable, isUnknown, kindOf, probing, propagation}
 use Rattle.semantics.specs.CallChecks.{callFault, maxBudget}
-use Rattle.semantics.specs.Convergence.{EnoughPasses, LargestBudget, Reachable, RestIsTested, RestReached, PropagateOrProbe}
+use Rattle.semantics.specs.Convergence.{EnoughPasses, LargestBudget, PropagateOrProbe, Reachable, RestIsTested, RestReached}
 use Rattle.semantics.specs.Fixpoint.{Fixpoint, ProbingFixpoint}
 use Rattle.semantics.specs.Perform.{act}
 use Rattle.semantics.specs.Points.{AtRest}
-use Rattle.model.specs.Valid.{ValidModel, ValidState}
-use Rattle.semantics.specs.Call.{Call, hasBudget, hasRow, hasTable, hasVariable, isUnknown, kindOf, probing, propagation}
-use Rattle.model.specs.State.{State, withBox}
 use Rattle.semantics.specs.Probe.{fix, probe}
 use Rattle.semantics.specs.Propagate.{isNone, propagate}
 use Rattle.semantics.specs.RestTest.{isFixpoint, isProbingFixpoint, sidesSpan}
@@ -36,13 +37,12 @@ use Rattle.semantics.proofs.Convergence.{fixpoint-test, propagate-ends,
 use Rattle.semantics.proofs.Preserved.{step-preserves}
 use Rattle.semantics.proofs.ProbeLaws.{at-fix, probe-ind, probe-narrower}
 use Rattle.semantics.proofs.PropagateLaws.{propagate-infeasible-box, propagate-shrinks}
-use Rattle.model.specs.Rows.{Rows}
 
 -- ---- the two calls are accepted
 
-settle-accepted : (s : State) → ValidModel (s .model) → callFault s (propagateCall s maxBudget) ≡ 0
+propagate-accepted : (s : State) → ValidModel (s .model) → callFault s (propagateCall s maxBudget) ≡ 0
 unfolding propagateCall callOn kindOf hasBudget hasRow hasTable hasVariable isUnknown
-settle-accepted s v = accepts s (propagateCall s maxBudget) (record {
+propagate-accepted s v = accepts s (propagateCall s maxBudget) (record {
   lent = lent-own refl refl refl;
   model = v;
   table = λ z. absurd z;
@@ -68,10 +68,10 @@ probe-accepted s k v h f = accepts s (probeCall s k maxBudget) (record {
 
 -- ---- what they leave
 
-settle-step : (s : State) → ValidModel (s .model)
+propagate-step : (s : State) → ValidModel (s .model)
     → step s (propagateCall s maxBudget) ≡ withBox s (propagate maxBudget (s .model .n) (s .model .m) (s .model .rows) (s .model .box) .box) (s .table)
 unfolding act kindOf propagateCall callOn
-settle-step s v = step-accepted s (propagateCall s maxBudget) (settle-accepted s v)
+propagate-step s v = step-accepted s (propagateCall s maxBudget) (propagate-accepted s v)
 
 probe-step : (s : State) (k : ℕ) → ValidState s → k < s .model .n → T (isFree (s .model .box) k)
     → let r = probe k maxBudget (s .model .n) (s .model .m) (s .model .rows) (s .model .box) (s .table) in
@@ -90,9 +90,9 @@ less-of {n} {P} {B} p b i ne = ⊎-elim (λ l. l) (λ g. absurd (ne (width-same 
 
 module _ (n m : ℕ) (A : Rows) (B : List ℤ) (h : 0 < n) (p : NonEmpty n B) (w : width n B <ℤ pos maxBudget) where
   -- a settle, where a row moves a bound
-  settle-less : T (not (isFixpoint n m A B)) → Less n (propagate maxBudget n m A B .box) B
+  propagate-less : T (not (isFixpoint n m A B)) → Less n (propagate maxBudget n m A B .box) B
   unfolding EnoughPasses
-  settle-less u = ⊎-elim (λ t. inl (propagate-infeasible-box n m A maxBudget B t))
+  propagate-less u = ⊎-elim (λ t. inl (propagate-infeasible-box n m A maxBudget B t))
       (λ t. let g = propagate-ends maxBudget n m A B h p w .greatest t in
       inr (less-of (g .fixpoint .nonEmpty) p (g .inside)
       (λ e. T-not (isFixpoint n m A B) u (fixpoint-test n m A B p .1 (subst (Fixpoint n m A) e (g .fixpoint))))))
@@ -131,16 +131,16 @@ record Progress (s : State) : Type 0 where
 module _ (s : State) (v : ValidState s) (p : NonEmpty (s .model .n) (s .model .box)) where
   wide : width (s .model .n) (s .model .box) <ℤ pos maxBudget
   unfolding LargestBudget
-  wide = width-limit s (v .model) .1
+  wide = width-limit (s .model) (v .model) .1
 
-  settle-progress : T (not (isFixpoint (s .model .n) (s .model .m) (s .model .rows) (s .model .box))) → Progress s
+  propagate-progress : T (not (isFixpoint (s .model .n) (s .model .m) (s .model .rows) (s .model .box))) → Progress s
   unfolding kindOf propagateCall callOn withBox
-  settle-progress u = record {
+  propagate-progress u = record {
     call = propagateCall s maxBudget;
-    accepted = settle-accepted s (v .model);
+    accepted = propagate-accepted s (v .model);
     kind = inl refl;
     valid = step-preserves s (propagateCall s maxBudget) .valid v;
-    less = rw (settle-step s (v .model)) (settle-less (s .model .n) (s .model .m) (s .model .rows) (s .model .box) (v .model .some) p wide u);
+    less = rw (propagate-step s (v .model)) (propagate-less (s .model .n) (s .model .m) (s .model .rows) (s .model .box) (v .model .some) p wide u);
   }
 
   probe-progress : (k : ℕ) → k < s .model .n → T (isFree (s .model .box) k) → T (not (sidesSpan (s .model .n) (s .model .m) (s .model .rows) (s .model .box) k)) → Progress s
@@ -155,7 +155,7 @@ module _ (s : State) (v : ValidState s) (p : NonEmpty (s .model .n) (s .model .b
 
   progress : T (not (isProbingFixpoint (s .model .n) (s .model .m) (s .model .rows) (s .model .box))) → Progress s
   unfolding isProbingFixpoint
-  progress u = ⊎-elim settle-progress (λ t. probed (not-all (s .model .n) one t))
+  progress u = ⊎-elim propagate-progress (λ t. probed (not-all (s .model .n) one t))
       (not-and F (all (s .model .n) one) (not-or-r (isEmpty (s .model .n) (s .model .box)) (F && all (s .model .n) one) u))
     where
       F : Bool
@@ -199,4 +199,4 @@ rest-within (suc limit) s v w = ⊎-elim
 
 pub rest-reached : Reachable
 unfolding Reachable LargestBudget
-rest-reached s v = rest-within maxBudget s v (width-limit s (v .model) .1)
+rest-reached s v = rest-within maxBudget s v (width-limit (s .model) (v .model) .1)

@@ -13,21 +13,21 @@ use Rattle.integer.proofs.IndexLaws.{getD-all, getD-set-all}
 use Rattle.integer.proofs.Parts.{zarith}
 use Rattle.model.specs.Box.{at}
 use Rattle.model.specs.Limits.{maxCoef, maxRhs, minCoef, minRhs}
+use Rattle.model.specs.Model.{Model}
 use Rattle.model.specs.Point.{InBox, InBoxOver, Meets, MeetsOver}
 use Rattle.model.specs.Rows.{Row, Rows, rowAt, rowOf, setRow, splice}
+use Rattle.model.specs.State.{State, withRow}
 use Rattle.model.specs.Valid.{Between, ValidModel}
+use Rattle.row.specs.Redundancy.{removeRowOf}
+use Rattle.row.specs.Tightening.{rowLeft, tightenRowOf}
 use Rattle.row.specs.ValidRow.{ValidRow}
 use Rattle.row.proofs.RedundancyLaws.{remove-redundant-row-replaces}
 use Rattle.row.proofs.Replacement.{Replaces}
 use Rattle.row.proofs.TighteningLaws.{tighten-coefficient-length, tighten-coefficient-other}
-use Rattle.row.specs.Tightening.{rowLeft, tightenRowOf}
-use Rattle.row.specs.Redundancy.{removeRowOf}
+use Rattle.semantics.specs.Call.{Call, removal, tightening}
 use Rattle.semantics.specs.Demand2.{Untouched}
 use Rattle.semantics.specs.Perform.{act}
 use Rattle.semantics.specs.Points.{FractionalPointOf, PointOf}
-use Rattle.semantics.specs.Call.{Call, removal, tightening}
-use Rattle.model.specs.State.{State, withRow}
-use Rattle.model.specs.Model.{Model}
 
 -- ---- rows of a matrix
 

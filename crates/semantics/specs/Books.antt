@@ -4,9 +4,9 @@ use lib.IntN.{ℤ}
 use lib.ListN.{replicate}
 use mathlib.Core.List.{List, [], _∷_}
 use mathlib.Core.Path.{_≡_}
-use Rattle.semantics.specs.Perform.{Answer, Performed}
-use Rattle.semantics.specs.Call.{Call, lengthsOf}
 use Rattle.model.specs.State.{State, stateOf, withBox, withRow}
+use Rattle.semantics.specs.Call.{Call, lengthsOf}
+use Rattle.semantics.specs.Perform.{Answer, Performed}
 
 -- a line of a table: two things that are to be equal
 pub data Line : Type 1 where
@@ -17,9 +17,9 @@ abbrev pub AllHold : List Line → Type 0
 AllHold [] = Unit {0}
 AllHold (is a b ∷ ls) = (a ≡ b) × AllHold ls
 
--- a model of n variables with an empty table
-unfoldable pub model : ℕ → ℕ → List ℤ → List ℤ → List ℤ → State
-model n m B C R = stateOf n m B C R (replicate (4 * (n * n)) 0)
+-- a model with a table that is all 0
+unfoldable pub fresh : ℕ → ℕ → List ℤ → List ℤ → List ℤ → State
+fresh n m B C R = stateOf n m B C R (replicate (4 * (n * n)) 0)
 
 -- a call on s that is lent buffers of the right lengths
 unfoldable pub callOn : State → ℕ → ℕ → ℕ → ℕ → Call

@@ -5,9 +5,9 @@ use mathlib.Core.Bool.{Bool, _&&_, _||_, cond, not}
 use mathlib.Core.List.{List, [], _++_, _∷_}
 use Rattle.model.specs.Box.{isEmpty, isFree}
 use Rattle.model.specs.Checks.{Check, LentTable, first, modelChecks, must, none, table}
-use Rattle.semantics.specs.Call.{Call, Kind, hasBudget, hasRow, hasTable, hasVariable, isUnknown, kindOf, lengthsOf}
-use Rattle.model.specs.State.{State}
 use Rattle.model.specs.Model.{Model}
+use Rattle.model.specs.State.{State}
+use Rattle.semantics.specs.Call.{Call, Kind, hasBudget, hasRow, hasTable, hasVariable, isUnknown, kindOf, lengthsOf}
 
 -- the largest budget: one more than the total width of any box, 128 × 65,535
 abbrev pub maxBudget : ℕ

@@ -5,9 +5,9 @@ use lib.ListN.{getD, length}
 use mathlib.Core.Bool.{cond}
 use mathlib.Core.List.{List, [], _∷_}
 use Rattle.model.specs.Checks.{Check, first, modelChecks, table}
-use Rattle.semantics.specs.Run.{Counts, noCounts, run, tally}
-use Rattle.semantics.specs.Call.{Call, lengthsOf}
 use Rattle.model.specs.State.{State}
+use Rattle.semantics.specs.Call.{Call, lengthsOf}
+use Rattle.semantics.specs.Run.{Counts, noCounts, run, tally}
 
 -- "kind, ..; row; variable; budget; each an unsigned number of 32 bits": record i of a flat list of numbers, four to a record, as a
 -- call on s

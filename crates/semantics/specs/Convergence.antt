@@ -9,19 +9,20 @@ use mathlib.Core.List.{List, [], _∷_}
 use mathlib.Core.Logic.{_↔_, _⊎_}
 use mathlib.Core.Path.{_≡_}
 use Rattle.model.specs.Box.{Inside, NonEmpty, emptyBox, isFree, width}
+use Rattle.model.specs.Model.{Model}
 use Rattle.model.specs.Rows.{Rows, rowAt}
+use Rattle.model.specs.State.{State}
+use Rattle.model.specs.Valid.{ValidModel, ValidState}
 use Rattle.row.specs.Outcome.{unchanged}
 use Rattle.row.specs.Propagation.{propagateRowOf}
+use Rattle.semantics.specs.Call.{Call, kindOf, probing, propagation}
 use Rattle.semantics.specs.CallChecks.{callFault, maxBudget}
 use Rattle.semantics.specs.Fixpoint.{Fixpoint, GreatestFixpoint}
 use Rattle.semantics.specs.Points.{AtRest}
-use Rattle.model.specs.Valid.{ValidModel, ValidState}
 use Rattle.semantics.specs.Probe.{bothFeasible, probe}
 use Rattle.semantics.specs.Propagate.{Propagated, isNone, isSpent, propagate}
 use Rattle.semantics.specs.RestTest.{isProbingFixpoint}
 use Rattle.semantics.specs.Run.{run, step}
-use Rattle.semantics.specs.Call.{Call, kindOf, probing, propagation}
-use Rattle.model.specs.State.{State}
 
 -- r is what propagating B came to, and the budget was enough
 pub record Ends (n m : ℕ) (A : Rows) (B : List ℤ) (r : Propagated) : Type 0 where
@@ -37,7 +38,7 @@ EnoughPasses =
 
 -- the total width of any accepted model is at most 8,388,480, so the largest budget is always enough (`width-limit`)
 unfoldable pub LargestBudget : Type 0
-LargestBudget = (s : State) → ValidModel (s .model) → (width (s .model .n) (s .model .box) ≤ℤ pos 8_388_480) × (width (s .model .n) (s .model .box) <ℤ pos maxBudget)
+LargestBudget = (M : Model) → ValidModel M → (width (M .n) (M .box) ≤ℤ pos 8_388_480) × (width (M .n) (M .box) <ℤ pos maxBudget)
 
 -- "contains every other": there is at most one largest quiet box (`greatest-unique`)
 unfoldable pub UniqueGreatest : Type 0
@@ -51,11 +52,12 @@ RestIsTested = (s : State) → ValidModel (s .model) → T (isProbingFixpoint (s
 -- the largest budget answers Both and leaves the box
 pub record NothingMoves (s : State) : Type 0 where
   pub nonEmpty : NonEmpty (s .model .n) (s .model .box)
-  pub visits : (i : ℕ) → i < s .model .m → propagateRowOf (s .model .n) (rowAt (s .model .n) (s .model .rows) i) (s .model .box) .outcome ≡ unchanged
+  pub rowsLeave : (i : ℕ) → i < s .model .m
+      → let M = s .model in propagateRowOf (M .n) (rowAt (M .n) (M .rows) i) (M .box) .outcome ≡ unchanged
   pub bothSides : (k : ℕ) → k < s .model .n → T (isFree (s .model .box) k)
-      → ((a : ℕ) × (probe k maxBudget (s .model .n) (s .model .m) (s .model .rows) (s .model .box) (s .table) .ending ≡ bothFeasible a))
+      → let M = s .model in ((a : ℕ) × (probe k maxBudget (M .n) (M .m) (M .rows) (M .box) (s .table) .ending ≡ bothFeasible a))
   pub probesLeave : (k : ℕ) → k < s .model .n → T (isFree (s .model .box) k)
-      → probe k maxBudget (s .model .n) (s .model .m) (s .model .rows) (s .model .box) (s .table) .box ≡ s .model .box
+      → let M = s .model in probe k maxBudget (M .n) (M .m) (M .rows) (M .box) (s .table) .box ≡ M .box
 
 -- proved as `rest-in-own-words`
 unfoldable pub RestInOwnWords : Type 0

@@ -3,20 +3,20 @@ use Prim.Native.Nat.{ℕ}
 use lib.IntN.{negsuc, negℤ, pos, ℤ}
 use mathlib.Core.Bool.{false, true}
 use mathlib.Core.List.{List, [], _∷_}
+use Rattle.model.specs.State.{State, withBox}
 use Rattle.row.specs.Outcome.{changed, infeasible, unchanged}
-use Rattle.semantics.specs.Books.{Line, boxed, callOn, removeCall, is, kept, model, probeCall, rowed, propagateCall, tightenCall, propagateRowCall}
+use Rattle.semantics.specs.Books.{Line, boxed, callOn, fresh, is, kept, probeCall, propagateCall, propagateRowCall, removeCall, rowed, tightenCall}
+use Rattle.semantics.specs.Call.{Call, Lengths}
 use Rattle.semantics.specs.Perform.{perform, probed, propagated, propagatedRow, refused, removed, tightened}
 use Rattle.semantics.specs.Probe.{Side, bothFeasible, fixed, infeasible as bothInfeasible}
 use Rattle.semantics.specs.Propagate.{converged, infeasible as none}
-use Rattle.semantics.specs.Run.{noCounts, tally}
 use Rattle.semantics.specs.RestTest.{isProbingFixpoint, restFault}
-use Rattle.semantics.specs.Call.{Call, Lengths}
-use Rattle.model.specs.State.{State, withBox}
+use Rattle.semantics.specs.Run.{noCounts, tally}
 use Rattle.semantics.specs.WorkedBooks.{binary2, empty2, pair, single}
 
 -- x + y ≤ 1 on the empty box
 unfoldable pub emptied : State
-emptied = model 2 1 empty2 (pos 1 ∷ pos 1 ∷ []) (pos 1 ∷ [])
+emptied = fresh 2 1 empty2 (pos 1 ∷ pos 1 ∷ []) (pos 1 ∷ [])
 
 -- −y ≤ −1: both sides of x fix y at 1
 unfoldable pub alike : State
@@ -24,16 +24,16 @@ alike = pair (pos 0) (negsuc 0) (negsuc 0)
 
 -- x + y ≥ 1 and x + y ≤ 1: each side of x moves y in its one pass
 unfoldable pub either : State
-either = model 2 2 binary2 (negsuc 0 ∷ negsuc 0 ∷ pos 1 ∷ pos 1 ∷ []) (negsuc 0 ∷ pos 1 ∷ [])
+either = fresh 2 2 binary2 (negsuc 0 ∷ negsuc 0 ∷ pos 1 ∷ pos 1 ∷ []) (negsuc 0 ∷ pos 1 ∷ [])
 
 -- x ≤ 0 and x ≥ 1 − y and y ≤ 0: no side of x survives
 unfoldable pub neither : State
-neither = model 2 2 binary2 (negsuc 0 ∷ negsuc 0 ∷ pos 1 ∷ pos 1 ∷ []) (negsuc 1 ∷ pos 1 ∷ [])
+neither = fresh 2 2 binary2 (negsuc 0 ∷ negsuc 0 ∷ pos 1 ∷ pos 1 ∷ []) (negsuc 1 ∷ pos 1 ∷ [])
 
 -- 3 x + 10⁶ y + z, y = −1,000, z = w: Lmax − 3 is −10⁹ + w
 unfoldable pub deep : ℤ → ℤ → State
 deep w b =
-    model 3 1 (pos 0 ∷ pos 1 ∷ negsuc 999 ∷ negsuc 999 ∷ w ∷ w ∷ []) (pos 3 ∷ pos 1_000_000 ∷ pos 1 ∷ []) (b ∷ [])
+    fresh 3 1 (pos 0 ∷ pos 1 ∷ negsuc 999 ∷ negsuc 999 ∷ w ∷ w ∷ []) (pos 3 ∷ pos 1_000_000 ∷ pos 1 ∷ []) (b ∷ [])
 
 unfoldable pub withLengths : Call → Lengths → Call
 withLengths c l = record { kind = c .kind; row = c .row; variable = c .variable; budget = c .budget; n = c .n; m = c .m; lengths = l }
@@ -92,10 +92,10 @@ corners =
     -- a sharpen at a variable that is not free is refused by 14, also where its coefficient is 0
     ∷ (let s = single (pos 0) (pos 5) (pos 0) (pos 5) in is (perform s (tightenCall s 0 0)) (kept s (refused 14)))
     -- no rows: Settled after 1; a visit has no row to take; both sides of a probe are the box itself
-    ∷ (let s = model 1 0 (pos 0 ∷ pos 5 ∷ []) [] [] in is (perform s (propagateCall s 3)) (kept s (propagated converged 1)))
-    ∷ (let s = model 1 0 (pos 1 ∷ pos 0 ∷ []) [] [] in is (perform s (propagateCall s 3)) (kept s (propagated none 1)))
-    ∷ (let s = model 1 0 (pos 0 ∷ pos 1 ∷ []) [] [] in is (perform s (propagateRowCall s 0)) (kept s (refused 12)))
-    ∷ (let s = model 1 0 (pos 0 ∷ pos 1 ∷ []) [] [] in
+    ∷ (let s = fresh 1 0 (pos 0 ∷ pos 5 ∷ []) [] [] in is (perform s (propagateCall s 3)) (kept s (propagated converged 1)))
+    ∷ (let s = fresh 1 0 (pos 1 ∷ pos 0 ∷ []) [] [] in is (perform s (propagateCall s 3)) (kept s (propagated none 1)))
+    ∷ (let s = fresh 1 0 (pos 0 ∷ pos 1 ∷ []) [] [] in is (perform s (propagateRowCall s 0)) (kept s (refused 12)))
+    ∷ (let s = fresh 1 0 (pos 0 ∷ pos 1 ∷ []) [] [] in
     is (perform s (probeCall s 0 1)) (kept s (probed (bothFeasible 0) (unspent 1) (unspent 1))))
     -- one pass is enough where nothing moves; a pass that None breaks off counts as made
     ∷ (let s = single (pos 2) (pos 5) (pos 0) (pos 2) in is (perform s (propagateCall s 1)) (kept s (propagated converged 1)))
@@ -115,7 +115,7 @@ corners =
     ∷ (let s = withBox alike binary2 (0 ∷ 0 ∷ 0 ∷ 1 ∷ 0 ∷ 0 ∷ 0 ∷ 1 ∷ 1 ∷ 1 ∷ 0 ∷ 0 ∷ 0 ∷ 0 ∷ 0 ∷ 0 ∷ []) in
     is (perform s (probeCall s 0 5)) (boxed s (probed (bothFeasible 0) (unspent 2) (unspent 2)) (pos 0 ∷ pos 1 ∷ pos 1 ∷ pos 1 ∷ [])))
     -- a variable that was not free before the call is not recorded, though both sides fix it at 1
-    ∷ (let s = model 2 1 (pos 0 ∷ pos 1 ∷ pos 1 ∷ pos 2 ∷ []) (pos 0 ∷ pos 1 ∷ []) (pos 1 ∷ []) in
+    ∷ (let s = fresh 2 1 (pos 0 ∷ pos 1 ∷ pos 1 ∷ pos 2 ∷ []) (pos 0 ∷ pos 1 ∷ []) (pos 1 ∷ []) in
     is (perform s (probeCall s 0 5)) (boxed s (probed (bothFeasible 0) (unspent 2) (unspent 2)) (pos 0 ∷ pos 1 ∷ pos 1 ∷ pos 1 ∷ [])))
     -- Spent sides are used with the box they reached, and record
     ∷ is (perform either (probeCall either 0 1))

@@ -8,12 +8,12 @@ use mathlib.Core.Logic.{_↔_, _⊎_}
 use mathlib.Core.Path.{_≡_}
 use Rattle.model.specs.Box.{at, emptyBox, isFree, lower, upper}
 use Rattle.model.specs.Limits.{maxBound, maxCoef, maxRhs, maxRows, maxVariables, minBound, minCoef, minRhs}
+use Rattle.model.specs.State.{State}
 use Rattle.model.specs.Valid.{Between}
+use Rattle.semantics.specs.Call.{Call, hasBudget, hasRow, hasTable, hasVariable, kindOf}
 use Rattle.semantics.specs.CallChecks.{callFault, maxBudget}
 use Rattle.semantics.specs.Perform.{perform, refused}
 use Rattle.semantics.specs.Run.{isRefused}
-use Rattle.semantics.specs.Call.{Call, hasBudget, hasRow, hasTable, hasVariable, kindOf}
-use Rattle.model.specs.State.{State}
 
 -- the buffers that the call is lent are the state's, and each has exactly the length needed
 pub record LengthsFit (s : State) (c : Call) : Type 0 where

@@ -7,16 +7,16 @@ use mathlib.Core.List.{List, [], _∷_}
 use mathlib.Core.Logic.{_↔_, _≢_}
 use mathlib.Core.Path.{_≡_}
 use Rattle.model.specs.Box.{at, emptyBox}
+use Rattle.model.specs.State.{State}
+use Rattle.model.specs.Valid.{ValidState}
 use Rattle.row.specs.Outcome.{unchanged}
+use Rattle.semantics.specs.Call.{Call, Kind, kindOf, probing, propagation, removal, rowPropagation, tightening, unknown}
 use Rattle.semantics.specs.CallChecks.{callFault}
 use Rattle.semantics.specs.Perform.{Answer, perform, probed, propagated, propagatedRow, refused, removed, tightened}
 use Rattle.semantics.specs.Points.{FractionalPointOf, PointOf}
-use Rattle.model.specs.Valid.{ValidState}
 use Rattle.semantics.specs.Probe.{ProbeEnding, Side, bothFeasible}
 use Rattle.semantics.specs.Propagate.{Ending}
 use Rattle.semantics.specs.Run.{answersNone, run}
-use Rattle.semantics.specs.Call.{Call, Kind, kindOf, unknown, probing, propagation, rowPropagation, removal, tightening}
-use Rattle.model.specs.State.{State}
 
 -- how many bytes of a table are 1
 unfoldable pub ones : List ℕ → ℕ
@@ -38,17 +38,20 @@ AnswersSame (removed o) = o ≡ unchanged
 
 -- what a call of a kind leaves as it was
 unfoldable pub Untouched : Kind → State → Call → State → Type 0
-Untouched rowPropagation s c r = (r .model .rows .coefs ≡ s .model .rows .coefs) × (r .model .rows .rhs ≡ s .model .rows .rhs) × (r .table ≡ s .table)
-Untouched propagation s c r = (r .model .rows .coefs ≡ s .model .rows .coefs) × (r .model .rows .rhs ≡ s .model .rows .rhs) × (r .table ≡ s .table)
-Untouched probing s c r = (r .model .rows .coefs ≡ s .model .rows .coefs) × (r .model .rows .rhs ≡ s .model .rows .rhs)
+Untouched rowPropagation s c r = (r .model .rows ≡ s .model .rows) × (r .table ≡ s .table)
+Untouched propagation s c r = (r .model .rows ≡ s .model .rows) × (r .table ≡ s .table)
+Untouched probing s c r = r .model .rows ≡ s .model .rows
 Untouched tightening s c r =
+    let A = s .model .rows in
     (r .model .box ≡ s .model .box) × (r .table ≡ s .table)
-    × ((i : ℕ) → i ≢ c .row * s .model .n + c .variable → at (r .model .rows .coefs) i ≡ at (s .model .rows .coefs) i)
-    × ((i : ℕ) → i ≢ c .row → at (r .model .rows .rhs) i ≡ at (s .model .rows .rhs) i)
+    × ((i : ℕ) → i ≢ c .row * s .model .n + c .variable → at (r .model .rows .coefs) i ≡ at (A .coefs) i)
+    × ((i : ℕ) → i ≢ c .row → at (r .model .rows .rhs) i ≡ at (A .rhs) i)
 Untouched removal s c r =
+    let n = s .model .n in
+    let A = s .model .rows in
     (r .model .box ≡ s .model .box) × (r .table ≡ s .table)
-    × ((i j : ℕ) → j < s .model .n → i ≢ c .row → at (r .model .rows .coefs) (i * s .model .n + j) ≡ at (s .model .rows .coefs) (i * s .model .n + j))
-    × ((i : ℕ) → i ≢ c .row → at (r .model .rows .rhs) i ≡ at (s .model .rows .rhs) i)
+    × ((i j : ℕ) → j < n → i ≢ c .row → at (r .model .rows .coefs) (i * n + j) ≡ at (A .coefs) (i * n + j))
+    × ((i : ℕ) → i ≢ c .row → at (r .model .rows .rhs) i ≡ at (A .rhs) i)
 Untouched unknown s c r = r ≡ s
 
 -- of an accepted call

@@ -7,8 +7,8 @@ use mathlib.Core.Logic.{_⊎_}
 use mathlib.Core.Path.{_≡_}
 use Rattle.model.specs.Box.{Inside, NonEmpty, emptyBox, isFree}
 use Rattle.model.specs.Rows.{Rows, rowAt}
-use Rattle.semantics.specs.Probe.{fix, hull}
 use Rattle.row.specs.Propagation.{propagateRowOf}
+use Rattle.semantics.specs.Probe.{fix, hull}
 
 -- "A box is quiet when it is not void and no visit changes it."
 pub record Fixpoint (n m : ℕ) (A : Rows) (B : List ℤ) : Type 0 where

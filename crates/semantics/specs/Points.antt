@@ -7,9 +7,9 @@ use mathlib.Core.Logic.{_⊎_}
 use mathlib.Core.Path.{_≡_}
 use Rattle.model.specs.Box.{at}
 use Rattle.model.specs.Point.{FractionalPoint, IntegerPoint}
+use Rattle.model.specs.State.{State}
 use Rattle.semantics.specs.Fixpoint.{ProbingFixpoint}
 use Rattle.semantics.specs.Probe.{byteOf, literal}
-use Rattle.model.specs.State.{State}
 
 -- "its integer points are those of its box and rows"
 abbrev pub PointOf : State → List ℤ → Type 0

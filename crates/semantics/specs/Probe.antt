@@ -7,8 +7,8 @@ use mathlib.Core.Bool.{Bool, _&&_, cond, false, not}
 use mathlib.Core.List.{List}
 use Rattle.integer.specs.Order.{eqZ, maxZ, minZ}
 use Rattle.model.specs.Box.{boxOf, emptyBox, isEmpty, isFree, lower, upper}
-use Rattle.semantics.specs.Propagate.{Propagated, isNone, isSpent, propagate}
 use Rattle.model.specs.Rows.{Rows}
+use Rattle.semantics.specs.Propagate.{Propagated, isNone, isSpent, propagate}
 
 -- "Side v is the box with k set to v", before it is settled
 unfoldable pub fix : ℕ → List ℤ → ℕ → ℕ → List ℤ

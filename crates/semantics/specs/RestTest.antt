@@ -7,11 +7,11 @@ use Rattle.integer.specs.Index.{all}
 use Rattle.model.specs.Box.{isEmpty, isFree, sameList}
 use Rattle.model.specs.Checks.{modelFault, none}
 use Rattle.model.specs.Rows.{Rows, rowAt}
+use Rattle.model.specs.State.{State}
+use Rattle.row.specs.Propagation.{propagateRowOf}
 use Rattle.semantics.specs.CallChecks.{maxBudget}
 use Rattle.semantics.specs.Probe.{fix, hull}
 use Rattle.semantics.specs.Propagate.{isNone, propagate}
-use Rattle.model.specs.State.{State}
-use Rattle.row.specs.Propagation.{propagateRowOf}
 
 -- no row moves a bound
 unfoldable pub isFixpoint : ℕ → ℕ → Rows → List ℤ → Bool

@@ -5,10 +5,10 @@ use lib.ListN.{length}
 use mathlib.Core.List.{List}
 use mathlib.Core.Logic.{_↔_}
 use mathlib.Core.Path.{_≡_}
+use Rattle.model.specs.State.{State}
 use Rattle.semantics.specs.CallList.{ran, recordsOf, runList}
 use Rattle.semantics.specs.Points.{AtRest, PointOf, TableHolds}
 use Rattle.semantics.specs.Run.{Counts}
-use Rattle.model.specs.State.{State}
 use Rattle.semantics.specs.TwoRuns.{HandedIn, Narrows}
 
 -- of the model handed in, s; the list before the parting; and those of the two runs after it

@@ -9,11 +9,11 @@ use mathlib.Core.List.{List, [], _∷_}
 use mathlib.Core.Logic.{_↔_}
 use mathlib.Core.Path.{_≡_}
 use Rattle.model.specs.Checks.{modelFault, table}
+use Rattle.model.specs.State.{State}
+use Rattle.semantics.specs.Call.{Call, Kind, kindOf, probing, propagation, removal, rowPropagation, tightening, unknown}
 use Rattle.semantics.specs.CallChecks.{callFault}
 use Rattle.semantics.specs.Points.{AtRest, PointOf, TableHolds}
 use Rattle.semantics.specs.Run.{run, step}
-use Rattle.semantics.specs.Call.{Call, Kind, kindOf, unknown, probing, propagation, rowPropagation, removal, tightening}
-use Rattle.model.specs.State.{State}
 
 -- "the model handed in, before the first list, is any that passes the checks, its box void or not, with a table all 0"
 pub record HandedIn (s : State) : Type 0 where

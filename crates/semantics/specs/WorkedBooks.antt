@@ -3,15 +3,15 @@ use Prim.Native.Nat.{ℕ}
 use lib.IntN.{negsuc, pos, ℤ}
 use mathlib.Core.Bool.{Bool, false, true}
 use mathlib.Core.List.{List, [], _∷_}
+use Rattle.model.specs.State.{State}
 use Rattle.row.specs.Outcome.{changed, infeasible, unchanged}
-use Rattle.semantics.specs.Books.{Line, boxed, removeCall, is, kept, model, probeCall, rowed, propagateCall, tightenCall, propagateRowCall}
+use Rattle.semantics.specs.Books.{Line, boxed, fresh, is, kept, probeCall, propagateCall, propagateRowCall, removeCall, rowed, tightenCall}
 use Rattle.semantics.specs.Demand2.{ones}
 use Rattle.semantics.specs.Perform.{perform, probed, propagated, propagatedRow, removed, tightened}
 use Rattle.semantics.specs.Probe.{fixed}
 use Rattle.semantics.specs.Propagate.{budgetSpent, converged}
 use Rattle.semantics.specs.RestTest.{isProbingFixpoint}
 use Rattle.semantics.specs.Run.{run}
-use Rattle.model.specs.State.{State}
 
 unfoldable pub binary2 : List ℤ
 binary2 = pos 0 ∷ pos 1 ∷ pos 0 ∷ pos 1 ∷ []
@@ -21,19 +21,19 @@ empty2 = pos 1 ∷ pos 0 ∷ pos 1 ∷ pos 0 ∷ []
 
 -- a x ≤ b with x from l to u; a x + c y ≤ b with x and y free 0-1
 unfoldable pub single : ℤ → ℤ → ℤ → ℤ → State
-single a b l u = model 1 1 (l ∷ u ∷ []) (a ∷ []) (b ∷ [])
+single a b l u = fresh 1 1 (l ∷ u ∷ []) (a ∷ []) (b ∷ [])
 
 unfoldable pub pair : ℤ → ℤ → ℤ → State
-pair a c b = model 2 1 binary2 (a ∷ c ∷ []) (b ∷ [])
+pair a c b = fresh 2 1 binary2 (a ∷ c ∷ []) (b ∷ [])
 
 -- x − y ≤ 0, x + y ≤ 1
 unfoldable pub crossed : State
-crossed = model 2 2 binary2 (pos 1 ∷ negsuc 0 ∷ pos 1 ∷ pos 1 ∷ []) (pos 0 ∷ pos 1 ∷ [])
+crossed = fresh 2 2 binary2 (pos 1 ∷ negsuc 0 ∷ pos 1 ∷ pos 1 ∷ []) (pos 0 ∷ pos 1 ∷ [])
 
 -- A: 2x ≤ 5, B: y − x ≤ 0, both 0..5
 unfoldable pub chained : State
 chained =
-    model 2 2 (pos 0 ∷ pos 5 ∷ pos 0 ∷ pos 5 ∷ []) (pos 2 ∷ pos 0 ∷ negsuc 0 ∷ pos 1 ∷ []) (pos 5 ∷ pos 0 ∷ [])
+    fresh 2 2 (pos 0 ∷ pos 5 ∷ pos 0 ∷ pos 5 ∷ []) (pos 2 ∷ pos 0 ∷ negsuc 0 ∷ pos 1 ∷ []) (pos 5 ∷ pos 0 ∷ [])
 
 -- the box after visits of the given rows, one after the other
 unfoldable pub boxAfter : State → List ℕ → List ℤ
@@ -46,7 +46,7 @@ atRest s B = isProbingFixpoint (s .model .n) (s .model .m) (s .model .rows) B
 -- 000's four-row clique example (2.2.2): 4 x0 + x1 − 3 x3 ≤ 2, 2 x0 + 3 x1 + 3 x3 ≤ 7, x0 + 4 x1 + 2 x2 ≤ 5, 3 x0 + x1 + 5 x2 ≤ 6
 unfoldable pub clique : State
 clique =
-    model 4 4 (pos 0 ∷ pos 1 ∷ pos 0 ∷ pos 1 ∷ pos 0 ∷ pos 1 ∷ pos 0 ∷ pos 1 ∷ [])
+    fresh 4 4 (pos 0 ∷ pos 1 ∷ pos 0 ∷ pos 1 ∷ pos 0 ∷ pos 1 ∷ pos 0 ∷ pos 1 ∷ [])
     (pos 4 ∷ pos 1 ∷ pos 0 ∷ negsuc 2 ∷ pos 2 ∷ pos 3 ∷ pos 0 ∷ pos 3 ∷ pos 1 ∷ pos 4 ∷ pos 2 ∷ pos 0 ∷ pos 3 ∷ pos 1 ∷ pos 5 ∷ pos 0 ∷ [])
     (pos 2 ∷ pos 7 ∷ pos 5 ∷ pos 6 ∷ [])
 
