@@ -57,7 +57,7 @@ pub record NonEmpty (n : ℕ) (B : List ℤ) : Type 0 where
   pub len : length B ≡ 2 * n
   pub order : (j : ℕ) → j < n → lower B j ≤ℤ upper B j
 
--- every bound of Q, which is not empty, lies within B's
+-- Q's bounds lie within B's, variable by variable. Nothing is said of l ≤ u or of the lengths: where it matters, Q is `NonEmpty` too.
 pub record Inside (n : ℕ) (Q B : List ℤ) : Type 0 where
   pub low : (j : ℕ) → j < n → lower B j ≤ℤ lower Q j
   pub high : (j : ℕ) → j < n → upper Q j ≤ℤ upper B j

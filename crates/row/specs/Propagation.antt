@@ -21,7 +21,7 @@ unfoldable pub newLower : ℤ → ℤ → ℤ → ℤ → ℤ → ℤ
 newLower a b L l u = cond (ltZ a (pos 0)) (maxZ l (ceilDiv (L +ℤ negℤ a *ℤ u -ℤ b) (negℤ a))) l
 
 -- The box with the bounds that the row implies. L reads only bounds that the rule does not move (lower ones where a > 0, upper
--- ones where a < 0), so the order of the variables does not matter (`propagate-row-again`).
+-- ones where a < 0), so it is the same before, while and after bounds move (`minActivity-implied`), and no variable waits for another.
 unfoldable pub impliedBox : ℕ → List ℤ → ℤ → ℤ → List ℤ → List ℤ
 impliedBox n A b L B =
     boxOf n (λ j. newLower (at A j) b L (lower B j) (upper B j)) (λ j. newUpper (at A j) b L (lower B j) (upper B j))

@@ -1,23 +1,31 @@
 -- Call lists: a list is run exactly where the state is valid and its numbers are four to a record; then it is a run over its
 -- records, else a run over none, so that demand 3 and all that runs keep hold over lists too. Assumes nothing.
 use Prim.Native.Nat.{_*_, _+_, _-_, _/_, _%_, _<_, _≤_, suc, zero, ℕ}
-use lib.Dec.{eqb}
+use lib.Dec.{T, eqb, eqb→eq}
+use lib.IntN.{ℤ}
 use lib.ListN.{length}
-use mathlib.Core.List.{List, []}
-use mathlib.Core.Logic.{_↔_}
+use mathlib.Core.Bool.{Bool, cond, false, true}
+use mathlib.Core.List.{List, [], _∷_}
+use mathlib.Core.Logic.{_↔_, _⊎_, inl, inr, ⊎-elim}
 use mathlib.Core.Path.{_∙_, _≡_, ap, refl, subst, sym}
 use native.Mathlib.Omega.{arith}
-use Rattle.integer.proofs.Tests.{cond-ind, eqb-test, neqb→ne, test-false}
+use Rattle.integer.proofs.Tests.{T→false, cond-ind, decide, eqb-test, neqb→ne, test-false}
 use Rattle.model.specs.Checks.{modelFault, table}
 use Rattle.model.specs.State.{State}
 use Rattle.model.specs.Valid.{ValidState}
 use Rattle.model.proofs.CheckLaws.{fits-table-fault-none}
 use Rattle.semantics.specs.Call.{Call, lengthsOf}
-use Rattle.semantics.specs.CallList.{ListRun, listChecks, listFault, ran, recordAt, recordsFrom, recordsOf, refusedList, runList}
-use Rattle.semantics.specs.Run.{CallClass, Counts, classOf, countCall, noCounts, run, step, tally}
-use Rattle.semantics.specs.TwoLists.{CountsAddUp, Demand3Lists}
-use Rattle.semantics.specs.TwoRuns.{Demand3, Narrows}
+use Rattle.semantics.specs.CallChecks.{callFault}
+use Rattle.semantics.specs.CallList.{ListAnswer, ListRun, callsMade, listChecks, listFault, ran, recordAt, recordsFrom, recordsOf, refusedList, runList}
+use Rattle.semantics.specs.Demand2.{Demand2}
+use Rattle.semantics.specs.Perform.{perform}
+use Rattle.semantics.specs.Points.{PointOf, TableHolds}
+use Rattle.semantics.specs.Run.{CallClass, Counts, answersNone, changedCall, classOf, countCall, infeasibleCall, isRefused, noCounts, refusedCall, run, sameState, step, tally, unchangedCall}
+use Rattle.semantics.specs.TwoLists.{CountsAddUp, Demand3Lists, ListMeans, TwoLists}
+use Rattle.semantics.specs.TwoRuns.{Demand3, HandedIn, Narrows}
+use Rattle.semantics.proofs.Demand2.{demand-2}
 use Rattle.semantics.proofs.Demand3.{demand-3}
+use Rattle.semantics.proofs.ImplicationLaws.{zeros-hold}
 use Rattle.semantics.proofs.Preserved.{Preserves, run-preserves, step-preserves}
 use Rattle.semantics.proofs.Tally.{count-total, tally-length, total}
 
@@ -53,22 +61,16 @@ pub list-refused : (s : State) (xs : List ℕ) → (listFault s xs ≡ 0 → ⊥
 unfolding runList
 list-refused s xs n = rw (test-false (eqb (listFault s xs) 0) (eqb-test (listFault s xs) 0) n)
 
--- the calls that the list makes: its records, or none where it is refused
-record Made (s : State) (xs : List ℕ) (r : ListRun) : Type 0 where
-  calls : List Call
-  state : r .state ≡ run s calls
-  narrows : Narrows s (recordsOf s xs) → Narrows s calls
-
-made : (s : State) (xs : List ℕ) → Made s xs (runList s xs)
-unfolding run Narrows
-made s xs = list-ind s xs (Made s xs)
-    (λ _. record { calls = recordsOf s xs; state = refl; narrows = λ p. p })
-    (λ _. record { calls = []; state = refl; narrows = λ _. tt })
+-- it is a run over the calls that it makes
+pub list-made : (s : State) (xs : List ℕ) → runList s xs .state ≡ run s (callsMade s xs)
+unfolding callsMade run
+list-made s xs = list-ind s xs (λ r. r .state ≡ run s (callsMade s xs)) (λ e. rw e)
+    (λ n. rw (test-false (eqb (listFault s xs) 0) (eqb-test (listFault s xs) 0) n))
 
 -- ---- what every list keeps, refused or not: a valid state among it, so no later list is refused for its model
 
 pub list-preserves : (s : State) (xs : List ℕ) → Preserves s (runList s xs .state)
-list-preserves s xs = let c = made s xs in rw (c .state) (run-preserves s (c .calls))
+list-preserves s xs = rw (list-made s xs) (run-preserves s (callsMade s xs))
 
 pub list-again : (s : State) (xs ys : List ℕ) → ValidState s → length ys % 4 ≡ 0 → listFault (runList s xs .state) ys ≡ 0
 list-again s xs ys v e = list-accepted (runList s xs .state) ys .1 (list-preserves s xs .valid v, e)
@@ -79,14 +81,13 @@ pub demand-3-lists : Demand3Lists
 unfolding Demand3Lists Demand3
 demand-3-lists s before one two g p1 p2 =
     let r = runList s before .state in
-    let c = made s before in
-    let c1 = made r one in
-    let c2 = made r two in
-    let e1 = c1 .state ∙ ap (λ (z : State). run z (c1 .calls)) (c .state) in
-    let e2 = c2 .state ∙ ap (λ (z : State). run z (c2 .calls)) (c .state) in
-    let t = demand-3 s (c .calls) (c1 .calls) (c2 .calls) g
-    (subst (λ (z : State). Narrows z (c1 .calls)) (c .state) (c1 .narrows p1))
-    (subst (λ (z : State). Narrows z (c2 .calls)) (c .state) (c2 .narrows p2)) in
+    let c = callsMade s before in
+    let c1 = callsMade r one in
+    let c2 = callsMade r two in
+    let e = list-made s before in
+    let e1 = list-made r one ∙ ap (λ (z : State). run z c1) e in
+    let e2 = list-made r two ∙ ap (λ (z : State). run z c2) e in
+    let t = demand-3 s c c1 c2 g (subst (λ (z : State). Narrows z c1) e p1) (subst (λ (z : State). Narrows z c2) e p2) in
     record {
       sameEnd = rw (e1, e2) (t .sameEnd);
       points1 = rw e1 (t .points1);
@@ -94,6 +95,17 @@ demand-3-lists s before one two g p1 p2 =
       implied1 = rw e1 (t .implied1);
       implied2 = rw e2 (t .implied2);
     }
+
+-- nothing is asked of the records of lists that are refused as a whole
+no-call : (s : State) (xs : List ℕ) → (listFault s xs ≡ 0 → ⊥) → Narrows s (callsMade s xs)
+unfolding callsMade Narrows
+no-call s xs n = rw (test-false (eqb (listFault s xs) 0) (eqb-test (listFault s xs) 0) n) tt
+
+pub demand-3-refused : (s : State) (before one two : List ℕ) → HandedIn s
+    → (listFault (runList s before .state) one ≡ 0 → ⊥) → (listFault (runList s before .state) two ≡ 0 → ⊥) → TwoLists s before one two
+unfolding Demand3Lists
+demand-3-refused s before one two g n1 n2 =
+    let r = runList s before .state in demand-3-lists s before one two g (no-call r one n1) (no-call r two n2)
 
 -- ---- the four counts
 
@@ -111,6 +123,65 @@ counts-add-up s xs k = list-ind s xs (λ r. r .answer ≡ ran k → 4 * total k 
     (λ h e. let d = list-accepted s xs .0 h .1 in
     rw (sym (ran-injective e)) (omega (arith, tally-length s (recordsOf s xs), records-count (length xs / 4) s xs 0)))
     (λ _ e. cc)
+
+-- ---- what a list means
+
+-- a class other than None
+abbrev NotNone : CallClass → Type 0
+NotNone refusedCall = Unit {0}
+NotNone infeasibleCall = ⊥
+NotNone changedCall = Unit {0}
+NotNone unchangedCall = Unit {0}
+
+is-none : (r a u : Bool) → cond r refusedCall (cond a infeasibleCall (cond u unchangedCall changedCall)) ≡ infeasibleCall → T a
+is-none true a u e = absurd (subst NotNone e tt)
+is-none false true u e = tt
+is-none false false true e = absurd (subst NotNone e tt)
+is-none false false false e = absurd (subst NotNone e tt)
+
+-- a call that counts as None is accepted, and answers None
+none-no-point : (s : State) (c : Call) → classOf s c ≡ infeasibleCall → (x : List ℤ) → PointOf s x → ⊥
+unfolding classOf perform answersNone Demand2
+none-no-point s c e x p =
+    let t = is-none (isRefused (perform s c .answer)) (answersNone (perform s c .answer)) (sameState s (step s c)) e in
+    ⊎-elim (λ h. demand-2 s c (eqb→eq (callFault s c) 0 h) .noPoint t x p) (λ h. absurd (rw (T→false (eqb (callFault s c) 0) h) at t))
+    (decide (eqb (callFault s c) 0))
+
+counted-none : (q : CallClass) (k : Counts) → 0 < countCall q k .infeasibles → (q ≡ infeasibleCall) ⊎ (0 < k .infeasibles)
+unfolding countCall
+counted-none refusedCall k h = inr h
+counted-none infeasibleCall k h = inl refl
+counted-none changedCall k h = inr h
+counted-none unchangedCall k h = inr h
+
+tally-none : (k : Counts) (s : State) (cs : List Call) → (0 < k .infeasibles → (x : List ℤ) → PointOf s x → ⊥)
+    → 0 < tally k s cs .infeasibles → (x : List ℤ) → PointOf s x → ⊥
+unfolding tally
+tally-none k s [] g h x p = g h x p
+tally-none k s (c ∷ cs) g h x p =
+    let o = step-preserves s c .points in
+    tally-none (countCall (classOf s c) k) (step s c) cs
+    (λ z y q. ⊎-elim (λ e. none-no-point s c e y (o y .0 q)) (λ w. g w y (o y .0 q)) (counted-none (classOf s c) k z)) h x (o x .1 p)
+
+abbrev Ran : ListAnswer → Type 0
+Ran (refusedList number) = ⊥
+Ran (ran k) = Unit {0}
+
+pub list-means : (s : State) (xs : List ℕ) → ListMeans s (runList s xs)
+unfolding noCounts
+list-means s xs =
+    let p = list-preserves s xs in
+    let holds : (x : List ℤ) → PointOf s x → TableHolds (s .model .n) (s .table) x → TableHolds (s .model .n) (runList s xs .state .table) x =
+    (λ x o t. rw (p .sizes .0) at (p .holds x o t)) in
+    record {
+      points = p .points;
+      fractional = p .fractional;
+      noPoint = λ k. list-ind s xs (λ r. r .answer ≡ ran k → 0 < k .infeasibles → (x : List ℤ) → PointOf s x → ⊥)
+          (λ _ e h. tally-none noCounts s (recordsOf s xs) (λ z. absurd (let w : ⊥ = omega arith in w)) (rw (sym (ran-injective e)) at h))
+          (λ _ e. absurd (subst Ran (sym e) tt));
+      holds = holds;
+      implied = λ e x o. holds x o (rw e (zeros-hold (s .model .n) (4 * (s .model .n * s .model .n)) x));
+    }
 
 -- ---- a run record by record: before record i, the state is s and k are counted
 

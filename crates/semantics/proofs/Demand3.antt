@@ -2,23 +2,39 @@
 use Prim.Native.Nat.{_*_, _<_, ℕ}
 use lib.Dec.{T}
 use lib.IntN.{ℤ}
+use lib.ListN.{length-replicate, replicate}
 use mathlib.Core.List.{List, [], _∷_}
 use mathlib.Core.Logic.{_↔_, inl, inr, ⊎-elim}
 use mathlib.Core.Path.{_∙_, _≡_, refl, subst, sym}
+use native.Mathlib.Omega.{arith}
 use Rattle.model.specs.Box.{Inside}
 use Rattle.model.specs.State.{State, withBox}
-use Rattle.model.specs.Valid.{ValidModel, ValidState}
+use Rattle.model.specs.Valid.{ValidModel, ValidState, ValidTable}
 use Rattle.model.proofs.BoxLaws.{inside-antisymm, inside-refl, not-in-empty}
+use Rattle.model.proofs.CheckLaws.{fault-none, table-fault-none}
 use Rattle.semantics.specs.Call.{Call, kindOf}
 use Rattle.semantics.specs.CallChecks.{callFault}
 use Rattle.semantics.specs.Fixpoint.{ProbedFixpoint, ProbingFixpoint}
 use Rattle.semantics.specs.Points.{AtRest, PointOf, TableHolds}
 use Rattle.semantics.specs.Run.{run, step}
-use Rattle.semantics.specs.TwoRuns.{Demand3, Narrows, narrows}
+use Rattle.semantics.specs.TwoRuns.{Demand3, EveryModelHandedIn, Narrows, narrows}
 use Rattle.semantics.proofs.Accepted.{accepted, handed-in-valid}
 use Rattle.semantics.proofs.CallLaws.{Narrowed, NarrowedTo, act-narrowed, narrowed-refl, step-ind}
-use Rattle.semantics.proofs.ImplicationLaws.{zeros-hold}
+use Rattle.semantics.proofs.ImplicationLaws.{getD-zeros, zeros-hold}
 use Rattle.semantics.proofs.Preserved.{Preserves, narrowed-inside, narrowed-points, preserves-trans, run-preserves, step-preserves}
+
+-- ---- the models that are handed in
+
+zeros-valid : (n : ℕ) → ValidTable n (replicate (4 * (n * n)) 0)
+zeros-valid n = let z : ℕ = 0 in
+    record { len = length-replicate (4 * (n * n)) z; bits = λ i. let e = getD-zeros (4 * (n * n)) i in omega arith }
+
+pub handed-in : EveryModelHandedIn
+unfolding EveryModelHandedIn
+handed-in M e = record {
+  accepted = table-fault-none M (replicate (4 * (M .n * M .n)) 0) .1 (fault-none M .0 e, zeros-valid (M .n));
+  zeros = refl;
+}
 
 -- ---- a run of visits, settles and probes narrows the box
 

@@ -206,7 +206,7 @@ module _ (n k : ℕ) (B S0 S1 : List ℤ) (t : List ℕ) (kn : k < n) (v : Valid
 
 -- ---- the table all 0
 
-getD-zeros : (m i : ℕ) → _≡_ {A = ℕ} (getD (replicate m 0) i 0) 0
+pub getD-zeros : (m i : ℕ) → _≡_ {A = ℕ} (getD (replicate m 0) i 0) 0
 getD-zeros zero i = refl
 getD-zeros (suc m) zero = refl
 getD-zeros (suc m) (suc i) = getD-zeros m i

@@ -26,21 +26,21 @@ unfoldable pub callOn : State → ℕ → ℕ → ℕ → ℕ → Call
 callOn s kind row variable budget =
     record { kind = kind; row = row; variable = variable; budget = budget; n = s .model .n; m = s .model .m; lengths = lengthsOf s }
 
--- calls of each kind; 99 stands in the fields that the kind lacks
+-- calls of each kind; a field that the kind lacks has a value that would be refused: row 999, variable 999, budget 0
 unfoldable pub propagateRowCall : State → ℕ → Call
-propagateRowCall s r = callOn s 1 r 99 99
+propagateRowCall s r = callOn s 1 r 999 0
 
 unfoldable pub propagateCall : State → ℕ → Call
-propagateCall s budget = callOn s 2 99 99 budget
+propagateCall s budget = callOn s 2 999 999 budget
 
 unfoldable pub probeCall : State → ℕ → ℕ → Call
-probeCall s k budget = callOn s 3 99 k budget
+probeCall s k budget = callOn s 3 999 k budget
 
 unfoldable pub tightenCall : State → ℕ → ℕ → Call
-tightenCall s r k = callOn s 4 r k 99
+tightenCall s r k = callOn s 4 r k 0
 
 unfoldable pub removeCall : State → ℕ → Call
-removeCall s r = callOn s 5 r 99 99
+removeCall s r = callOn s 5 r 999 0
 
 -- answers with the state as it was, with another box, with another row 0
 unfoldable pub kept : State → Answer → Performed

@@ -39,6 +39,10 @@ listChecks s xs = modelChecks (s .model) (table (s .table)) (eqb (length xs % 4)
 unfoldable pub listFault : State → List ℕ → ℕ
 listFault s xs = first (listChecks s xs)
 
+-- the calls that a list makes: one for each record, none where it is refused as a whole
+unfoldable pub callsMade : State → List ℕ → List Call
+callsMade s xs = cond (eqb (listFault s xs) 0) (recordsOf s xs) []
+
 -- "if they fail, the sheet as a whole is refused"; else "four counts whose sum is the list's length"
 pub data ListAnswer : Type 0 where
   refusedList : ℕ → ListAnswer

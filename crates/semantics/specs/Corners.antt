@@ -1,12 +1,14 @@
 -- Corner cases, as a table like that of the worked books (proved as `corners-hold`): what 01 says in half a sentence, computed.
 use Prim.Native.Nat.{ℕ}
 use lib.IntN.{negsuc, negℤ, pos, ℤ}
+use lib.ListN.{replicate}
 use mathlib.Core.Bool.{false, true}
 use mathlib.Core.List.{List, [], _∷_}
-use Rattle.model.specs.State.{State, withBox}
+use Rattle.model.specs.State.{State, withBox, withRow}
 use Rattle.row.specs.Outcome.{changed, infeasible, unchanged}
 use Rattle.semantics.specs.Books.{Line, boxed, callOn, fresh, is, kept, probeCall, propagateCall, propagateRowCall, removeCall, rowed, tightenCall}
 use Rattle.semantics.specs.Call.{Call, Lengths}
+use Rattle.semantics.specs.CallList.{callsMade, ran, refusedList, runList}
 use Rattle.semantics.specs.Perform.{perform, probed, propagated, propagatedRow, refused, removed, tightened}
 use Rattle.semantics.specs.Probe.{Side, bothFeasible, fixed, infeasible as bothInfeasible}
 use Rattle.semantics.specs.Propagate.{converged, infeasible as none}
@@ -26,7 +28,7 @@ alike = pair (pos 0) (negsuc 0) (negsuc 0)
 unfoldable pub either : State
 either = fresh 2 2 binary2 (negsuc 0 ∷ negsuc 0 ∷ pos 1 ∷ pos 1 ∷ []) (negsuc 0 ∷ pos 1 ∷ [])
 
--- x ≤ 0 and x ≥ 1 − y and y ≤ 0: no side of x survives
+-- x + y ≥ 2 and x + y ≤ 1: no side of x survives, the one by the first row, the other by the second
 unfoldable pub neither : State
 neither = fresh 2 2 binary2 (negsuc 0 ∷ negsuc 0 ∷ pos 1 ∷ pos 1 ∷ []) (negsuc 1 ∷ pos 1 ∷ [])
 
@@ -35,8 +37,16 @@ unfoldable pub deep : ℤ → ℤ → State
 deep w b =
     fresh 3 1 (pos 0 ∷ pos 1 ∷ negsuc 999 ∷ negsuc 999 ∷ w ∷ w ∷ []) (pos 3 ∷ pos 1_000_000 ∷ pos 1 ∷ []) (b ∷ [])
 
+-- 3 x + 2 y ≤ 4 and x + y ≥ 3, a list's own model
+unfoldable pub listed : State
+listed = fresh 2 2 binary2 (pos 3 ∷ pos 2 ∷ negsuc 0 ∷ negsuc 0 ∷ []) (pos 4 ∷ negsuc 2 ∷ [])
+
 unfoldable pub withLengths : Call → Lengths → Call
 withLengths c l = record { kind = c .kind; row = c .row; variable = c .variable; budget = c .budget; n = c .n; m = c .m; lengths = l }
+
+-- lent no table: its length is 0
+unfoldable pub unlent : Call → Call
+unlent c = withLengths c (record { box = c .lengths .box; coefs = c .lengths .coefs; rhs = c .lengths .rhs; table = 0 })
 
 unfoldable pub withSizes : Call → ℕ → ℕ → Call
 withSizes c n m = record { kind = c .kind; row = c .row; variable = c .variable; budget = c .budget; n = n; m = m; lengths = c .lengths }
@@ -76,6 +86,18 @@ corners =
     ∷ is (perform emptied (withLengths (propagateRowCall emptied 0) (record { box = 4; coefs = 2; rhs = 1; table = 0 })))
     (kept emptied (propagatedRow infeasible))
     ∷ is (perform emptied (withLengths (probeCall emptied 0 1) (record { box = 4; coefs = 2; rhs = 1; table = 15 }))) (kept emptied (refused 5))
+    -- "A field that its kind lacks is ignored", and so is the length of a table that is not lent
+    ∷ (let s = pair (pos 3) (pos 2) (pos 5) in is (perform s (unlent (callOn s 1 0 4_294_967_295 0))) (kept s (propagatedRow unchanged)))
+    ∷ (let s = pair (pos 3) (pos 2) (pos 5) in
+    is (perform s (unlent (callOn s 1 0 2 8_388_482))) (kept s (propagatedRow unchanged)))
+    ∷ (let s = pair (pos 3) (pos 2) (pos 5) in
+    is (perform s (unlent (callOn s 2 4_294_967_295 4_294_967_295 3))) (kept s (propagated converged 1)))
+    ∷ (let s = pair (pos 3) (pos 2) (pos 5) in
+    is (perform s (callOn s 3 4_294_967_295 0 3)) (kept s (probed (bothFeasible 0) (unspent 1) (unspent 1))))
+    ∷ (let s = pair (pos 3) (pos 2) (pos 5) in is (perform s (unlent (callOn s 4 0 0 0))) (kept s (tightened unchanged)))
+    ∷ (let s = pair (pos 3) (pos 2) (pos 5) in is (perform s (unlent (callOn s 4 0 0 8_388_482))) (kept s (tightened unchanged)))
+    ∷ (let s = pair (pos 1) (pos 1) (pos 1) in is (perform s (unlent (callOn s 5 0 4_294_967_295 0))) (kept s (removed unchanged)))
+    ∷ (let s = pair (pos 1) (pos 1) (pos 1) in is (perform s (unlent (callOn s 5 0 2 8_388_482))) (kept s (removed unchanged)))
     -- each call of another box by its own checks, in their order: 12 before 13 before 14 before 15
     ∷ (let s = single (pos 2) (pos 5) (pos 0) (pos 5) in is (perform s (callOn s 4 1 1 0)) (kept s (refused 12)))
     ∷ (let s = single (pos 2) (pos 5) (pos 0) (pos 5) in is (perform s (callOn s 4 0 1 0)) (kept s (refused 13)))
@@ -141,4 +163,25 @@ corners =
     ∷ (let s = single (pos 2) (negsuc 0) (pos 0) (pos 5) in
     is (tally noCounts s (propagateRowCall s 0 ∷ propagateRowCall s 0 ∷ removeCall s 0 ∷ propagateCall s 0 ∷ []))
     (record { refusals = 1; infeasibles = 3; changes = 0; unchanges = 0 }))
+    -- a list of numbers, "kind, ..; row; variable; budget": a visit, two sharpens of row 0, three refused calls, a probe that
+    -- empties the box, and three calls more
+    ∷ is (runList listed
+    (1 ∷ 0 ∷ 999 ∷ 0 ∷ 4 ∷ 0 ∷ 0 ∷ 0 ∷ 4 ∷ 0 ∷ 1 ∷ 0 ∷ 9 ∷ 0 ∷ 0 ∷ 1 ∷ 1 ∷ 2 ∷ 0 ∷ 1 ∷ 2 ∷ 1 ∷ 1 ∷ 0 ∷ 3 ∷ 999 ∷ 1 ∷ 1 ∷ 2 ∷ 0 ∷ 0 ∷ 5 ∷ 1 ∷ 1 ∷ 999 ∷ 0 ∷ 5 ∷ 1 ∷ 999 ∷ 0 ∷ []))
+    (record {
+      answer = ran (record { refusals = 3; infeasibles = 4; changes = 2; unchanges = 1 });
+      state = withBox (withRow listed 0 (record { coefs = pos 1 ∷ pos 1 ∷ []; rhs = pos 1 })) empty2 (listed .table);
+    })
+    -- a probe that records 2 bytes changes the table; a settle with budget 1 after it moves nothing
+    ∷ (let s = pair (pos 1) (pos 1) (pos 1) in
+    is (runList s (3 ∷ 999 ∷ 0 ∷ 1000 ∷ 2 ∷ 0 ∷ 0 ∷ 1 ∷ []))
+    (record {
+      answer = ran (record { refusals = 0; infeasibles = 0; changes = 1; unchanges = 1 });
+      state = withBox s binary2 (0 ∷ 0 ∷ 0 ∷ 0 ∷ 0 ∷ 0 ∷ 1 ∷ 0 ∷ 0 ∷ 0 ∷ 0 ∷ 0 ∷ 1 ∷ 0 ∷ 0 ∷ 0 ∷ []);
+    }))
+    -- the empty list; lists that are refused as a whole, by their own length and by the table, which make no call
+    ∷ is (runList listed []) (record { answer = ran noCounts; state = listed })
+    ∷ is (runList listed (1 ∷ 1 ∷ 0 ∷ 0 ∷ 1 ∷ [])) (record { answer = refusedList 5; state = listed })
+    ∷ is (callsMade listed (1 ∷ 1 ∷ 0 ∷ 0 ∷ 1 ∷ [])) []
+    ∷ (let s = withBox listed binary2 (2 ∷ replicate 15 0) in
+    is (runList s (1 ∷ 1 ∷ 0 ∷ 0 ∷ [])) (record { answer = refusedList 10; state = s }))
     ∷ []

@@ -1,13 +1,13 @@
 -- Demand 3 over call lists: the same claim with the list runner on both sides.
-use Prim.Native.Nat.{_+_, _*_, ℕ}
+use Prim.Native.Nat.{_+_, _*_, _<_, ℕ}
 use lib.IntN.{ℤ}
-use lib.ListN.{length}
+use lib.ListN.{length, replicate}
 use mathlib.Core.List.{List}
 use mathlib.Core.Logic.{_↔_}
 use mathlib.Core.Path.{_≡_}
 use Rattle.model.specs.State.{State}
-use Rattle.semantics.specs.CallList.{ran, recordsOf, runList}
-use Rattle.semantics.specs.Points.{AtRest, PointOf, TableHolds}
+use Rattle.semantics.specs.CallList.{ListRun, callsMade, ran, runList}
+use Rattle.semantics.specs.Points.{AtRest, FractionalPointOf, PointOf, TableHolds}
 use Rattle.semantics.specs.Run.{Counts}
 use Rattle.semantics.specs.TwoRuns.{HandedIn, Narrows}
 
@@ -22,12 +22,12 @@ pub record TwoLists (s : State) (before one two : List ℕ) : Type 0 where
   pub implied2 : (x : List ℤ) → PointOf s x → TableHolds (s .model .n) (runList (runList s before .state) two .state .table) x
 
 -- for every three lists, also ones that are refused as a whole; "after [the parting] an accepted call is a visit, a settle or a
--- probe" (proved as `demand-3-lists`)
+-- probe", of the calls that the lists make (proved as `demand-3-lists`)
 unfoldable pub Demand3Lists : Type 0
 Demand3Lists =
     (s : State) (before one two : List ℕ) → HandedIn s
-    → Narrows (runList s before .state) (recordsOf (runList s before .state) one)
-    → Narrows (runList s before .state) (recordsOf (runList s before .state) two)
+    → Narrows (runList s before .state) (callsMade (runList s before .state) one)
+    → Narrows (runList s before .state) (callsMade (runList s before .state) two)
     → TwoLists s before one two
 
 -- "four counts whose sum is the list's length" (proved as `counts-add-up`)
@@ -35,3 +35,14 @@ unfoldable pub CountsAddUp : Type 0
 CountsAddUp =
     (s : State) (xs : List ℕ) (k : Counts) → runList s xs .answer ≡ ran k
     → 4 * (k .refusals + k .infeasibles + k .changes + k .unchanges) ≡ length xs
+
+-- Demand 2 of a whole list, refused or run: r is what it answers and leaves of s.
+pub record ListMeans (s : State) (r : ListRun) : Type 0 where
+  -- "the integer points are exactly those before it, and no fractional point is added"
+  pub points : (x : List ℤ) → PointOf (r .state) x ↔ PointOf s x
+  pub fractional : (x : List ℤ) (d : ℕ) → FractionalPointOf (r .state) x d → FractionalPointOf s x d
+  -- "None" means that no integer point exists: a call that answers None is counted
+  pub noPoint : (k : Counts) → r .answer ≡ ran k → 0 < k .infeasibles → (x : List ℤ) → PointOf s x → ⊥
+  -- each recorded implication holds at all of them, where those recorded before do; all do where the table was all 0
+  pub holds : (x : List ℤ) → PointOf s x → TableHolds (s .model .n) (s .table) x → TableHolds (s .model .n) (r .state .table) x
+  pub implied : s .table ≡ replicate (4 * (s .model .n * s .model .n)) 0 → (x : List ℤ) → PointOf s x → TableHolds (s .model .n) (r .state .table) x

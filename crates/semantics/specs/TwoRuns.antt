@@ -8,7 +8,8 @@ use mathlib.Core.Bool.{Bool, false, true}
 use mathlib.Core.List.{List, [], _∷_}
 use mathlib.Core.Logic.{_↔_}
 use mathlib.Core.Path.{_≡_}
-use Rattle.model.specs.Checks.{modelFault, table}
+use Rattle.model.specs.Checks.{modelFault, none, table}
+use Rattle.model.specs.Model.{Model}
 use Rattle.model.specs.State.{State}
 use Rattle.semantics.specs.Call.{Call, Kind, kindOf, probing, propagation, removal, rowPropagation, tightening, unknown}
 use Rattle.semantics.specs.CallChecks.{callFault}
@@ -18,7 +19,13 @@ use Rattle.semantics.specs.Run.{run, step}
 -- "the model handed in, before the first list, is any that passes the checks, its box void or not, with a table all 0"
 pub record HandedIn (s : State) : Type 0 where
   pub accepted : modelFault (s .model) (table (s .table)) true ≡ 0
+  -- of its box nothing more is asked
   pub zeros : s .table ≡ replicate (4 * (s .model .n * s .model .n)) 0
+
+-- every model that passes the checks is handed in with a table all 0, its box empty or not (proved as `handed-in`)
+unfoldable pub EveryModelHandedIn : Type 0
+EveryModelHandedIn =
+    (M : Model) → modelFault M none true ≡ 0 → HandedIn (record { model = M; table = replicate (4 * (M .n * M .n)) 0 })
 
 -- a visit, a settle or a probe
 unfoldable pub narrows : Kind → Bool
