@@ -17,6 +17,7 @@ use Rattle.model.specs.Rows.{Row, Rows, rowAt, rowOf, setRow}
 use Rattle.model.specs.State.{State, withBox, withRow}
 use Rattle.model.specs.Valid.{ValidModel, ValidTable}
 use Rattle.model.proofs.BoxLaws.{free-lower, free-upper, sameList-refl, sameList→eq}
+use Rattle.model.proofs.RowsLaws.{length-rowOf, setRow-row, setRow-same}
 use Rattle.row.specs.Outcome.{isChanged, isInfeasible}
 use Rattle.row.specs.Propagation.{propagateRow, propagateRowOf}
 use Rattle.row.specs.Redundancy.{removeRedundantRow, removeRowOf}
@@ -39,7 +40,6 @@ use Rattle.semantics.proofs.Convergence.{pass-passed}
 use Rattle.semantics.proofs.ImplicationLaws.{recordTo-added, recordTo-same}
 use Rattle.semantics.proofs.ProbeLaws.{at-fix, probe-ind}
 use Rattle.semantics.proofs.PropagateLaws.{propagate-ind, propagate-shrinks, propagateFrom-ind, propagateFrom-shrinks}
-use Rattle.semantics.proofs.RowChange.{length-rowOf, setRow-row, setRow-same}
 
 -- ---- the same state
 

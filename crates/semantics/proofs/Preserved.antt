@@ -13,6 +13,7 @@ use Rattle.model.specs.Rows.{Row, rowAt}
 use Rattle.model.specs.State.{State, withBox, withRow}
 use Rattle.model.specs.Valid.{ValidBox, ValidModel, ValidState}
 use Rattle.model.proofs.BoxLaws.{inside-trans, not-in-empty, ≤ℤ-trans}
+use Rattle.model.proofs.RowsLaws.{length-rowOf}
 use Rattle.row.specs.ValidRow.{ValidRow}
 use Rattle.row.proofs.ImpliedBoxLaws.{valid-empty, valid-inside}
 use Rattle.row.proofs.PointBox.{Inside→in, in→Inside, nonEmpty-at}
@@ -27,7 +28,7 @@ use Rattle.semantics.specs.Run.{run, step}
 use Rattle.semantics.specs.TwoRuns.{narrows}
 use Rattle.semantics.proofs.Accepted.{Accepted, accepted}
 use Rattle.semantics.proofs.CallLaws.{Narrowed, NarrowedTo, act-narrowed, point-probed, step-ind}
-use Rattle.semantics.proofs.RowChange.{length-rowOf, row-valid, withRow-fractional, withRow-points, withRow-valid}
+use Rattle.semantics.proofs.RowChange.{row-valid, withRow-fractional, withRow-points, withRow-valid}
 
 pub record Preserves (s r : State) : Type 0 where
   pub sizes : (r .model .n ≡ s .model .n) × (r .model .m ≡ s .model .m)
