@@ -7,7 +7,7 @@ use mathlib.Core.Logic.{_↔_, _≢_, ⊎-elim}
 use mathlib.Core.Path.{_≡_, ap, refl, subst, sym}
 use Rattle.integer.proofs.Tests.{decide}
 use Rattle.model.specs.Box.{at, emptyBox, isEmpty}
-use Rattle.model.specs.Model.{modelOf}
+use Rattle.model.specs.Model.{Model}
 use Rattle.model.specs.Point.{IntegerPoint}
 use Rattle.model.specs.Rows.{rowAt}
 use Rattle.model.specs.State.{State, withBox, withRow}
@@ -44,8 +44,8 @@ act-none removal s c a =
     rw (remove-redundant-row-infeasible (s .model .n) (rowAt (s .model .n) (s .model .rows) (c .row) .coefs) (rowAt (s .model .n) (s .model .rows) (c .row) .rhs) (s .model .box)) (isEmpty-test (s .model .n) (s .model .box))
 act-none unknown s c a = absurd (a .kind)
 
-no-point : {n m : ℕ} {B C R x : List ℤ} → 0 < n → B ≡ emptyBox n → IntegerPoint (modelOf n m B C R) x → ⊥
-no-point {n} {x = x} h e p = not-in-empty n (boxAt n x) h (nonEmpty-at n x) (rw e at (in→Inside (p .inside)))
+pub no-point : {M : Model} {x : List ℤ} → 0 < M .n → M .box ≡ emptyBox (M .n) → IntegerPoint M x → ⊥
+no-point {M} {x} h e p = not-in-empty (M .n) (boxAt (M .n) x) h (nonEmpty-at (M .n) x) (rw e at (in→Inside (p .inside)))
 
 -- ---- the numbers of an answer; t is the table afterwards
 
