@@ -4,33 +4,36 @@ use Prim.Native.Nat.{_*_, _<_, _≤_, ℕ}
 use lib.Dec.{T, eqb}
 use lib.IntN.{ℤ}
 use lib.ListN.{length}
-use mathlib.Core.Bool.{_&&_, _||_}
+use mathlib.Core.Bool.{Bool, _&&_, _||_}
 use mathlib.Core.List.{List, [], _++_, _∷_}
 use mathlib.Core.Logic.{_↔_}
-use mathlib.Core.Path.{_≡_, refl}
+use mathlib.Core.Path.{_∙_, _≡_, ap, refl, sym}
+use native.Mathlib.Decide.{ℕ-discrete}
 use native.Mathlib.Omega.{arith}
-use Rattle.integer.proofs.Tests.{all-three, eqb-test, leb-test, test-false, test-true}
 use Rattle.integer.specs.Index.{all}
+use Rattle.integer.proofs.Tests.{all-three, eqb-test, leb-test, test-false, test-true}
 use Rattle.model.specs.Box.{isEmpty}
-use Rattle.model.specs.Checks.{Check, first, inRange, lengthChecks, modelChecks, modelFault, must, numberChecks, ordered, sizeChecks, tableByteChecks, tableLengthChecks}
+use Rattle.model.specs.Checks.{Check, first, inRange, lengthChecks, modelChecks, modelFault, must, none, numberChecks, ordered, sizeChecks, tableByteChecks, tableLengthChecks}
 use Rattle.model.specs.Limits.{maxBound, maxRows, maxVariables, minBound}
+use Rattle.model.specs.Model.{Model, modelOf}
+use Rattle.model.specs.Rows.{rowsOf}
 use Rattle.model.specs.Valid.{ValidModel}
-use Rattle.model.proofs.CheckLaws.{ends, fails, fault-none, first-none, first-zero-append, goes, length-test, numbered, past, size-test}
+use Rattle.model.proofs.CheckLaws.{ends, fails, fault-none, first-none, first-stop, first-zero-append, fits-fault-none, goes, length-test, numbered, past, size-test}
 use Rattle.book.specs.Answers.{readFault, writeFault}
-use Rattle.book.specs.Book.{HoldsModel, Model, bookLength, boundsOf, boundsOffset, coefsOf, decode, lengthGiven, modelOf, rhsOf, rows, rowsOffset, trailerOf, variables}
+use Rattle.book.specs.Book.{HoldsModel, bookLength, boundsOffset, decode, lengthGiven, modelIn, rows, rowsOffset, trailerOf, variables}
 use Rattle.book.specs.BookChecks.{bookChecks, bookFault, givenLengthChecks, headChecks, layoutChecks, modelNumberChecks, offsetChecks, readChecks, writeChecks}
-use Rattle.book.specs.RoundTrips.{Valid}
 use Rattle.book.proofs.DecodeLaws.{length-boundsOf, length-coefsOf, length-rhsOf}
 
 -- the three lists of checks that a model in memory takes
-pub valid-checks : (n m : ℕ) (B C R : List ℤ)
-    → ValidModel n m B C R ↔ ((first (sizeChecks n m) ≡ 0) × (first (lengthChecks n m B C R) ≡ 0) × (first (numberChecks n B C R) ≡ 0))
+pub valid-checks : (M : Model)
+    → ValidModel M ↔ ((first (sizeChecks (M .n) (M .m)) ≡ 0) × (first (lengthChecks M) ≡ 0) × (first (modelNumberChecks M) ≡ 0))
 unfolding modelFault modelChecks sizeChecks lengthChecks tableLengthChecks numberChecks tableByteChecks first
-valid-checks n m B C R =
-    let f = fault-none n m B C R in
-    let numbers = first-zero-append (numberChecks n B C R) [] tt in
-    let lengths = first-zero-append (lengthChecks n m B C R) (numberChecks n B C R ++ []) tt in
-    let sizes = first-zero-append (sizeChecks n m) (lengthChecks n m B C R ++ (numberChecks n B C R ++ [])) tt in (
+valid-checks M =
+    let f = fault-none M in
+    let N = modelNumberChecks M in
+    let numbers = first-zero-append N [] tt in
+    let lengths = first-zero-append (lengthChecks M) (N ++ []) tt in
+    let sizes = first-zero-append (sizeChecks (M .n) (M .m)) (lengthChecks M ++ (N ++ [])) tt in (
       (λ v. let s = sizes .0 (f .1 v) in
           let l = lengths .0 (s .1) in
           (s .0, l .0, numbers .0 (l .1) .0)),
@@ -106,29 +109,26 @@ head-numbered bs = tt
 
 -- the sizes and lengths of the model of a book with a layout are right
 pub decoded-sizes : (bs : List ℕ) → Layout (trailerOf bs) → first (sizeChecks (decode bs .n) (decode bs .m)) ≡ 0
-unfolding sizeChecks decode modelOf
+unfolding sizeChecks decode modelIn
 decoded-sizes bs l =
     let t = trailerOf bs in
     first-none (sizeChecks (variables t) (rows t)) tt .1 (size-test (variables t) (rows t) .1 (l .some, l .few, l .fewRows), tt)
 
-pub decoded-lengths : (bs : List ℕ) → first (lengthChecks (decode bs .n) (decode bs .m) (decode bs .bounds) (decode bs .coefs) (decode bs .rhs)) ≡ 0
-unfolding lengthChecks decode modelOf
+pub decoded-lengths : (bs : List ℕ) → first (lengthChecks (decode bs)) ≡ 0
+unfolding lengthChecks decode modelIn
 decoded-lengths bs =
     let t = trailerOf bs in
     let n = variables t in
     let m = rows t in
-    let B = boundsOf n bs in
-    let C = coefsOf n m bs in
-    let R = rhsOf n m bs in
-    first-none (lengthChecks n m B C R) tt .1 (length-test n m B C R .1 (length-boundsOf n m bs, length-coefsOf n m bs, length-rhsOf n m bs), tt)
+    first-none (lengthChecks (decode bs)) tt .1 (length-test (decode bs) .1 (length-boundsOf n m bs, length-coefsOf n m bs, length-rhsOf n m bs), tt)
 
 -- a book is accepted exactly if it has a head and its model is valid
-pub book-test : (bs : List ℕ) → (bookFault bs ≡ 0) ↔ (Head bs × Valid (decode bs))
+pub book-test : (bs : List ℕ) → (bookFault bs ≡ 0) ↔ (Head bs × ValidModel (decode bs))
 unfolding bookFault bookChecks
 book-test bs =
     let M = decode bs in
     let d = first-zero-append (headChecks bs) (modelNumberChecks M) (head-numbered bs) in
-    let v = valid-checks (M .n) (M .m) (M .bounds) (M .coefs) (M .rhs) in (
+    let v = valid-checks M in (
       (λ e. let h = d .0 e in
           let k = head-test bs .0 (h .0) in
           (k, v .1 (decoded-sizes bs (k .layout), decoded-lengths bs, h .1))),
@@ -147,7 +147,7 @@ abbrev pub boxChecks : ℕ → List ℤ → List Check
 boxChecks n B = must (inRange minBound maxBound B) 6 ∷ must (isEmpty n B || ordered B) 7 ∷ []
 
 -- a model without rows has no other number that could fail a check
-pub box-checks : (n : ℕ) (B : List ℤ) → first (numberChecks n B [] []) ≡ first (boxChecks n B)
+pub box-checks : (n : ℕ) (B : List ℤ) → first (numberChecks n B (rowsOf [] [])) ≡ first (boxChecks n B)
 unfolding numberChecks first inRange all
 box-checks n B = refl
 
@@ -159,25 +159,32 @@ pub read-passed : (bs : List ℕ) (B C R : List ℤ) → readFault bs B C R ≡ 
 unfolding readFault readChecks bookFault bookChecks lengthChecks
 read-passed bs B C R e =
     let M = decode bs in
-    let L = lengthChecks (M .n) (M .m) B C R in
+    let lent = modelOf (M .n) (M .m) B C R in
+    let L = lengthChecks lent in
     let h = first-zero-append (headChecks bs) (L ++ modelNumberChecks M) (head-numbered bs) .0 e in
     let k = first-zero-append L (modelNumberChecks M) tt .0 (h .1) in (
       head-test bs .0 (h .0),
-      length-test (M .n) (M .m) B C R .0 (first-none L tt .0 (k .0) .0),
+      length-test lent .0 (first-none L tt .0 (k .0) .0),
       first-zero-append (headChecks bs) (modelNumberChecks M) (head-numbered bs) .1 (h .0, k .1),
     )
 
 -- a model that is written is valid, and the buffer has its book's length
-pub write-passed : (M : Model) (bs : List ℕ) → writeFault M bs ≡ 0 → Valid M × (length bs ≡ bookLength (M .n) (M .m))
-unfolding writeFault writeChecks sizeChecks lengthChecks
+pub write-passed : (M : Model) (bs : List ℕ) → writeFault M bs ≡ 0 → ValidModel M × (length bs ≡ bookLength (M .n) (M .m))
+unfolding writeFault writeChecks modelFault
 write-passed M bs e =
-    let n = M .n in
-    let m = M .m in
-    let L = lengthChecks n m (M .bounds) (M .coefs) (M .rhs) in
-    let k = must (eqb (length bs) (bookLength n m)) 5 ∷ [] in
-    let s = first-zero-append (sizeChecks n m) (L ++ (k ++ modelNumberChecks M)) tt .0 e in
-    let l = first-zero-append L (k ++ modelNumberChecks M) tt .0 (s .1) in
-    let q = first-zero-append k (modelNumberChecks M) tt .0 (l .1) in (
-      valid-checks n m (M .bounds) (M .coefs) (M .rhs) .1 (s .0, l .0, q .1),
-      eqb-test (length bs) (bookLength n m) .0 (first-none k tt .0 (q .0) .0),
-    )
+    let k = bookLength (M .n) (M .m) in
+    let h = fits-fault-none M (eqb (length bs) k) .0 e in
+    (h .0, eqb-test (length bs) k .0 (h .1))
+
+-- the model's chain answers for the call: beyond the limits of n and m the answer is 3, whatever is said of the book's length
+pub write-answers : (M : Model) (bs : List ℕ) (fits : Bool)
+    → (first (sizeChecks (M .n) (M .m)) ≡ 0 → fits ≡ eqb (length bs) (bookLength (M .n) (M .m))) → modelFault M none fits ≡ writeFault M bs
+unfolding writeFault writeChecks modelFault modelChecks
+write-answers M bs fits h = cases (ℕ-discrete (first sizes) 0)
+  where
+    sizes : List Check
+    sizes = sizeChecks (M .n) (M .m)
+
+    cases : Dec (first sizes ≡ 0) → modelFault M none fits ≡ writeFault M bs
+    cases (yes e) = ap (λ f. modelFault M none f) (h e)
+    cases (no n) = first-stop sizes _ n ∙ sym (first-stop sizes _ n)

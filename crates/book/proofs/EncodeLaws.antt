@@ -1,6 +1,5 @@
 -- Laws of a book's bytes: how long each piece is, and which number stands at each place.
 use Prim.Native.Nat.{_*_, _+_, _-_, _<_, _≤_, ℕ}
-use lib.IntN.{ℤ}
 use lib.ListN.{drop, length, length-append, length-drop}
 use lib.Seq.{drop-append-seam, take-all}
 use mathlib.Core.List.{List, _++_}
@@ -8,7 +7,10 @@ use mathlib.Core.Path.{_∙_, _≡_, ap, refl, sym}
 use native.Mathlib.Nat.{mul-le-mul}
 use native.Mathlib.Omega.{arith}
 use Rattle.model.specs.Box.{at}
-use Rattle.book.specs.Book.{Model, bookLength, boundBytes, boundsOffset, encode, lengthGiven, rowBytes, rowPlace, rows, rowsOffset, trailerBytes, trailerOf, variables}
+use Rattle.model.specs.Model.{Model}
+use Rattle.model.specs.Rows.{Row, rowAt}
+use Rattle.model.proofs.RowsLaws.{at-rowOf}
+use Rattle.book.specs.Book.{bookLength, boundBytes, boundsOffset, encode, lengthGiven, rowBytes, rowBytesAt, rowPlace, rows, rowsOffset, trailerBytes, trailerOf, variables}
 use Rattle.book.specs.Bytes.{bytesOf, integerBytes, numberAt}
 use Rattle.book.specs.Pieces.{joined, overwrite, part}
 use Rattle.book.proofs.ByteLaws.{length-integerBytes, number-bytes}
@@ -82,36 +84,36 @@ trailer-part bs = take-all (length bs - (length bs - 16)) (drop (length bs - 16)
 -- ---- the whole
 
 -- a row: its right side and n coefficients
-pub length-rowBytes : (n : ℕ) (C R : List ℤ) (i : ℕ) → length (rowBytes n C R i) ≡ 4 + 4 * n
+pub length-rowBytes : (n : ℕ) (r : Row) → length (rowBytes n r) ≡ 4 + 4 * n
 unfolding rowBytes
-length-rowBytes n C R i =
-    let coefs = length-joined n 4 (λ j. integerBytes (at C (i * n + j))) (λ j k. length-integerBytes (at C (i * n + j))) in
-    omega (arith, length-append (integerBytes (at R i)) (joined n (λ j. integerBytes (at C (i * n + j)))), length-integerBytes (at R i), coefs)
+length-rowBytes n r =
+    let coefs = length-joined n 4 (λ j. integerBytes (at (r .coefs) j)) (λ j k. length-integerBytes (at (r .coefs) j)) in
+    omega (arith, length-append (integerBytes (r .rhs)) (joined n (λ j. integerBytes (at (r .coefs) j))), length-integerBytes (r .rhs), coefs)
 
 module _ (M : Model) where
   pub length-boundBytes : length (boundBytes M) ≡ 8 * M .n
   unfolding boundBytes
   length-boundBytes =
-      length-joined (2 * M .n) 4 _ (λ i k. length-integerBytes (at (M .bounds) i)) ∙ (let z : 2 * M .n * 4 ≡ 8 * M .n = omega arith in z)
+      length-joined (2 * M .n) 4 _ (λ i k. length-integerBytes (at (M .box) i)) ∙ (let z : 2 * M .n * 4 ≡ 8 * M .n = omega arith in z)
 
-  length-allRows : length (joined (M .m) (rowBytes (M .n) (M .coefs) (M .rhs))) ≡ M .m * (4 + 4 * M .n)
-  length-allRows = length-joined (M .m) (4 + 4 * M .n) (rowBytes (M .n) (M .coefs) (M .rhs)) (λ i k. length-rowBytes (M .n) (M .coefs) (M .rhs) i)
+  length-allRows : length (joined (M .m) (rowBytesAt (M .n) (M .rows))) ≡ M .m * (4 + 4 * M .n)
+  length-allRows = length-joined (M .m) (4 + 4 * M .n) (rowBytesAt (M .n) (M .rows)) (λ i k. length-rowBytes (M .n) (rowAt (M .n) (M .rows) i))
 
-  length-body : length (boundBytes M ++ joined (M .m) (rowBytes (M .n) (M .coefs) (M .rhs))) ≡ 8 * M .n + M .m * (4 + 4 * M .n)
-  length-body = omega (arith, length-append (boundBytes M) (joined (M .m) (rowBytes (M .n) (M .coefs) (M .rhs))), length-boundBytes, length-allRows)
+  length-body : length (boundBytes M ++ joined (M .m) (rowBytesAt (M .n) (M .rows))) ≡ 8 * M .n + M .m * (4 + 4 * M .n)
+  length-body = omega (arith, length-append (boundBytes M) (joined (M .m) (rowBytesAt (M .n) (M .rows))), length-boundBytes, length-allRows)
 
   pub length-encode : length (encode M) ≡ bookLength (M .n) (M .m)
   unfolding encode bookLength
   length-encode =
-      omega (arith, length-append (boundBytes M ++ joined (M .m) (rowBytes (M .n) (M .coefs) (M .rhs))) (trailerBytes (M .n) (M .m)), length-body, length-trailerBytes (M .n) (M .m))
+      omega (arith, length-append (boundBytes M ++ joined (M .m) (rowBytesAt (M .n) (M .rows))) (trailerBytes (M .n) (M .m)), length-body, length-trailerBytes (M .n) (M .m))
 
   -- the bounds, the rows and the trailer written one after the other
   pub book-assembled : (bs : List ℕ) (q : ℕ) → length bs ≡ bookLength (M .n) (M .m) → q ≡ length bs - 16
-      → overwrite q (trailerBytes (M .n) (M .m)) (overwrite (8 * M .n) (joined (M .m) (rowBytes (M .n) (M .coefs) (M .rhs))) (overwrite 0 (boundBytes M) bs)) ≡ encode M
+      → overwrite q (trailerBytes (M .n) (M .m)) (overwrite (8 * M .n) (joined (M .m) (rowBytesAt (M .n) (M .rows))) (overwrite 0 (boundBytes M) bs)) ≡ encode M
   unfolding encode bookLength
   book-assembled bs q l e =
       let t = trailerBytes (M .n) (M .m) in
-      let R = joined (M .m) (rowBytes (M .n) (M .coefs) (M .rhs)) in
+      let R = joined (M .m) (rowBytesAt (M .n) (M .rows)) in
       let k = length-trailerBytes (M .n) (M .m) in
       ap (overwrite q t) (overwrite-next 0 (8 * M .n) (boundBytes M) R bs (omega (arith, length-boundBytes)) (omega (arith, length-allRows)))
       ∙ overwrite-next 0 q (boundBytes M ++ R) t bs (omega (arith, length-body)) (omega (arith, k))
@@ -120,44 +122,46 @@ module _ (M : Model) where
   pub trailer-encode : trailerOf (encode M) ≡ trailerBytes (M .n) (M .m)
   unfolding trailerOf encode
   trailer-encode =
-      let body = boundBytes M ++ joined (M .m) (rowBytes (M .n) (M .coefs) (M .rhs)) in
+      let body = boundBytes M ++ joined (M .m) (rowBytesAt (M .n) (M .rows)) in
       let e : length (encode M) - 16 ≡ length body = omega (arith, length-append body (trailerBytes (M .n) (M .m)), length-trailerBytes (M .n) (M .m)) in
       ap (λ (k : ℕ). drop k (encode M)) e ∙ drop-append-seam body (trailerBytes (M .n) (M .m))
 
-  pub bound-encode : (i : ℕ) → i < 2 * M .n → part (0 + i * 4) 4 (encode M) ≡ integerBytes (at (M .bounds) i)
+  pub bound-encode : (i : ℕ) → i < 2 * M .n → part (0 + i * 4) 4 (encode M) ≡ integerBytes (at (M .box) i)
   unfolding encode boundBytes
   bound-encode i h =
       let z : 0 + i * 4 ≡ i * 4 = omega arith in
-      rw z (part-left (i * 4) 4 (boundBytes M ++ joined (M .m) (rowBytes (M .n) (M .coefs) (M .rhs))) _ (omega (arith, length-body))
+      rw z (part-left (i * 4) 4 (boundBytes M ++ joined (M .m) (rowBytesAt (M .n) (M .rows))) _ (omega (arith, length-body))
       ∙ part-left (i * 4) 4 (boundBytes M) _ (omega (arith, length-boundBytes))
-      ∙ part-joined (2 * M .n) 4 _ (λ r k. length-integerBytes (at (M .bounds) r)) i h)
+      ∙ part-joined (2 * M .n) 4 _ (λ r k. length-integerBytes (at (M .box) r)) i h)
 
-  pub row-encode : (i : ℕ) → i < M .m → part (rowPlace (M .n) i) (4 + 4 * M .n) (encode M) ≡ rowBytes (M .n) (M .coefs) (M .rhs) i
+  pub row-encode : (i : ℕ) → i < M .m → part (rowPlace (M .n) i) (4 + 4 * M .n) (encode M) ≡ rowBytesAt (M .n) (M .rows) i
   unfolding encode rowPlace
   row-encode i h =
       let w = 4 + 4 * M .n in
       let k = piece-within (M .m) w i h in
-      part-left (rowPlace (M .n) i) w (boundBytes M ++ joined (M .m) (rowBytes (M .n) (M .coefs) (M .rhs))) _ (omega (arith, length-body))
+      part-left (rowPlace (M .n) i) w (boundBytes M ++ joined (M .m) (rowBytesAt (M .n) (M .rows))) _ (omega (arith, length-body))
       ∙ part-right (i * w) w (rowPlace (M .n) i) (boundBytes M) _ (omega (arith, length-boundBytes))
-      ∙ part-joined (M .m) w (rowBytes (M .n) (M .coefs) (M .rhs)) (λ r q. length-rowBytes (M .n) (M .coefs) (M .rhs) r) i h
+      ∙ part-joined (M .m) w (rowBytesAt (M .n) (M .rows)) (λ r q. length-rowBytes (M .n) (rowAt (M .n) (M .rows) r)) i h
 
   row-inside : (i : ℕ) → i < M .m → rowPlace (M .n) i + (4 + 4 * M .n) ≤ length (encode M)
   unfolding rowPlace bookLength
   row-inside i h = omega (arith, length-encode, row-within (M .n) (M .m) i h)
 
-  pub rhs-encode : (i : ℕ) → i < M .m → part (rowPlace (M .n) i) 4 (encode M) ≡ integerBytes (at (M .rhs) i)
+  pub rhs-encode : (i : ℕ) → i < M .m → part (rowPlace (M .n) i) 4 (encode M) ≡ integerBytes (at (M .rows .rhs) i)
   unfolding rowBytes
   rhs-encode i h =
       sym (part-part (rowPlace (M .n) i) (4 + 4 * M .n) 0 4 (rowPlace (M .n) i) (encode M) (row-inside i h) (omega arith) (omega arith))
       ∙ ap (part 0 4) (row-encode i h)
-      ∙ part-left 0 4 (integerBytes (at (M .rhs) i)) _ (omega (arith, length-integerBytes (at (M .rhs) i)))
-      ∙ part-whole _ 4 (length-integerBytes (at (M .rhs) i))
+      ∙ part-left 0 4 (integerBytes (at (M .rows .rhs) i)) _ (omega (arith, length-integerBytes (at (M .rows .rhs) i)))
+      ∙ part-whole _ 4 (length-integerBytes (at (M .rows .rhs) i))
 
-  pub coef-encode : (i j : ℕ) → i < M .m → j < M .n → part (rowPlace (M .n) i + 4 + j * 4) 4 (encode M) ≡ integerBytes (at (M .coefs) (i * M .n + j))
+  pub coef-encode : (i j : ℕ) → i < M .m → j < M .n → part (rowPlace (M .n) i + 4 + j * 4) 4 (encode M) ≡ integerBytes (at (M .rows .coefs) (i * M .n + j))
   unfolding rowBytes
   coef-encode i j h k =
-      let f : ℕ → List ℕ = λ r. integerBytes (at (M .coefs) (i * M .n + r)) in
+      let r = rowAt (M .n) (M .rows) i in
+      let f : ℕ → List ℕ = λ q. integerBytes (at (r .coefs) q) in
       sym (part-part (rowPlace (M .n) i) (4 + 4 * M .n) (4 + j * 4) 4 (rowPlace (M .n) i + 4 + j * 4) (encode M) (row-inside i h) (omega arith) (omega arith))
       ∙ ap (part (4 + j * 4) 4) (row-encode i h)
-      ∙ part-right (j * 4) 4 (4 + j * 4) (integerBytes (at (M .rhs) i)) (joined (M .n) f) (omega (arith, length-integerBytes (at (M .rhs) i)))
-      ∙ part-joined (M .n) 4 f (λ r q. length-integerBytes (at (M .coefs) (i * M .n + r))) j k
+      ∙ part-right (j * 4) 4 (4 + j * 4) (integerBytes (r .rhs)) (joined (M .n) f) (omega (arith, length-integerBytes (r .rhs)))
+      ∙ part-joined (M .n) 4 f (λ q _. length-integerBytes (at (r .coefs) q)) j k
+      ∙ ap integerBytes (at-rowOf (M .n) (M .rows .coefs) i j k)

@@ -13,13 +13,16 @@ use native.Mathlib.Omega.{arith}
 use Rattle.integer.proofs.Parts.{fit-in⁺, fit-in⁻, fits, zarith}
 use Rattle.integer.proofs.Tests.{cond-ind}
 use Rattle.model.specs.Box.{at}
-use Rattle.model.specs.Valid.{Between}
+use Rattle.model.specs.Model.{Model, modelOf}
+use Rattle.model.specs.Rows.{rowAt, rowsOf}
+use Rattle.model.specs.Valid.{Between, ValidModel}
+use Rattle.model.proofs.RowsLaws.{at-rowOf}
 use Rattle.book.specs.Answers.{Answer, bookWritten, boundsRead, coefsRead, readCall, readFault, refused, rhsRead, sizesAre, unless, writeCall, writeFault, written}
-use Rattle.book.specs.Book.{Model, bookLength, boundBytes, boundsOf, coefsOf, decode, encode, model, modelOf, rhsOf, rowBytes, rowPlace, rows, trailerBytes, trailerOf, variables}
+use Rattle.book.specs.Book.{bookLength, boundBytes, boundsOf, coefsOf, decode, encode, modelIn, rhsOf, rowBytes, rowBytesAt, rowPlace, rows, trailerBytes, trailerOf, variables}
 use Rattle.book.specs.BookChecks.{bookFault}
 use Rattle.book.specs.Bytes.{Bytes, bitsOf, bytesOf, integerBytes, integersAt}
 use Rattle.book.specs.Pieces.{joined, part}
-use Rattle.book.specs.RoundTrips.{OneBook, OneModel, ReadsWritten, Valid, WritesRead}
+use Rattle.book.specs.RoundTrips.{OneBook, OneModel, ReadsWritten, WritesRead}
 use Rattle.book.proofs.AcceptLaws.{Head, Layout, book-test, read-passed, write-passed}
 use Rattle.book.proofs.AnswerLaws.{becomes}
 use Rattle.book.proofs.ByteLaws.{bytes-numberAt, integer-read, integer-written}
@@ -56,8 +59,8 @@ bytes-encode M =
     let integers : (z : ℤ) → Bytes (bytesOf 4 (bitsOf z)) = λ z. bytes-bytesOf 4 (bitsOf z) in
     bytes-append _ _
     (bytes-append _ _
-    (bytes-joined (2 * M .n) _ (λ i. integers (at (M .bounds) i)))
-    (bytes-joined (M .m) _ (λ i. bytes-append _ _ (integers (at (M .rhs) i)) (bytes-joined (M .n) _ (λ j. integers (at (M .coefs) (i * M .n + j)))))))
+    (bytes-joined (2 * M .n) _ (λ i. integers (at (M .box) i)))
+    (bytes-joined (M .m) _ (λ i. bytes-append _ _ (integers (at (M .rows .rhs) i)) (bytes-joined (M .n) _ (λ j. integers (at (rowAt (M .n) (M .rows) i .coefs) j))))))
     (bytes-append _ _
     (bytes-append _ _ (bytes-append _ _ (bytes-append _ _ (bytes-bytesOf 4 0) (bytes-bytesOf 4 (8 * M .n))) (bytes-bytesOf 2 (M .n))) (bytes-bytesOf 2 (M .m)))
     (bytes-bytesOf 4 (bookLength (M .n) (M .m))))
@@ -68,25 +71,25 @@ bytes-encode M =
 between-fits : (low high z : ℤ) → SFits w32 low → SFits w32 high → Between low high z → SFits w32 z
 between-fits low high z l h b = fits w32 z (omega (zarith, b .above, b .below, fit-in⁻ l, fit-in⁺ h))
 
-module _ (M : Model) (v : Valid M) where
-  bounds-back : boundsOf (M .n) (encode M) ≡ M .bounds
+module _ (M : Model) (v : ValidModel M) where
+  bounds-back : boundsOf (M .n) (encode M) ≡ M .box
   unfolding boundsOf integersAt
   bounds-back =
-      joined-cong (2 * M .n) _ _ (λ i h. ap (λ (z : ℤ). z ∷ []) (integer-written (0 + i * 4) (encode M) (at (M .bounds) i) (between-fits _ _ _ (fits w32 _ (omega arith)) (fits w32 _ (omega arith)) (v .box .range i)) (bound-encode M i h)))
-      ∙ listOf-all (M .bounds) (2 * M .n) (pos 0) (v .box .len)
+      joined-cong (2 * M .n) _ _ (λ i h. ap (λ (z : ℤ). z ∷ []) (integer-written (0 + i * 4) (encode M) (at (M .box) i) (between-fits _ _ _ (fits w32 _ (omega arith)) (fits w32 _ (omega arith)) (v .box .range i)) (bound-encode M i h)))
+      ∙ listOf-all (M .box) (2 * M .n) (pos 0) (v .box .len)
 
-  rhs-back : rhsOf (M .n) (M .m) (encode M) ≡ M .rhs
+  rhs-back : rhsOf (M .n) (M .m) (encode M) ≡ M .rows .rhs
   unfolding rhsOf
   rhs-back =
-      joined-cong (M .m) _ _ (λ i h. ap (λ (z : ℤ). z ∷ []) (integer-written (rowPlace (M .n) i) (encode M) (at (M .rhs) i) (between-fits _ _ _ (fits w32 _ (omega arith)) (fits w32 _ (omega arith)) (v .rhs i)) (rhs-encode M i h)))
-      ∙ listOf-all (M .rhs) (M .m) (pos 0) (v .rhsLen)
+      joined-cong (M .m) _ _ (λ i h. ap (λ (z : ℤ). z ∷ []) (integer-written (rowPlace (M .n) i) (encode M) (at (M .rows .rhs) i) (between-fits _ _ _ (fits w32 _ (omega arith)) (fits w32 _ (omega arith)) (v .rhs i)) (rhs-encode M i h)))
+      ∙ listOf-all (M .rows .rhs) (M .m) (pos 0) (v .rhsLen)
 
-  coefs-back : coefsOf (M .n) (M .m) (encode M) ≡ M .coefs
+  coefs-back : coefsOf (M .n) (M .m) (encode M) ≡ M .rows .coefs
   unfolding coefsOf integersAt
   coefs-back =
       joined-cong (M .m) _ _ (λ i h. joined-cong (M .n) _ _ (λ j k. ap (λ (z : ℤ). z ∷ [])
-      (integer-written (rowPlace (M .n) i + 4 + j * 4) (encode M) (at (M .coefs) (i * M .n + j)) (between-fits _ _ _ (fits w32 _ (omega arith)) (fits w32 _ (omega arith)) (v .coefs (i * M .n + j))) (coef-encode M i j h k))))
-      ∙ grid-all (M .coefs) (M .m) (M .n) (pos 0) (v .coefsLen)
+      (integer-written (rowPlace (M .n) i + 4 + j * 4) (encode M) (at (M .rows .coefs) (i * M .n + j)) (between-fits _ _ _ (fits w32 _ (omega arith)) (fits w32 _ (omega arith)) (v .coefs (i * M .n + j))) (coef-encode M i j h k))))
+      ∙ grid-all (M .rows .coefs) (M .m) (M .n) (pos 0) (v .coefsLen)
 
   n-back : variables (trailerOf (encode M)) ≡ M .n
   n-back = ap variables (trailer-encode M) ∙ trailer-n (M .n) (M .m) (v .few)
@@ -95,7 +98,7 @@ module _ (M : Model) (v : Valid M) where
   m-back = ap rows (trailer-encode M) ∙ trailer-m (M .n) (M .m) (v .fewRows)
 
   pub decode-encode : decode (encode M) ≡ M
-  unfolding decode modelOf
+  unfolding decode modelIn
   decode-encode = rw (n-back, m-back, bounds-back, rhs-back, coefs-back)
 
   head-encode : Head (encode M)
@@ -135,31 +138,31 @@ trailer-back t b l h =
     (rw (← part-add 0 4 4 t, ← part-add 0 8 2 t, ← part-add 0 10 2 t, ← part-add 0 12 4 t) (part-whole t 16 l))))
 
 module _ (n m : ℕ) (bs : List ℕ) (b : Bytes bs) (l : length bs ≡ bookLength n m) where
-  bounds-again : boundBytes (modelOf n m bs) ≡ part 0 (2 * n * 4) bs
-  unfolding boundBytes modelOf bookLength
+  bounds-again : boundBytes (modelIn n m bs) ≡ part 0 (2 * n * 4) bs
+  unfolding boundBytes modelIn bookLength
   bounds-again =
       joined-cong (2 * n) _ _ (λ i h. ap integerBytes (at-boundsOf n m bs i h) ∙ integer-read (0 + i * 4) bs b (omega arith))
       ∙ joined-parts (2 * n) 4 0 bs
 
-  row-again : (i : ℕ) → i < m → rowBytes n (coefsOf n m bs) (rhsOf n m bs) i ≡ part (8 * n + i * (4 + 4 * n)) (4 + 4 * n) bs
-  unfolding rowBytes modelOf bookLength rowPlace
+  row-again : (i : ℕ) → i < m → rowBytesAt n (rowsOf (coefsOf n m bs) (rhsOf n m bs)) i ≡ part (8 * n + i * (4 + 4 * n)) (4 + 4 * n) bs
+  unfolding rowBytes modelIn bookLength rowPlace
   row-again i h =
       let p = 8 * n + i * (4 + 4 * n) in
       let within = piece-within m (4 + 4 * n) i h in
       let w : 4 + 4 * n ≡ 4 + n * 4 = omega arith in
       ap₂ (λ (xs ys : List ℕ). xs ++ ys)
       (ap integerBytes (at-rhsOf n m bs i h) ∙ integer-read p bs b (omega arith))
-      (joined-cong n _ _ (λ j k. ap integerBytes (at-coefsOf n m bs i j h k) ∙ integer-read (p + 4 + j * 4) bs b (omega arith))
+      (joined-cong n _ _ (λ j k. ap integerBytes (at-rowOf n (coefsOf n m bs) i j k ∙ at-coefsOf n m bs i j h k) ∙ integer-read (p + 4 + j * 4) bs b (omega arith))
       ∙ joined-parts n 4 (p + 4) bs)
       ∙ sym (part-add p 4 (n * 4) bs)
       ∙ ap (λ (k : ℕ). part p k bs) (sym w)
 
-  rows-again : joined m (rowBytes n (coefsOf n m bs) (rhsOf n m bs)) ≡ part (8 * n) (m * (4 + 4 * n)) bs
+  rows-again : joined m (rowBytesAt n (rowsOf (coefsOf n m bs) (rhsOf n m bs))) ≡ part (8 * n) (m * (4 + 4 * n)) bs
   rows-again = joined-cong m _ _ row-again ∙ joined-parts m (4 + 4 * n) (8 * n) bs
 
   -- the bounds, the rows and the trailer are the book
-  book-again : trailerBytes n m ≡ trailerOf bs → encode (modelOf n m bs) ≡ bs
-  unfolding encode modelOf trailerOf bookLength
+  book-again : trailerBytes n m ≡ trailerOf bs → encode (modelIn n m bs) ≡ bs
+  unfolding encode modelIn trailerOf bookLength
   book-again e =
       let k = m * (4 + 4 * n) in
       let w : 2 * n * 4 ≡ 8 * n = omega arith in
@@ -199,7 +202,7 @@ unless-accepted fault a b n =
 
 pub reads-back : (bs : List ℕ) (B C R B′ C′ R′ : List ℤ) → Bytes bs
     → B′ ≡ boundsRead bs B C R → C′ ≡ coefsRead bs B C R → R′ ≡ rhsRead bs B C R
-    → (n m : ℕ) → readCall bs B C R ≡ sizesAre n m → encode (model n m B′ C′ R′) ≡ bs
+    → (n m : ℕ) → readCall bs B C R ≡ sizesAre n m → encode (modelOf n m B′ C′ R′) ≡ bs
 unfolding readCall boundsRead coefsRead rhsRead
 reads-back bs B C R B′ C′ R′ b e₁ e₂ e₃ n m a =
     let M = decode bs in
@@ -208,7 +211,7 @@ reads-back bs B C R B′ C′ R′ b e₁ e₂ e₃ n m a =
     let z = h .0 in
     let i : M .n ≡ n = cc (h .1) in
     let j : M .m ≡ m = cc (h .1) in
-    rw (e₁, e₂, e₃, ← i, ← j, ← becomes z B (M .bounds), ← becomes z C (M .coefs), ← becomes z R (M .rhs))
+    rw (e₁, e₂, e₃, ← i, ← j, ← becomes z B (M .box), ← becomes z C (M .rows .coefs), ← becomes z R (M .rows .rhs))
     (writes-read bs (record { bytes = b; faultless = read-passed bs B C R z .2 }) .1)
   where
     never : (k n m : ℕ) → refused k ≡ sizesAre n m → ⊥

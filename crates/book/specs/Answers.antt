@@ -6,7 +6,8 @@ use lib.ListN.{length}
 use mathlib.Core.Bool.{cond}
 use mathlib.Core.List.{List}
 use Rattle.model.specs.Checks.{first}
-use Rattle.book.specs.Book.{Model, decode, encode, rows, variables}
+use Rattle.model.specs.Model.{Model}
+use Rattle.book.specs.Book.{decode, encode, rows, variables}
 use Rattle.book.specs.BookChecks.{readChecks, trailerChecks, writeChecks}
 use Rattle.book.specs.declared.layout.SizesAnswer.{SizesAnswer}
 use Rattle.book.specs.declared.layout.SizesAnswer.the-variants as sizes
@@ -51,13 +52,13 @@ readCall bs B C R = unless (readFault bs B C R) (sizesAre (decode bs .n) (decode
 
 -- what is in the buffers then
 unfoldable pub boundsRead : List ℕ → List ℤ → List ℤ → List ℤ → List ℤ
-boundsRead bs B C R = lent (readFault bs B C R) B (decode bs .bounds)
+boundsRead bs B C R = lent (readFault bs B C R) B (decode bs .box)
 
 unfoldable pub coefsRead : List ℕ → List ℤ → List ℤ → List ℤ → List ℤ
-coefsRead bs B C R = lent (readFault bs B C R) C (decode bs .coefs)
+coefsRead bs B C R = lent (readFault bs B C R) C (decode bs .rows .coefs)
 
 unfoldable pub rhsRead : List ℕ → List ℤ → List ℤ → List ℤ → List ℤ
-rhsRead bs B C R = lent (readFault bs B C R) R (decode bs .rhs)
+rhsRead bs B C R = lent (readFault bs B C R) R (decode bs .rows .rhs)
 
 -- ---- writing the model M into the buffer bs
 

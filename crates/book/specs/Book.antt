@@ -4,18 +4,10 @@ use lib.IntN.{ℤ}
 use lib.ListN.{drop, length}
 use mathlib.Core.List.{List, _++_}
 use Rattle.model.specs.Box.{at}
+use Rattle.model.specs.Model.{Model, modelOf}
+use Rattle.model.specs.Rows.{Row, Rows, rowAt}
 use Rattle.book.specs.Bytes.{bytesOf, integerAt, integerBytes, integersAt, numberAt}
 use Rattle.book.specs.Pieces.{joined, listOf}
-
-pub record Model : Type 0 where
-  pub n : ℕ
-  pub m : ℕ
-  pub bounds : List ℤ
-  pub coefs : List ℤ
-  pub rhs : List ℤ
-
-abbrev pub model : ℕ → ℕ → List ℤ → List ℤ → List ℤ → Model
-model n m B C R = record { n = n; m = m; bounds = B; coefs = C; rhs = R }
 
 -- "length of the book, 32 bits, 8n + m(4 + 4n) + 16"
 unfoldable pub bookLength : ℕ → ℕ → ℕ
@@ -35,18 +27,22 @@ pub record HoldsModel (n m : ℕ) (bs : List ℕ) : Type 0 where
 
 -- "First l and u of each variable, 32 bits each"
 unfoldable pub boundBytes : Model → List ℕ
-boundBytes M = joined (2 * M .n) (λ i. integerBytes (at (M .bounds) i))
+boundBytes M = joined (2 * M .n) (λ i. integerBytes (at (M .box) i))
 
 -- "then for each row b and n coefficients, 32 bits each"
-unfoldable pub rowBytes : ℕ → List ℤ → List ℤ → ℕ → List ℕ
-rowBytes n C R i = integerBytes (at R i) ++ joined n (λ j. integerBytes (at C (i * n + j)))
+unfoldable pub rowBytes : ℕ → Row → List ℕ
+rowBytes n r = integerBytes (r .rhs) ++ joined n (λ j. integerBytes (at (r .coefs) j))
+
+-- of row i
+abbrev pub rowBytesAt : ℕ → Rows → ℕ → List ℕ
+rowBytesAt n A i = rowBytes n (rowAt n A i)
 
 -- "offset of the bounds (0), offset of the rows (8n), 32 bits each; n, m, 16 bits each; length of the book, 32 bits"
 unfoldable pub trailerBytes : ℕ → ℕ → List ℕ
 trailerBytes n m = bytesOf 4 0 ++ bytesOf 4 (8 * n) ++ bytesOf 2 n ++ bytesOf 2 m ++ bytesOf 4 (bookLength n m)
 
 unfoldable pub encode : Model → List ℕ
-encode M = boundBytes M ++ joined (M .m) (rowBytes (M .n) (M .coefs) (M .rhs)) ++ trailerBytes (M .n) (M .m)
+encode M = boundBytes M ++ joined (M .m) (rowBytesAt (M .n) (M .rows)) ++ trailerBytes (M .n) (M .m)
 
 -- ---- the model of a book
 
@@ -79,8 +75,8 @@ rhsOf n m bs = listOf m (λ i. integerAt (rowPlace n i) bs)
 unfoldable pub coefsOf : ℕ → ℕ → List ℕ → List ℤ
 coefsOf n m bs = joined m (λ i. integersAt (rowPlace n i + 4) 4 n bs)
 
-unfoldable pub modelOf : ℕ → ℕ → List ℕ → Model
-modelOf n m bs = model n m (boundsOf n bs) (coefsOf n m bs) (rhsOf n m bs)
+unfoldable pub modelIn : ℕ → ℕ → List ℕ → Model
+modelIn n m bs = modelOf n m (boundsOf n bs) (coefsOf n m bs) (rhsOf n m bs)
 
 unfoldable pub decode : List ℕ → Model
-decode bs = let t = trailerOf bs in modelOf (variables t) (rows t) bs
+decode bs = let t = trailerOf bs in modelIn (variables t) (rows t) bs

@@ -5,8 +5,9 @@ use lib.IntN.{ℤ}
 use lib.ListN.{length}
 use mathlib.Core.Bool.{_&&_}
 use mathlib.Core.List.{List, [], _++_, _∷_}
-use Rattle.model.specs.Checks.{Check, first, lengthChecks, must, numberChecks, sizeChecks}
-use Rattle.book.specs.Book.{Model, bookLength, boundsOffset, decode, lengthGiven, rows, rowsOffset, trailerOf, variables}
+use Rattle.model.specs.Checks.{Check, first, lengthChecks, modelChecks, must, none, numberChecks, sizeChecks}
+use Rattle.model.specs.Model.{Model, modelOf}
+use Rattle.book.specs.Book.{bookLength, boundsOffset, decode, lengthGiven, rows, rowsOffset, trailerOf, variables}
 
 -- 4. An offset or the length is not what n and m give.
 unfoldable pub offsetChecks : List ℕ → List Check
@@ -31,7 +32,7 @@ headChecks bs = must (leb 16 (length bs)) 1 ∷ givenLengthChecks (trailerOf bs)
 
 -- 6 to 9, of a model's numbers
 abbrev pub modelNumberChecks : Model → List Check
-modelNumberChecks M = numberChecks (M .n) (M .bounds) (M .coefs) (M .rhs)
+modelNumberChecks M = numberChecks (M .n) (M .box) (M .rows)
 
 -- a book alone: 1 to 4 and 6 to 9
 unfoldable pub bookChecks : List ℕ → List Check
@@ -39,14 +40,11 @@ bookChecks bs = headChecks bs ++ modelNumberChecks (decode bs)
 
 -- reading a book into lent buffers: 1 to 9
 unfoldable pub readChecks : List ℕ → List ℤ → List ℤ → List ℤ → List Check
-readChecks bs B C R = headChecks bs ++ (lengthChecks (decode bs .n) (decode bs .m) B C R ++ modelNumberChecks (decode bs))
+readChecks bs B C R = headChecks bs ++ (lengthChecks (modelOf (decode bs .n) (decode bs .m) B C R) ++ modelNumberChecks (decode bs))
 
 -- writing a model into a lent book of k bytes: 3, 5 to 9
 unfoldable pub writeChecks : Model → ℕ → List Check
-writeChecks M k =
-    sizeChecks (M .n) (M .m)
-    ++ (lengthChecks (M .n) (M .m) (M .bounds) (M .coefs) (M .rhs)
-    ++ (must (eqb k (bookLength (M .n) (M .m))) 5 ∷ modelNumberChecks M))
+writeChecks M k = modelChecks M none (eqb k (bookLength (M .n) (M .m)))
 
 unfoldable pub bookFault : List ℕ → ℕ
 bookFault bs = first (bookChecks bs)

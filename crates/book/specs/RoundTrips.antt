@@ -2,14 +2,11 @@
 use Prim.Native.Nat.{ℕ}
 use mathlib.Core.List.{List}
 use mathlib.Core.Path.{_≡_}
+use Rattle.model.specs.Model.{Model}
 use Rattle.model.specs.Valid.{ValidModel}
-use Rattle.book.specs.Book.{Model, decode, encode}
+use Rattle.book.specs.Book.{decode, encode}
 use Rattle.book.specs.BookChecks.{bookFault}
 use Rattle.book.specs.Bytes.{Bytes}
-
--- a model that the checks accept
-abbrev pub Valid : Model → Type 0
-Valid M = ValidModel (M .n) (M .m) (M .bounds) (M .coefs) (M .rhs)
 
 -- a book that the checks accept
 pub record Accepted (bs : List ℕ) : Type 0 where
@@ -18,15 +15,15 @@ pub record Accepted (bs : List ℕ) : Type 0 where
 
 -- Reading a written book returns the same model.
 abbrev pub ReadsWritten : Type 0
-ReadsWritten = (M : Model) → Valid M → Accepted (encode M) × (decode (encode M) ≡ M)
+ReadsWritten = (M : Model) → ValidModel M → Accepted (encode M) × (decode (encode M) ≡ M)
 
 -- Writing an accepted book's model returns the same bytes.
 abbrev pub WritesRead : Type 0
-WritesRead = (bs : List ℕ) → Accepted bs → Valid (decode bs) × (encode (decode bs) ≡ bs)
+WritesRead = (bs : List ℕ) → Accepted bs → ValidModel (decode bs) × (encode (decode bs) ≡ bs)
 
 -- No two models have one book.
 abbrev pub OneModel : Type 0
-OneModel = (M N : Model) → Valid M → Valid N → encode M ≡ encode N → M ≡ N
+OneModel = (M N : Model) → ValidModel M → ValidModel N → encode M ≡ encode N → M ≡ N
 
 -- No two books have one model.
 abbrev pub OneBook : Type 0

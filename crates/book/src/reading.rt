@@ -15,12 +15,14 @@ ghost use Prim.Native.Nat.{ℕ, _*_, _≤_};
 ghost use lib.ListN.{length};
 ghost use Rattle.model.specs.Checks.{first, inRange, numberChecks};
 ghost use Rattle.model.specs.Limits.{minCoef, maxCoef};
+ghost use Rattle.model.specs.Model.{modelOf};
+ghost use Rattle.model.specs.Rows.{rowsOf};
 ghost use Rattle.book.specs.Answers.{boundsRead, coefsRead, readCall, readFault, rhsRead, sizesAnswer, sizesAre};
-ghost use Rattle.book.specs.Book.{HoldsModel, boundsOf, coefsOf, encode, model, rhsOf};
+ghost use Rattle.book.specs.Book.{HoldsModel, boundsOf, coefsOf, encode, rhsOf};
 
 // Checks 6 and 7: a model without rows has no other number that could fail a check.
 fn box_fault(n: usize, bounds: &[i32]) -> u32
-    ensures { λ r. ⌜ r ≡ first (numberChecks n (now (bounds .entry)) [] []) ⌝ }
+    ensures { λ r. ⌜ r ≡ first (numberChecks n (now (bounds .entry)) (rowsOf [] [])) ⌝ }
 {
     let none = &bounds[..0];
     model::number_fault(n, bounds, none, none)
@@ -29,7 +31,7 @@ fn box_fault(n: usize, bounds: &[i32]) -> u32
 // Checks 6 and 7 over the book's bounds.
 fn bounds_fault(n: usize, book: &[u8]) -> u32
     requires { ⌜ (n ≤ 128) × (8 * n ≤ length (now book)) ⌝ }
-    ensures { λ r. ⌜ r ≡ first (numberChecks n (boundsOf n (now (book .entry))) [] []) ⌝ }
+    ensures { λ r. ⌜ r ≡ first (numberChecks n (boundsOf n (now (book .entry))) (rowsOf [] [])) ⌝ }
 {
     let mut bounds = [0i32; 256];
     let len = 2 * n;
@@ -56,7 +58,7 @@ fn coefs_in_range(n: usize, m: usize, book: &[u8]) -> bool
 // Checks 6 to 9 over the book's numbers: the number of the first that fails, else 0.
 fn number_fault(n: usize, m: usize, book: &[u8]) -> u32
     requires { ⌜ HoldsModel n m (now book) ⌝ }
-    ensures { λ r. ⌜ r ≡ first (numberChecks n (boundsOf n (now (book .entry))) (coefsOf n m (now (book .entry))) (rhsOf n m (now (book .entry)))) ⌝ }
+    ensures { λ r. ⌜ r ≡ first (numberChecks n (boundsOf n (now (book .entry))) (rowsOf (coefsOf n m (now (book .entry))) (rhsOf n m (now (book .entry))))) ⌝ }
 {
     let fault = bounds_fault(n, book);
     if fault != 0 {
@@ -109,7 +111,7 @@ pub fn read(book: &[u8], bounds: &mut [i32], coefs: &mut [i32], rhs: &mut [i32])
     ensures bounds_read { λ r. ⌜ now (bounds .exit) ≡ boundsRead (now (book .entry)) (now (bounds .entry)) (now (coefs .entry)) (now (rhs .entry)) ⌝ }
     ensures coefs_read { λ r. ⌜ now (coefs .exit) ≡ coefsRead (now (book .entry)) (now (bounds .entry)) (now (coefs .entry)) (now (rhs .entry)) ⌝ }
     ensures rhs_read { λ r. ⌜ now (rhs .exit) ≡ rhsRead (now (book .entry)) (now (bounds .entry)) (now (coefs .entry)) (now (rhs .entry)) ⌝ }
-    ensures round_trip { λ r. ⌜ ((n m : ℕ) → sizesAnswer r ≡ sizesAre n m → encode (model n m (now (bounds .exit)) (now (coefs .exit)) (now (rhs .exit))) ≡ now (book .entry)) ⌝ }
+    ensures round_trip { λ r. ⌜ ((n m : ℕ) → sizesAnswer r ≡ sizesAre n m → encode (modelOf n m (now (bounds .exit)) (now (coefs .exit)) (now (rhs .exit))) ≡ now (book .entry)) ⌝ }
 {
     let fault = read_fault(book, bounds, coefs, rhs);
     if fault != 0 {

@@ -5,14 +5,17 @@ use crate::layout::TRAILER;
 use crate::layout::book_length;
 use crate::layout::row_place;
 use crate::layout::write_trailer;
-use model::length_fault;
-use model::number_fault;
+use model::model_fault;
 use model::size_fault;
 ghost use mathlib.Core.Path.{_≡_};
 ghost use Prim.Native.Nat.{_*_};
+ghost use lib.Dec.{eqb};
 ghost use lib.ListN.{length};
+ghost use Rattle.model.specs.Checks.{first, sizeChecks};
+ghost use Rattle.model.specs.Model.{modelOf};
+ghost use Rattle.model.specs.Rows.{rowsOf};
 ghost use Rattle.book.specs.Answers.{bookWritten, writeAnswer, writeCall, writeFault, written};
-ghost use Rattle.book.specs.Book.{HoldsModel, decode, model, rowBytes};
+ghost use Rattle.book.specs.Book.{HoldsModel, bookLength, decode, rowBytesAt};
 ghost use Rattle.book.specs.BookChecks.{bookFault};
 ghost use Rattle.book.specs.Pieces.{joined, overwrite};
 
@@ -22,27 +25,27 @@ pub enum WriteAnswer {
     Written,
 }
 
+// Whether a book of n variables and m rows has len bytes. Beyond the limits of n and m nothing is asked: check 3 answers there.
+fn is_book_length(n: usize, m: usize, len: usize) -> bool
+    ensures { λ r. ⌜ (first (sizeChecks n m) ≡ 0 → r ≡ eqb len (bookLength n m)) ⌝ }
+{
+    if size_fault(n, m) != 0 {
+        return false;
+    }
+    len == book_length(n, m)
+}
+
 // Checks 3 and 5 to 9 of a model and of the book that it is to be written to: the number of the first that fails, else 0.
 fn write_fault(n: usize, m: usize, bounds: &[i32], coefs: &[i32], rhs: &[i32], book: &[u8]) -> u32
-    ensures { λ r. ⌜ r ≡ writeFault (model n m (now (bounds .entry)) (now (coefs .entry)) (now (rhs .entry))) (now (book .entry)) ⌝ }
+    ensures { λ r. ⌜ r ≡ writeFault (modelOf n m (now (bounds .entry)) (now (coefs .entry)) (now (rhs .entry))) (now (book .entry)) ⌝ }
 {
-    let size = size_fault(n, m);
-    if size != 0 {
-        return size;
-    }
-    let length = length_fault(n, m, bounds, coefs, rhs);
-    if length != 0 {
-        return length;
-    }
-    if book.len() != book_length(n, m) {
-        return 5;
-    }
-    number_fault(n, bounds, coefs, rhs)
+    let fits = is_book_length(n, m, book.len());
+    model_fault(n, m, bounds, coefs, rhs, fits)
 }
 
 fn write_rows(n: usize, coefs: &[i32], rhs: &[i32], book: &mut [u8])
     requires { ⌜ HoldsModel n (length (now rhs)) (now book) × (length (now coefs) ≡ length (now rhs) * n) ⌝ }
-    ensures { λ r. ⌜ now (book .exit) ≡ overwrite (8 * n) (joined (length (now (rhs .entry))) (rowBytes n (now (coefs .entry)) (now (rhs .entry)))) (now (book .entry)) ⌝ }
+    ensures { λ r. ⌜ now (book .exit) ≡ overwrite (8 * n) (joined (length (now (rhs .entry))) (rowBytesAt n (rowsOf (now (coefs .entry)) (now (rhs .entry))))) (now (book .entry)) ⌝ }
 {
     let mut i = 0;
     while i < rhs.len() {
@@ -65,9 +68,9 @@ pub fn write(
     rhs: &[i32],
     book: &mut [u8],
 ) -> WriteAnswer
-    ensures answer { λ r. ⌜ writeAnswer r ≡ writeCall (model n m (now (bounds .entry)) (now (coefs .entry)) (now (rhs .entry))) (now (book .entry)) ⌝ }
-    ensures book_written { λ r. ⌜ now (book .exit) ≡ bookWritten (model n m (now (bounds .entry)) (now (coefs .entry)) (now (rhs .entry))) (now (book .entry)) ⌝ }
-    ensures round_trip { λ r. ⌜ (writeAnswer r ≡ written → (bookFault (now (book .exit)) ≡ 0) × (decode (now (book .exit)) ≡ model n m (now (bounds .entry)) (now (coefs .entry)) (now (rhs .entry)))) ⌝ }
+    ensures answer { λ r. ⌜ writeAnswer r ≡ writeCall (modelOf n m (now (bounds .entry)) (now (coefs .entry)) (now (rhs .entry))) (now (book .entry)) ⌝ }
+    ensures book_written { λ r. ⌜ now (book .exit) ≡ bookWritten (modelOf n m (now (bounds .entry)) (now (coefs .entry)) (now (rhs .entry))) (now (book .entry)) ⌝ }
+    ensures round_trip { λ r. ⌜ (writeAnswer r ≡ written → (bookFault (now (book .exit)) ≡ 0) × (decode (now (book .exit)) ≡ modelOf n m (now (bounds .entry)) (now (coefs .entry)) (now (rhs .entry)))) ⌝ }
 {
     let fault = write_fault(n, m, bounds, coefs, rhs, book);
     if fault != 0 {

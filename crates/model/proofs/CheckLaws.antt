@@ -7,7 +7,7 @@ use lib.Signed.{_≤ℤ_, leZ}
 use mathlib.Core.Bool.{Bool, _&&_, _||_, cond, false, true}
 use mathlib.Core.List.{List, [], _++_, _∷_}
 use mathlib.Core.Logic.{_↔_, _⊎_, inl, inr, ⊎-elim}
-use mathlib.Core.Path.{_∙_, _≡_, refl, sym}
+use mathlib.Core.Path.{_∙_, _≡_, ap, refl, sym}
 use native.Mathlib.Decide.{ℕ-discrete}
 use native.Mathlib.Omega.{arith}
 use Rattle.integer.specs.Index.{all}
@@ -15,8 +15,9 @@ use Rattle.integer.proofs.IndexLaws.{all-more, all-test, getD-all}
 use Rattle.integer.proofs.Parts.{zarith}
 use Rattle.integer.proofs.Tests.{all-three, and-l, and-r, both, cond-ind, eqb-test, le-test, leb-test, ltb-test, neqb→ne, or-cases, or-inl, or-inr, true→T}
 use Rattle.model.specs.Box.{NonEmpty, at, emptyBox, isEmpty, lower, upper}
-use Rattle.model.specs.Checks.{Check, bits, first, inRange, modelChecks, modelFault, must, none, numberChecks, lengthChecks, ordered, sizeChecks, table, tableByteChecks, tableLengthChecks}
+use Rattle.model.specs.Checks.{Check, bits, first, inRange, lengthChecks, modelChecks, modelFault, must, none, numberChecks, ordered, sizeChecks, table, tableByteChecks, tableLengthChecks}
 use Rattle.model.specs.Limits.{maxBound, maxCoef, maxRhs, maxRows, maxVariables, minBound, minCoef, minRhs}
+use Rattle.model.specs.Model.{Model}
 use Rattle.model.specs.Valid.{Between, ValidModel, ValidTable}
 use Rattle.model.proofs.BoxLaws.{empty-is, isEmpty→eq}
 
@@ -101,11 +102,15 @@ flag-next f i e = rw e (sym (all-more f i))
 pub size-test : (n m : ℕ) → T (leb 1 n && leb n maxVariables && leb m maxRows) ↔ ((0 < n) × (n ≤ maxVariables) × (m ≤ maxRows))
 size-test n m = all-three (leb 1 n) (leb n maxVariables) (leb m maxRows) (leb-test 1 n) (leb-test n maxVariables) (leb-test m maxRows)
 
-pub length-test : (n m : ℕ) (B C R : List ℤ)
-    → T (eqb (length B) (2 * n) && eqb (length C) (m * n) && eqb (length R) m) ↔ ((length B ≡ 2 * n) × (length C ≡ m * n) × (length R ≡ m))
-length-test n m B C R =
-    all-three (eqb (length B) (2 * n)) (eqb (length C) (m * n)) (eqb (length R) m)
-    (eqb-test (length B) (2 * n)) (eqb-test (length C) (m * n)) (eqb-test (length R) m)
+-- every buffer of the model has its length
+abbrev pub LengthsFit : Model → Type 0
+LengthsFit M = (length (M .box) ≡ 2 * M .n) × (length (M .rows .coefs) ≡ M .m * M .n) × (length (M .rows .rhs) ≡ M .m)
+
+pub length-test : (M : Model)
+    → T (eqb (length (M .box)) (2 * M .n) && eqb (length (M .rows .coefs)) (M .m * M .n) && eqb (length (M .rows .rhs)) (M .m)) ↔ LengthsFit M
+length-test M =
+    all-three (eqb (length (M .box)) (2 * M .n)) (eqb (length (M .rows .coefs)) (M .m * M .n)) (eqb (length (M .rows .rhs)) (M .m))
+    (eqb-test (length (M .box)) (2 * M .n)) (eqb-test (length (M .rows .coefs)) (M .m * M .n)) (eqb-test (length (M .rows .rhs)) (M .m))
 
 pub between-test : (low high z : ℤ) → T (leZ low z && leZ z high) ↔ Between low high z
 between-test low high z =
@@ -144,64 +149,97 @@ bits-all t = let d = bits-test t in ((λ b. getD-all t 0 (λ x. x < 2) (omega ar
 -- ---- acceptance
 
 -- the tests that every model takes
-abbrev Tests : ℕ → ℕ → List ℤ → List ℤ → List ℤ → Type 0
-Tests n m B C R =
-    T (leb 1 n && leb n maxVariables && leb m maxRows)
-    × T (eqb (length B) (2 * n) && eqb (length C) (m * n) && eqb (length R) m)
-    × T (inRange minBound maxBound B)
-    × T (isEmpty n B || ordered B)
-    × T (inRange minCoef maxCoef C)
-    × T (inRange minRhs maxRhs R)
+abbrev Tests : Model → Type 0
+Tests M =
+    T (leb 1 (M .n) && leb (M .n) maxVariables && leb (M .m) maxRows)
+    × T (eqb (length (M .box)) (2 * M .n) && eqb (length (M .rows .coefs)) (M .m * M .n) && eqb (length (M .rows .rhs)) (M .m))
+    × T (inRange minBound maxBound (M .box))
+    × T (isEmpty (M .n) (M .box) || ordered (M .box))
+    × T (inRange minCoef maxCoef (M .rows .coefs))
+    × T (inRange minRhs maxRhs (M .rows .rhs))
 
-model-test : (n m : ℕ) (B C R : List ℤ) → Tests n m B C R ↔ ValidModel n m B C R
-model-test n m B C R = (there, back)
+model-test : (M : Model) → Tests M ↔ ValidModel M
+model-test M = (there, back)
   where
-    there : Tests n m B C R → ValidModel n m B C R
+    there : Tests M → ValidModel M
     there t =
-        let s = size-test n m .0 (t .0) in
-        let l = length-test n m B C R .0 (t .1) in
+        let s = size-test (M .n) (M .m) .0 (t .0) in
+        let l = length-test M .0 (t .1) in
         record {
           some = s .0;
           few = s .1;
           fewRows = s .2;
-          box = record { len = l .0; range = inRange-all minBound maxBound B (omega zarith) (omega zarith) .0 (t .2); shape = shape-test n B (l .0) .0 (t .3) };
+          box = record {
+            len = l .0;
+            range = inRange-all minBound maxBound (M .box) (omega zarith) (omega zarith) .0 (t .2);
+            shape = shape-test (M .n) (M .box) (l .0) .0 (t .3);
+          };
           coefsLen = l .1;
-          coefs = inRange-all minCoef maxCoef C (omega zarith) (omega zarith) .0 (t .4);
+          coefs = inRange-all minCoef maxCoef (M .rows .coefs) (omega zarith) (omega zarith) .0 (t .4);
           rhsLen = l .2;
-          rhs = inRange-all minRhs maxRhs R (omega zarith) (omega zarith) .0 (t .5);
+          rhs = inRange-all minRhs maxRhs (M .rows .rhs) (omega zarith) (omega zarith) .0 (t .5);
         }
 
-    back : ValidModel n m B C R → Tests n m B C R
+    back : ValidModel M → Tests M
     back v = (
-      size-test n m .1 (v .some, v .few, v .fewRows),
-      length-test n m B C R .1 (v .box .len, v .coefsLen, v .rhsLen),
-      inRange-all minBound maxBound B (omega zarith) (omega zarith) .1 (v .box .range),
-      shape-test n B (v .box .len) .1 (v .box .shape),
-      inRange-all minCoef maxCoef C (omega zarith) (omega zarith) .1 (v .coefs),
-      inRange-all minRhs maxRhs R (omega zarith) (omega zarith) .1 (v .rhs),
+      size-test (M .n) (M .m) .1 (v .some, v .few, v .fewRows),
+      length-test M .1 (v .box .len, v .coefsLen, v .rhsLen),
+      inRange-all minBound maxBound (M .box) (omega zarith) (omega zarith) .1 (v .box .range),
+      shape-test (M .n) (M .box) (v .box .len) .1 (v .box .shape),
+      inRange-all minCoef maxCoef (M .rows .coefs) (omega zarith) (omega zarith) .1 (v .coefs),
+      inRange-all minRhs maxRhs (M .rows .rhs) (omega zarith) (omega zarith) .1 (v .rhs),
     )
 
--- a model is accepted exactly if it is valid
-pub fault-none : (n m : ℕ) (B C R : List ℤ) → (modelFault n m B C R none ≡ 0) ↔ ValidModel n m B C R
+-- a model is accepted exactly if it is valid and everything else that is lent fits
+pub fits-fault-none : (M : Model) (fits : Bool) → (modelFault M none fits ≡ 0) ↔ (ValidModel M × T fits)
 unfolding modelFault modelChecks sizeChecks lengthChecks tableLengthChecks numberChecks tableByteChecks
-fault-none n m B C R =
-    let d = first-none (modelChecks n m B C R none) tt in
-    let v = model-test n m B C R in (
-      (λ e. let h = d .0 e in v .0 (h .0, h .1 .0, h .1 .1 .0, h .1 .1 .1 .0, h .1 .1 .1 .1 .0, h .1 .1 .1 .1 .1 .0)),
-      (λ w. let t = v .1 w in d .1 (t .0, (t .1, (t .2, (t .3, (t .4, (t .5, tt))))))),
+fits-fault-none M fits =
+    let d = first-none (modelChecks M none fits) tt in
+    let v = model-test M in (
+      (λ e. let h = d .0 e in
+          let k = h .1 .1 .1 in (v .0 (h .0, h .1 .0, k .0, k .1 .0, k .1 .1 .0, k .1 .1 .1 .0), h .1 .1 .0)),
+      (λ w. let s = v .1 (w .0) in d .1 (s .0, (s .1, (w .1, (s .2, (s .3, (s .4, (s .5, tt)))))))),
     )
 
 -- the same with a table
-pub table-fault-none : (n m : ℕ) (B C R : List ℤ) (t : List ℕ) → (modelFault n m B C R (table t) ≡ 0) ↔ (ValidModel n m B C R × ValidTable n t)
+pub fits-table-fault-none : (M : Model) (t : List ℕ) (fits : Bool)
+    → (modelFault M (table t) fits ≡ 0) ↔ (ValidModel M × ValidTable (M .n) t × T fits)
 unfolding modelFault modelChecks sizeChecks lengthChecks tableLengthChecks numberChecks tableByteChecks
-table-fault-none n m B C R t =
-    let d = first-none (modelChecks n m B C R (table t)) tt in
-    let v = model-test n m B C R in
-    let l = eqb-test (length t) (4 * (n * n)) in
+fits-table-fault-none M t fits =
+    let d = first-none (modelChecks M (table t) fits) tt in
+    let v = model-test M in
+    let l = eqb-test (length t) (4 * (M .n * M .n)) in
     let b = bits-all t in (
       (λ e. let h = d .0 e in
-          let k = h .1 .1 .1 in
-          (v .0 (h .0, h .1 .0, k .0, k .1 .0, k .1 .1 .0, k .1 .1 .1 .0), record { len = l .0 (h .1 .1 .0); bits = b .0 (k .1 .1 .1 .1 .0) })),
+          let k = h .1 .1 .1 .1 in (
+            v .0 (h .0, h .1 .0, k .0, k .1 .0, k .1 .1 .0, k .1 .1 .1 .0),
+            record { len = l .0 (h .1 .1 .0); bits = b .0 (k .1 .1 .1 .1 .0) },
+            h .1 .1 .1 .0,
+          )),
       (λ w. let s = v .1 (w .0) in
-          d .1 (s .0, (s .1, (l .1 (w .1 .len), (s .2, (s .3, (s .4, (s .5, (b .1 (w .1 .bits), tt))))))))),
+          d .1 (s .0, (s .1, (l .1 (w .1 .len), (w .2, (s .2, (s .3, (s .4, (s .5, (b .1 (w .1 .bits), tt)))))))))),
     )
+
+-- where nothing else is lent
+pub fault-none : (M : Model) → (modelFault M none true ≡ 0) ↔ ValidModel M
+fault-none M = let d = fits-fault-none M true in ((λ e. d .0 e .0), (λ v. d .1 (v, tt)))
+
+pub table-fault-none : (M : Model) (t : List ℕ) → (modelFault M (table t) true ≡ 0) ↔ (ValidModel M × ValidTable (M .n) t)
+table-fault-none M t = let d = fits-table-fault-none M t true in ((λ e. let h = d .0 e in (h .0, h .1)), (λ v. d .1 (v .0, v .1, tt)))
+
+-- two tests of one number in turn are one test
+merge : (a b : Bool) (number : ℕ) (checks : List Check)
+    → first (must a number ∷ must b number ∷ checks) ≡ first (must (a && b) number ∷ checks)
+unfolding first
+merge true b number checks = refl
+merge false b number checks = refl
+
+-- the chain with a table is the chain without one, in which the table's length is one of those that must fit, and then check 10
+pub table-chain : (M : Model) (t : List ℕ) (fits : Bool)
+    → modelFault M (table t) fits ≡ first (modelChecks M none (eqb (length t) (4 * (M .n * M .n)) && fits) ++ tableByteChecks (table t))
+unfolding modelFault modelChecks sizeChecks lengthChecks tableLengthChecks numberChecks tableByteChecks first
+table-chain M t fits =
+    ap
+    (λ r. cond (leb 1 (M .n) && leb (M .n) maxVariables && leb (M .m) maxRows)
+    (cond (eqb (length (M .box)) (2 * M .n) && eqb (length (M .rows .coefs)) (M .m * M .n) && eqb (length (M .rows .rhs)) (M .m)) r 5) 3)
+    (merge (eqb (length t) (4 * (M .n * M .n))) fits 5 (numberChecks (M .n) (M .box) (M .rows) ++ tableByteChecks (table t)))

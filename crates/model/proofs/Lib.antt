@@ -2,3 +2,4 @@ pub mod BoxLaws
 pub mod BoxLoops
 pub mod CheckLaws
 pub mod PointLaws
+pub mod RowsLaws

@@ -6,8 +6,9 @@ use mathlib.Core.Logic.{_↔_}
 use mathlib.Core.Path.{_≡_}
 use native.Mathlib.Omega.{arith}
 use Rattle.integer.proofs.Parts.{zarith, zify}
-use Rattle.model.specs.Box.{at}
-use Rattle.model.specs.Point.{FractionalPoint, InBox, InBoxOver, IntegerPoint, RowHolds, RowHoldsOver, rowOf}
+use Rattle.model.specs.Model.{Model}
+use Rattle.model.specs.Point.{FractionalPoint, InBox, InBoxOver, IntegerPoint, RowHolds, RowHoldsOver}
+use Rattle.model.specs.Rows.{rowAt}
 
 pub times-one : (z : ℤ) → z *ℤ pos 1 ≡ z
 times-one z = simp zify (omega zarith)
@@ -21,8 +22,17 @@ inBox-over-one n B x = (
 pub rowHolds-over-one : (n : ℕ) (A : List ℤ) (b : ℤ) (x : List ℤ) → RowHolds n A b x ↔ RowHoldsOver n A b x 1
 rowHolds-over-one n A b x = ((λ p. record { le = rw times-one (p .le) }), (λ p. record { le = rw times-one at (p .le) }))
 
-pub integer-fractional : (n m : ℕ) (B C R x : List ℤ) → IntegerPoint n m B C R x ↔ FractionalPoint n m B C R x 1
-integer-fractional n m B C R x = (
-  (λ p. record { len = p .len; positive = omega arith; inside = inBox-over-one n B x .0 (p .inside); rows = λ i h. rowHolds-over-one n (rowOf n C i) (at R i) x .0 (p .rows i h) }),
-  (λ p. record { len = p .len; inside = inBox-over-one n B x .1 (p .inside); rows = λ i h. rowHolds-over-one n (rowOf n C i) (at R i) x .1 (p .rows i h) }),
+pub integer-fractional : (M : Model) (x : List ℤ) → IntegerPoint M x ↔ FractionalPoint M x 1
+integer-fractional M x = (
+  (λ p. record {
+    len = p .len;
+    positive = omega arith;
+    inside = inBox-over-one (M .n) (M .box) x .0 (p .inside);
+    rows = λ i h. rowHolds-over-one (M .n) (rowAt (M .n) (M .rows) i .coefs) (rowAt (M .n) (M .rows) i .rhs) x .0 (p .rows i h);
+  }),
+  (λ p. record {
+    len = p .len;
+    inside = inBox-over-one (M .n) (M .box) x .1 (p .inside);
+    rows = λ i h. rowHolds-over-one (M .n) (rowAt (M .n) (M .rows) i .coefs) (rowAt (M .n) (M .rows) i .rhs) x .1 (p .rows i h);
+  }),
 )

@@ -10,6 +10,8 @@ use mathlib.Core.List.{List, [], _++_, _∷_}
 use Rattle.integer.specs.Index.{all}
 use Rattle.model.specs.Box.{at, isEmpty, lower, upper}
 use Rattle.model.specs.Limits.{maxBound, maxCoef, maxRhs, maxRows, maxVariables, minBound, minCoef, minRhs}
+use Rattle.model.specs.Model.{Model}
+use Rattle.model.specs.Rows.{Rows}
 
 -- a check: what must be so, and the number by which the call is refused where it is not
 pub data Check : Type 0 where
@@ -42,8 +44,9 @@ unfoldable pub sizeChecks : ℕ → ℕ → List Check
 sizeChecks n m = must (leb 1 n && leb n maxVariables && leb m maxRows) 3 ∷ []
 
 -- 5. A lent buffer has not exactly the length needed: 2n bounds, m × n coefficients, m right sides.
-unfoldable pub lengthChecks : ℕ → ℕ → List ℤ → List ℤ → List ℤ → List Check
-lengthChecks n m B C R = must (eqb (length B) (2 * n) && eqb (length C) (m * n) && eqb (length R) m) 5 ∷ []
+unfoldable pub lengthChecks : Model → List Check
+lengthChecks M =
+    must (eqb (length (M .box)) (2 * M .n) && eqb (length (M .rows .coefs)) (M .m * M .n) && eqb (length (M .rows .rhs)) (M .m)) 5 ∷ []
 
 -- 5, of the table: "The implication table has 4n² bytes".
 unfoldable pub tableLengthChecks : ℕ → LentTable → List Check
@@ -52,12 +55,12 @@ tableLengthChecks n (table t) = must (eqb (length t) (4 * (n * n))) 5 ∷ []
 
 -- 6. A bound is outside its range. 7. A lower bound is above its upper in a box that is not void.
 -- 8. A coefficient is outside its range. 9. A right side is outside its range.
-unfoldable pub numberChecks : ℕ → List ℤ → List ℤ → List ℤ → List Check
-numberChecks n B C R =
+unfoldable pub numberChecks : ℕ → List ℤ → Rows → List Check
+numberChecks n B A =
     must (inRange minBound maxBound B) 6
     ∷ must (isEmpty n B || ordered B) 7
-    ∷ must (inRange minCoef maxCoef C) 8
-    ∷ must (inRange minRhs maxRhs R) 9
+    ∷ must (inRange minCoef maxCoef (A .coefs)) 8
+    ∷ must (inRange minRhs maxRhs (A .rhs)) 9
     ∷ []
 
 -- 10. A table byte is neither 0 nor 1.
@@ -65,11 +68,13 @@ unfoldable pub tableByteChecks : LentTable → List Check
 tableByteChecks none = []
 tableByteChecks (table t) = must (bits t) 10 ∷ []
 
--- all of them
-unfoldable pub modelChecks : ℕ → ℕ → List ℤ → List ℤ → List ℤ → LentTable → List Check
-modelChecks n m B C R t =
-    sizeChecks n m ++ (lengthChecks n m B C R ++ (tableLengthChecks n t ++ (numberChecks n B C R ++ tableByteChecks t)))
+-- The one chain of checks: of the model M, of the table where one is lent, and of whatever else the call is lent, which `fits` where
+-- every other buffer has its length (5, with the others). A call's own checks come after it.
+unfoldable pub modelChecks : Model → LentTable → (fits : Bool) → List Check
+modelChecks M t fits =
+    sizeChecks (M .n) (M .m)
+    ++ (lengthChecks M ++ (tableLengthChecks (M .n) t ++ (must fits 5 ∷ (numberChecks (M .n) (M .box) (M .rows) ++ tableByteChecks t))))
 
 -- the number that a model in memory is refused by, 0 where it is accepted
-unfoldable pub modelFault : ℕ → ℕ → List ℤ → List ℤ → List ℤ → LentTable → ℕ
-modelFault n m B C R t = first (modelChecks n m B C R t)
+unfoldable pub modelFault : Model → LentTable → (fits : Bool) → ℕ
+modelFault M t fits = first (modelChecks M t fits)

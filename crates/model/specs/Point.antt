@@ -1,16 +1,14 @@
 -- Points of a model, in whole numbers and in fractions.
-use Prim.Native.Nat.{_*_, _<_, ℕ}
+use Prim.Native.Nat.{_<_, ℕ}
 use lib.IntN.{_*ℤ_, pos, ℤ}
-use lib.ListN.{drop, length, take}
+use lib.ListN.{length}
 use lib.Signed.{_≤ℤ_}
 use mathlib.Core.List.{List}
 use mathlib.Core.Path.{_≡_}
 use Rattle.integer.specs.Index.{sum}
 use Rattle.model.specs.Box.{at, lower, upper}
-
--- row i of the matrix C, whose rows stand one after the other
-unfoldable pub rowOf : ℕ → List ℤ → ℕ → List ℤ
-rowOf n C i = take n (drop (i * n) C)
+use Rattle.model.specs.Model.{Model}
+use Rattle.model.specs.Rows.{Row, rowAt}
 
 -- the sum of coefficient × variable
 unfoldable pub dot : ℕ → List ℤ → List ℤ → ℤ
@@ -20,15 +18,18 @@ pub record InBox (n : ℕ) (B x : List ℤ) : Type 0 where
   pub low : (j : ℕ) → j < n → lower B j ≤ℤ at x j
   pub high : (j : ℕ) → j < n → at x j ≤ℤ upper B j
 
--- the row holds at x (01: "sum of coefficient × variable ≤ right side b")
+-- the row with the coefficients A and the right side b holds at x (01: "sum of coefficient × variable ≤ right side b")
 pub record RowHolds (n : ℕ) (A : List ℤ) (b : ℤ) (x : List ℤ) : Type 0 where
   pub le : dot n A x ≤ℤ b
 
+abbrev pub Meets : ℕ → Row → List ℤ → Type 0
+Meets n r x = RowHolds n (r .coefs) (r .rhs) x
+
 -- 01: "An integer point is a list of whole numbers inside the box that meets every row."
-pub record IntegerPoint (n m : ℕ) (B C R x : List ℤ) : Type 0 where
-  pub len : length x ≡ n
-  pub inside : InBox n B x
-  pub rows : (i : ℕ) → i < m → RowHolds n (rowOf n C i) (at R i) x
+pub record IntegerPoint (M : Model) (x : List ℤ) : Type 0 where
+  pub len : length x ≡ M .n
+  pub inside : InBox (M .n) (M .box) x
+  pub rows : (i : ℕ) → i < M .m → Meets (M .n) (rowAt (M .n) (M .rows) i) x
 
 -- The same of the point x / d, with whole numerators x over the denominator d.
 pub record InBoxOver (n : ℕ) (B x : List ℤ) (d : ℕ) : Type 0 where
@@ -38,10 +39,13 @@ pub record InBoxOver (n : ℕ) (B x : List ℤ) (d : ℕ) : Type 0 where
 pub record RowHoldsOver (n : ℕ) (A : List ℤ) (b : ℤ) (x : List ℤ) (d : ℕ) : Type 0 where
   pub le : dot n A x ≤ℤ (b *ℤ pos d)
 
+abbrev pub MeetsOver : ℕ → Row → List ℤ → ℕ → Type 0
+MeetsOver n r x d = RowHoldsOver n (r .coefs) (r .rhs) x d
+
 -- 01: "A fractional point is the same with whole numerators over one positive denominator."
 -- An integer point is a fractional point over 1 (`integer-fractional`).
-pub record FractionalPoint (n m : ℕ) (B C R x : List ℤ) (d : ℕ) : Type 0 where
-  pub len : length x ≡ n
+pub record FractionalPoint (M : Model) (x : List ℤ) (d : ℕ) : Type 0 where
+  pub len : length x ≡ M .n
   pub positive : 0 < d
-  pub inside : InBoxOver n B x d
-  pub rows : (i : ℕ) → i < m → RowHoldsOver n (rowOf n C i) (at R i) x d
+  pub inside : InBoxOver (M .n) (M .box) x d
+  pub rows : (i : ℕ) → i < M .m → MeetsOver (M .n) (rowAt (M .n) (M .rows) i) x d

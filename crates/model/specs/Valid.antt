@@ -9,6 +9,8 @@ use mathlib.Core.Logic.{_⊎_}
 use mathlib.Core.Path.{_≡_}
 use Rattle.model.specs.Box.{NonEmpty, at, emptyBox}
 use Rattle.model.specs.Limits.{maxBound, maxCoef, maxRhs, maxRows, maxVariables, minBound, minCoef, minRhs}
+use Rattle.model.specs.Model.{Model}
+use Rattle.model.specs.State.{State}
 
 pub record Between (low high z : ℤ) : Type 0 where
   pub above : low ≤ℤ z
@@ -20,16 +22,20 @@ pub record ValidBox (n : ℕ) (B : List ℤ) : Type 0 where
   pub range : (i : ℕ) → Between minBound maxBound (at B i)
   pub shape : (B ≡ emptyBox n) ⊎ NonEmpty n B
 
-pub record ValidModel (n m : ℕ) (B C R : List ℤ) : Type 0 where
-  pub some : 0 < n
-  pub few : n ≤ maxVariables
-  pub fewRows : m ≤ maxRows
-  pub box : ValidBox n B
-  pub coefsLen : length C ≡ m * n
-  pub coefs : (i : ℕ) → Between minCoef maxCoef (at C i)
-  pub rhsLen : length R ≡ m
-  pub rhs : (i : ℕ) → Between minRhs maxRhs (at R i)
+pub record ValidModel (M : Model) : Type 0 where
+  pub some : 0 < M .n
+  pub few : M .n ≤ maxVariables
+  pub fewRows : M .m ≤ maxRows
+  pub box : ValidBox (M .n) (M .box)
+  pub coefsLen : length (M .rows .coefs) ≡ M .m * M .n
+  pub coefs : (i : ℕ) → Between minCoef maxCoef (at (M .rows .coefs) i)
+  pub rhsLen : length (M .rows .rhs) ≡ M .m
+  pub rhs : (i : ℕ) → Between minRhs maxRhs (at (M .rows .rhs) i)
 
 pub record ValidTable (n : ℕ) (t : List ℕ) : Type 0 where
   pub len : length t ≡ 4 * (n * n)
   pub bits : (i : ℕ) → getD t i 0 < 2
+
+pub record ValidState (s : State) : Type 0 where
+  pub model : ValidModel (s .model)
+  pub table : ValidTable (s .model .n) (s .table)

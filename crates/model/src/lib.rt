@@ -8,6 +8,8 @@ ghost use lib.Dec.{eqb};
 ghost use lib.ListN.{length};
 ghost use Rattle.model.specs.Box.{emptyBox, isEmpty};
 ghost use Rattle.model.specs.Checks.{first, inRange, ordered, bits, none, table as lent, sizeChecks, lengthChecks, tableLengthChecks, numberChecks, modelFault};
+ghost use Rattle.model.specs.Model.{modelOf};
+ghost use Rattle.model.specs.Rows.{rowsOf};
 ghost use Rattle.model.specs.Valid.{ValidBox};
 
 pub const MAX_VARIABLES: usize = 128;
@@ -53,7 +55,7 @@ pub fn size_fault(n: usize, m: usize) -> u32
 
 // Check 5 for the model's buffers: 5 where one has not the length that n and m give, else 0.
 pub fn length_fault(n: usize, m: usize, bounds: &[i32], coefs: &[i32], rhs: &[i32]) -> u32
-    ensures { λ r. ⌜ r ≡ first (lengthChecks n m (now (bounds .entry)) (now (coefs .entry)) (now (rhs .entry))) ⌝ }
+    ensures { λ r. ⌜ r ≡ first (lengthChecks (modelOf n m (now (bounds .entry)) (now (coefs .entry)) (now (rhs .entry)))) ⌝ }
 {
     if !is_product(bounds.len(), 2, n) {
         return 5;
@@ -67,15 +69,21 @@ pub fn length_fault(n: usize, m: usize, bounds: &[i32], coefs: &[i32], rhs: &[i3
     0
 }
 
-// Check 5 for a table of 4n² bytes.
+// Whether len is 4n², the length of a table.
+fn is_table_length(n: usize, len: usize) -> bool
+    ensures { λ r. ⌜ r ≡ eqb len (4 * (n * n)) ⌝ }
+{
+    if len % 4 != 0 {
+        return false;
+    }
+    is_product(len / 4, n, n)
+}
+
+// Check 5 for a table of 4n² bytes. // until the crates above use model_fault
 pub fn table_length_fault(n: usize, table: &[u8]) -> u32
     ensures { λ r. ⌜ r ≡ first (tableLengthChecks n (lent (now (table .entry)))) ⌝ }
 {
-    let len = table.len();
-    if len % 4 != 0 {
-        return 5;
-    }
-    if !is_product(len / 4, n, n) {
+    if !is_table_length(n, table.len()) {
         return 5;
     }
     0
@@ -165,7 +173,7 @@ pub fn is_bits(table: &[u8]) -> bool
 
 // Checks 6 to 9, each over all its numbers before the next: the number of the first that fails, else 0.
 pub fn number_fault(n: usize, bounds: &[i32], coefs: &[i32], rhs: &[i32]) -> u32
-    ensures { λ r. ⌜ r ≡ first (numberChecks n (now (bounds .entry)) (now (coefs .entry)) (now (rhs .entry))) ⌝ }
+    ensures { λ r. ⌜ r ≡ first (numberChecks n (now (bounds .entry)) (rowsOf (now (coefs .entry)) (now (rhs .entry)))) ⌝ }
 {
     if !in_range(bounds, MIN_BOUND, MAX_BOUND) {
         return 6;
@@ -184,9 +192,17 @@ pub fn number_fault(n: usize, bounds: &[i32], coefs: &[i32], rhs: &[i32]) -> u32
     0
 }
 
-// The number by which a model in memory is refused, 0 where it is accepted: checks 3 and 5 to 9.
-pub fn model_fault(n: usize, m: usize, bounds: &[i32], coefs: &[i32], rhs: &[i32]) -> u32
-    ensures { λ r. ⌜ r ≡ modelFault n m (now (bounds .entry)) (now (coefs .entry)) (now (rhs .entry)) none ⌝ }
+// The one chain of checks. The number by which a model in memory is refused, 0 where it is accepted: checks 3 and 5 to 9.
+// `fits` says whether every other buffer that the call is lent has its length (5, with the others).
+pub fn model_fault(
+    n: usize,
+    m: usize,
+    bounds: &[i32],
+    coefs: &[i32],
+    rhs: &[i32],
+    fits: bool,
+) -> u32
+    ensures { λ r. ⌜ r ≡ modelFault (modelOf n m (now (bounds .entry)) (now (coefs .entry)) (now (rhs .entry))) none fits ⌝ }
 {
     let size = size_fault(n, m);
     if size != 0 {
@@ -196,10 +212,13 @@ pub fn model_fault(n: usize, m: usize, bounds: &[i32], coefs: &[i32], rhs: &[i32
     if length != 0 {
         return length;
     }
+    if !fits {
+        return 5;
+    }
     number_fault(n, bounds, coefs, rhs)
 }
 
-// The same with a table: checks 3 and 5 to 10.
+// The same with a table, whose length is one of those that must fit: checks 3 and 5 to 10.
 pub fn model_table_fault(
     n: usize,
     m: usize,
@@ -207,24 +226,14 @@ pub fn model_table_fault(
     coefs: &[i32],
     rhs: &[i32],
     table: &[u8],
+    fits: bool,
 ) -> u32
-    ensures { λ r. ⌜ r ≡ modelFault n m (now (bounds .entry)) (now (coefs .entry)) (now (rhs .entry)) (lent (now (table .entry))) ⌝ }
+    ensures { λ r. ⌜ r ≡ modelFault (modelOf n m (now (bounds .entry)) (now (coefs .entry)) (now (rhs .entry))) (lent (now (table .entry))) fits ⌝ }
 {
-    let size = size_fault(n, m);
-    if size != 0 {
-        return size;
-    }
-    let length = length_fault(n, m, bounds, coefs, rhs);
-    if length != 0 {
-        return length;
-    }
-    let table_length = table_length_fault(n, table);
-    if table_length != 0 {
-        return table_length;
-    }
-    let number = number_fault(n, bounds, coefs, rhs);
-    if number != 0 {
-        return number;
+    let all_fit = is_table_length(n, table.len()) && fits;
+    let fault = model_fault(n, m, bounds, coefs, rhs, all_fit);
+    if fault != 0 {
+        return fault;
     }
     if !is_bits(table) {
         return 10;

@@ -18,7 +18,7 @@ use Rattle.model.specs.Valid.{ValidBox}
 use Rattle.model.proofs.BoxLaws.{box-ext, boxOf-inside, inside-boxOf, inside-refl, inside-trans, isEmpty-empty, isEmpty→eq, lower-boxOf, nonEmpty-isn't, not-in-empty, upper-boxOf, ≤ℤ-antisymm, ≤ℤ-trans}
 use Rattle.row.specs.Activity.{minActivity}
 use Rattle.row.specs.Outcome.{Outcome, changed, infeasible, isChanged, isInfeasible, unchanged}
-use Rattle.row.specs.Propagation.{Propagated, impliedBox, newLower, newUpper, propagateRow, staysAt}
+use Rattle.row.specs.Propagation.{PropagatedRow, impliedBox, newLower, newUpper, propagateRow, staysAt}
 use Rattle.row.specs.ValidRow.{ValidRow}
 use Rattle.row.proofs.ActivityLaws.{minActivity-at, minActivity-gap, minActivity-le-dot-over, minActivity-mono}
 use Rattle.row.proofs.BoundLaws.{le-newUpper-again, le-newUpper-at, le-newUpper-mono, lower-le-newLower, newLower-again-le, newLower-at-le, newLower-le-mono, newUpper-le-upper}
@@ -29,7 +29,7 @@ use Rattle.row.proofs.Width.{width-same}
 -- ---- the three cases
 
 module _ (n : ℕ) (A : List ℤ) (b : ℤ) (B : List ℤ) where
-  pub propagate-row-ind : (P : Propagated → Type 0)
+  pub propagate-row-ind : (P : PropagatedRow → Type 0)
       → (T (isEmpty n B) → P (record { outcome = infeasible; box = B }))
       → (T (not (isEmpty n B)) → b <ℤ minActivity n A B → P (record { outcome = infeasible; box = emptyBox n }))
       → (T (not (isEmpty n B)) → minActivity n A B ≤ℤ b → P (record {
@@ -42,7 +42,7 @@ module _ (n : ℕ) (A : List ℤ) (b : ℤ) (B : List ℤ) where
       (λ t. cond-ind (ltZ b (minActivity n A B)) _ _ P (λ l. g t (ltZ-yes l)) (λ l. h t (ltZ-no l)))
 
   -- where it is feasible, only the third is left
-  pub propagate-row-feasible-ind : (P : Propagated → Type 0)
+  pub propagate-row-feasible-ind : (P : PropagatedRow → Type 0)
       → (T (not (isEmpty n B)) → minActivity n A B ≤ℤ b → P (record {
         outcome = cond (all n (staysAt A b (minActivity n A B) B)) unchanged changed;
         box = impliedBox n A b (minActivity n A B) B;
@@ -192,10 +192,10 @@ module _ (A : List ℤ) (b : ℤ) {n : ℕ} {B : List ℤ} (h : 0 < n) (p : NonE
   propagated-again = stable→same h (propagate-row-nonEmpty A b p f) (propagated-stable n A b B f)
 
   pub propagate-row-again : propagateRow n A b (propagateRow n A b B .box) .box ≡ propagateRow n A b B .box
-  propagate-row-again = ap (λ (v : Propagated). v .box) propagated-again
+  propagate-row-again = ap (λ (v : PropagatedRow). v .box) propagated-again
 
   pub propagate-row-again-outcome : propagateRow n A b (propagateRow n A b B .box) .outcome ≡ unchanged
-  propagate-row-again-outcome = ap (λ (v : Propagated). v .outcome) propagated-again
+  propagate-row-again-outcome = ap (λ (v : PropagatedRow). v .outcome) propagated-again
 
 -- ---- points
 
@@ -210,10 +210,10 @@ module _ {n : ℕ} {A : List ℤ} {b : ℤ} {x : List ℤ} (h : 0 < n) (r : RowH
       }
 
   pub propagate-row-point : propagateRow n A b (boxAt n x) .box ≡ boxAt n x
-  propagate-row-point = ap (λ (v : Propagated). v .box) (stable→same h (nonEmpty-at n x) point-stable)
+  propagate-row-point = ap (λ (v : PropagatedRow). v .box) (stable→same h (nonEmpty-at n x) point-stable)
 
   pub propagate-row-point-outcome : propagateRow n A b (boxAt n x) .outcome ≡ unchanged
-  propagate-row-point-outcome = ap (λ (v : Propagated). v .outcome) (stable→same h (nonEmpty-at n x) point-stable)
+  propagate-row-point-outcome = ap (λ (v : PropagatedRow). v .outcome) (stable→same h (nonEmpty-at n x) point-stable)
 
 pub propagate-row-keeps-points : {n : ℕ} {A : List ℤ} {b : ℤ} {B x : List ℤ} → InBox n B x → RowHolds n A b x
     → InBox n (propagateRow n A b B .box) x

@@ -2,10 +2,10 @@
 use Rattle.row.specs.Outcome.{Outcome, changed, infeasible, unchanged}
 use Rattle.row.specs.declared.propagation.RowPropagation.{RowPropagation}
 use Rattle.row.specs.declared.propagation.RowPropagation.the-variants as propagation
-use Rattle.row.specs.declared.tightening.CoefficientTightening.{CoefficientTightening}
-use Rattle.row.specs.declared.tightening.CoefficientTightening.the-variants as tightening
 use Rattle.row.specs.declared.redundancy.RowRemoval.{RowRemoval}
 use Rattle.row.specs.declared.redundancy.RowRemoval.the-variants as removal
+use Rattle.row.specs.declared.tightening.CoefficientTightening.{CoefficientTightening}
+use Rattle.row.specs.declared.tightening.CoefficientTightening.the-variants as tightening
 
 -- visit: None, Narrowed, Same
 unfoldable pub propagationOutcome : RowPropagation → Outcome

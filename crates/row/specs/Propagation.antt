@@ -8,6 +8,7 @@ use Rattle.integer.specs.Division.{ceilDiv, floorDiv}
 use Rattle.integer.specs.Index.{all}
 use Rattle.integer.specs.Order.{eqZ, maxZ, minZ}
 use Rattle.model.specs.Box.{at, boxOf, emptyBox, isEmpty, lower, upper}
+use Rattle.model.specs.Rows.{Row}
 use Rattle.row.specs.Activity.{minActivity}
 use Rattle.row.specs.Outcome.{Outcome, changed, infeasible, isUnchanged, unchanged}
 
@@ -32,13 +33,13 @@ stays a b L l u = eqZ (newLower a b L l u) l && eqZ (newUpper a b L l u) u
 abbrev pub staysAt : List ℤ → ℤ → ℤ → List ℤ → ℕ → Bool
 staysAt A b L B j = stays (at A j) b L (lower B j) (upper B j)
 
-pub record Propagated : Type 0 where
+pub record PropagatedRow : Type 0 where
   pub outcome : Outcome
   pub box : List ℤ
 
 -- "Lmin > b: the box becomes void, answer None. Otherwise .. Answer Narrowed if a bound moved, else Same."
 -- "On the void box all five calls answer None .. and change nothing."
-unfoldable pub propagateRow : ℕ → List ℤ → ℤ → List ℤ → Propagated
+unfoldable pub propagateRow : ℕ → List ℤ → ℤ → List ℤ → PropagatedRow
 propagateRow n A b B =
     cond (isEmpty n B) (record { outcome = infeasible; box = B })
     (cond (ltZ b (minActivity n A B)) (record { outcome = infeasible; box = emptyBox n })
@@ -50,3 +51,7 @@ propagateRow n A b B =
 -- whether propagating the row answers other than Same: it moves a bound, or no point of the box meets it
 unfoldable pub rowMoves : ℕ → List ℤ → ℤ → List ℤ → Bool
 rowMoves n A b B = not (isUnchanged (propagateRow n A b B .outcome))
+
+-- of a row as one thing
+abbrev pub propagateRowOf : ℕ → Row → List ℤ → PropagatedRow
+propagateRowOf n r B = propagateRow n (r .coefs) (r .rhs) B

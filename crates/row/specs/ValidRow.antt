@@ -33,7 +33,7 @@ pub record ImpliesBounds (a b least l u : ℤ) : Type 0 where
   pub high : Within 32_768 u
 
 -- the same of all variables of a row
-pub record Propagates (n : ℕ) (A : List ℤ) (b least : ℤ) (B : List ℤ) : Type 0 where
+pub record ImpliesBox (n : ℕ) (A : List ℤ) (b least : ℤ) (B : List ℤ) : Type 0 where
   pub len : length A ≡ n
   pub boxLen : length B ≡ 2 * n
   pub few : n ≤ maxVariables

@@ -7,15 +7,15 @@ use mathlib.Core.List.{List, [], _∷_}
 use Rattle.integer.specs.Order.{eqZ}
 use Rattle.model.specs.Box.{sameList}
 use Rattle.row.specs.Outcome.{Outcome, changed, infeasible, unchanged}
-use Rattle.row.specs.Propagation.{Propagated, propagateRow}
+use Rattle.row.specs.Propagation.{PropagatedRow, propagateRow}
 use Rattle.row.specs.Redundancy.{removeRedundantRow}
 use Rattle.row.specs.Tightening.{NewRow, tightenCoefficient}
 
 -- a call on a row (coefficients, right side, box), and what 01 says it gives
 pub data WorkedBook : Type 0 where
-  visit : List ℤ → ℤ → List ℤ → Propagated → WorkedBook
-  sharpenFirst : List ℤ → ℤ → List ℤ → NewRow → WorkedBook
-  drop : List ℤ → ℤ → List ℤ → NewRow → WorkedBook
+  propagation : List ℤ → ℤ → List ℤ → PropagatedRow → WorkedBook
+  tighteningAtFirst : List ℤ → ℤ → List ℤ → NewRow → WorkedBook
+  removal : List ℤ → ℤ → List ℤ → NewRow → WorkedBook
 
 unfoldable pub sameOutcome : Outcome → Outcome → Bool
 sameOutcome infeasible infeasible = true
@@ -28,16 +28,16 @@ sameOutcome changed unchanged = false
 sameOutcome unchanged infeasible = false
 sameOutcome unchanged changed = false
 
-unfoldable pub samePropagated : Propagated → Propagated → Bool
+unfoldable pub samePropagated : PropagatedRow → PropagatedRow → Bool
 samePropagated p q = sameOutcome (p .outcome) (q .outcome) && sameList (p .box) (q .box)
 
 unfoldable pub sameRow : NewRow → NewRow → Bool
 sameRow p q = sameOutcome (p .outcome) (q .outcome) && sameList (p .coefs) (q .coefs) && eqZ (p .rhs) (q .rhs)
 
 unfoldable pub agrees : WorkedBook → Bool
-agrees (visit A b B r) = samePropagated (propagateRow (length A) A b B) r
-agrees (sharpenFirst A b B r) = sameRow (tightenCoefficient (length A) A b B 0) r
-agrees (drop A b B r) = sameRow (removeRedundantRow (length A) A b B) r
+agrees (propagation A b B r) = samePropagated (propagateRow (length A) A b B) r
+agrees (tighteningAtFirst A b B r) = sameRow (tightenCoefficient (length A) A b B 0) r
+agrees (removal A b B r) = sameRow (removeRedundantRow (length A) A b B) r
 
 unfoldable pub allAgree : List WorkedBook → Bool
 allAgree [] = true
@@ -49,26 +49,26 @@ binary2 = pos 0 ∷ pos 1 ∷ pos 0 ∷ pos 1 ∷ []
 unfoldable pub workedBooks : List WorkedBook
 workedBooks =
     -- 2x ≤ 5, x 0..5: visit gives 0..2; again, Same
-    visit (pos 2 ∷ []) (pos 5) (pos 0 ∷ pos 5 ∷ []) (record { outcome = changed; box = pos 0 ∷ pos 2 ∷ [] })
-    ∷ visit (pos 2 ∷ []) (pos 5) (pos 0 ∷ pos 2 ∷ []) (record { outcome = unchanged; box = pos 0 ∷ pos 2 ∷ [] })
+    propagation (pos 2 ∷ []) (pos 5) (pos 0 ∷ pos 5 ∷ []) (record { outcome = changed; box = pos 0 ∷ pos 2 ∷ [] })
+    ∷ propagation (pos 2 ∷ []) (pos 5) (pos 0 ∷ pos 2 ∷ []) (record { outcome = unchanged; box = pos 0 ∷ pos 2 ∷ [] })
     -- −2x ≤ −3, x 0..5: 2..5
-    ∷ visit (negsuc 1 ∷ []) (negsuc 2) (pos 0 ∷ pos 5 ∷ []) (record { outcome = changed; box = pos 2 ∷ pos 5 ∷ [] })
+    ∷ propagation (negsuc 1 ∷ []) (negsuc 2) (pos 0 ∷ pos 5 ∷ []) (record { outcome = changed; box = pos 2 ∷ pos 5 ∷ [] })
     -- 2x ≤ −3, x −5..5: −5..−2
-    ∷ visit (pos 2 ∷ []) (negsuc 2) (negsuc 4 ∷ pos 5 ∷ []) (record { outcome = changed; box = negsuc 4 ∷ negsuc 1 ∷ [] })
+    ∷ propagation (pos 2 ∷ []) (negsuc 2) (negsuc 4 ∷ pos 5 ∷ []) (record { outcome = changed; box = negsuc 4 ∷ negsuc 1 ∷ [] })
     -- All zero: b = −1 None; b = 0 Same
-    ∷ visit (pos 0 ∷ pos 0 ∷ []) (negsuc 0) binary2 (record { outcome = infeasible; box = pos 1 ∷ pos 0 ∷ pos 1 ∷ pos 0 ∷ [] })
-    ∷ visit (pos 0 ∷ pos 0 ∷ []) (pos 0) binary2 (record { outcome = unchanged; box = binary2 })
+    ∷ propagation (pos 0 ∷ pos 0 ∷ []) (negsuc 0) binary2 (record { outcome = infeasible; box = pos 1 ∷ pos 0 ∷ pos 1 ∷ pos 0 ∷ [] })
+    ∷ propagation (pos 0 ∷ pos 0 ∷ []) (pos 0) binary2 (record { outcome = unchanged; box = binary2 })
     -- −x−y ≤ −2: both 1; ≤ −3: None
-    ∷ visit (negsuc 0 ∷ negsuc 0 ∷ []) (negsuc 1) binary2 (record { outcome = changed; box = pos 1 ∷ pos 1 ∷ pos 1 ∷ pos 1 ∷ [] })
-    ∷ visit (negsuc 0 ∷ negsuc 0 ∷ []) (negsuc 2) binary2 (record { outcome = infeasible; box = pos 1 ∷ pos 0 ∷ pos 1 ∷ pos 0 ∷ [] })
+    ∷ propagation (negsuc 0 ∷ negsuc 0 ∷ []) (negsuc 1) binary2 (record { outcome = changed; box = pos 1 ∷ pos 1 ∷ pos 1 ∷ pos 1 ∷ [] })
+    ∷ propagation (negsuc 0 ∷ negsuc 0 ∷ []) (negsuc 2) binary2 (record { outcome = infeasible; box = pos 1 ∷ pos 0 ∷ pos 1 ∷ pos 0 ∷ [] })
     -- 3x+2y ≤ 4 sharpened at x: x+2y ≤ 2
-    ∷ sharpenFirst (pos 3 ∷ pos 2 ∷ []) (pos 4) binary2 (record { outcome = changed; coefs = pos 1 ∷ pos 2 ∷ []; rhs = pos 2 })
+    ∷ tighteningAtFirst (pos 3 ∷ pos 2 ∷ []) (pos 4) binary2 (record { outcome = changed; coefs = pos 1 ∷ pos 2 ∷ []; rhs = pos 2 })
     -- 2y−5x ≤ 1 at x: 2y−x ≤ 1
-    ∷ sharpenFirst (negsuc 4 ∷ pos 2 ∷ []) (pos 1) binary2 (record { outcome = changed; coefs = negsuc 0 ∷ pos 2 ∷ []; rhs = pos 1 })
+    ∷ tighteningAtFirst (negsuc 4 ∷ pos 2 ∷ []) (pos 1) binary2 (record { outcome = changed; coefs = negsuc 0 ∷ pos 2 ∷ []; rhs = pos 1 })
     -- 3x+2y ≤ 5: sharpen Same; drop zeroes it
-    ∷ sharpenFirst (pos 3 ∷ pos 2 ∷ []) (pos 5) binary2 (record { outcome = unchanged; coefs = pos 3 ∷ pos 2 ∷ []; rhs = pos 5 })
-    ∷ drop (pos 3 ∷ pos 2 ∷ []) (pos 5) binary2 (record { outcome = changed; coefs = pos 0 ∷ pos 0 ∷ []; rhs = pos 0 })
+    ∷ tighteningAtFirst (pos 3 ∷ pos 2 ∷ []) (pos 5) binary2 (record { outcome = unchanged; coefs = pos 3 ∷ pos 2 ∷ []; rhs = pos 5 })
+    ∷ removal (pos 3 ∷ pos 2 ∷ []) (pos 5) binary2 (record { outcome = changed; coefs = pos 0 ∷ pos 0 ∷ []; rhs = pos 0 })
     -- x+y ≤ 1: both Same
-    ∷ sharpenFirst (pos 1 ∷ pos 1 ∷ []) (pos 1) binary2 (record { outcome = unchanged; coefs = pos 1 ∷ pos 1 ∷ []; rhs = pos 1 })
-    ∷ drop (pos 1 ∷ pos 1 ∷ []) (pos 1) binary2 (record { outcome = unchanged; coefs = pos 1 ∷ pos 1 ∷ []; rhs = pos 1 })
+    ∷ tighteningAtFirst (pos 1 ∷ pos 1 ∷ []) (pos 1) binary2 (record { outcome = unchanged; coefs = pos 1 ∷ pos 1 ∷ []; rhs = pos 1 })
+    ∷ removal (pos 1 ∷ pos 1 ∷ []) (pos 1) binary2 (record { outcome = unchanged; coefs = pos 1 ∷ pos 1 ∷ []; rhs = pos 1 })
     ∷ []

@@ -12,7 +12,7 @@ ghost use Rattle.integer.specs.Index.{all};
 ghost use Rattle.model.specs.Box.{lower, upper, withBounds};
 ghost use Rattle.row.specs.Answers.{propagationOutcome};
 ghost use Rattle.row.specs.Propagation.{newLower, newUpper, impliedBox, stays, staysAt, propagateRow, rowMoves};
-ghost use Rattle.row.specs.ValidRow.{ValidRow, ImpliesBounds, Propagates};
+ghost use Rattle.row.specs.ValidRow.{ValidRow, ImpliesBounds, ImpliesBox};
 
 // 01's None, Narrowed, Same.
 pub enum RowPropagation {
@@ -82,7 +82,7 @@ pub fn tighten_bounds_at(a: i32, b: i64, least: i64, bounds: &mut [i32], j: usiz
 
 // Gives each variable the bounds that the row implies, and says whether one moved.
 fn tighten_bounds(coefs: &[i32], b: i64, least: i64, bounds: &mut [i32]) -> bool
-    requires { ⌜ Propagates (length (now coefs)) (now coefs) b least (now bounds) ⌝ }
+    requires { ⌜ ImpliesBox (length (now coefs)) (now coefs) b least (now bounds) ⌝ }
     ensures left { λ r. ⌜ now (bounds .exit) ≡ impliedBox (length (now (coefs .entry))) (now (coefs .entry)) b least (now (bounds .entry)) ⌝ }
     ensures moved { λ r. ⌜ r ≡ not (all (length (now (coefs .entry))) (staysAt (now (coefs .entry)) b least (now (bounds .entry)))) ⌝ }
 {

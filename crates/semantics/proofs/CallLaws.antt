@@ -11,21 +11,23 @@ use mathlib.Core.Path.{_≡_, ap, refl}
 use Rattle.integer.proofs.Parts.{zarith}
 use Rattle.integer.proofs.Tests.{cond-ind, decide, or-r}
 use Rattle.model.specs.Box.{Inside, NonEmpty, at, emptyBox, isEmpty, isFree, lower, upper}
-use Rattle.model.specs.Point.{InBox, rowOf}
-use Rattle.model.specs.Valid.{ValidBox, ValidTable}
+use Rattle.model.specs.Point.{InBox}
+use Rattle.model.specs.Rows.{Rows, rowAt}
+use Rattle.model.specs.State.{State, withBox}
+use Rattle.model.specs.Valid.{ValidBox, ValidModel, ValidTable}
 use Rattle.model.proofs.BoxLaws.{free-lower, free-upper, inside-refl, not-in-empty}
 use Rattle.row.specs.Outcome.{isChanged, isInfeasible, unchanged}
-use Rattle.row.specs.Propagation.{propagateRow}
+use Rattle.row.specs.Propagation.{propagateRow, propagateRowOf}
 use Rattle.row.proofs.PointBox.{Inside→in, boxAt, in→Inside, lower-at, nonEmpty-at, upper-at}
 use Rattle.row.proofs.PropagationLaws.{propagate-row-empty, propagate-row-infeasible-box, propagate-row-monotone, propagate-row-nonEmpty, propagate-row-point, propagate-row-shrinks, propagate-row-unchanged}
+use Rattle.semantics.specs.Call.{Call, Kind, hasRow, hasVariable, kindOf, probing, propagation, removal, rowPropagation, tightening, unknown}
 use Rattle.semantics.specs.CallChecks.{callFault}
 use Rattle.semantics.specs.Fixpoint.{ProbedFixpoint}
 use Rattle.semantics.specs.Perform.{Performed, act, perform}
-use Rattle.semantics.specs.Points.{LiteralTrue, PointOf, TableHolds, ValidModelOf}
+use Rattle.semantics.specs.Points.{LiteralTrue, PointOf, TableHolds}
 use Rattle.semantics.specs.Probe.{fix, probe}
 use Rattle.semantics.specs.Propagate.{isNone, propagate}
 use Rattle.semantics.specs.Run.{step}
-use Rattle.semantics.specs.State.{Call, Kind, State, hasRow, hasVariable, kindOf, other, probes, propagates, propagatesRow, removes, tightens, withBox}
 use Rattle.semantics.specs.TwoRuns.{narrows}
 use Rattle.semantics.proofs.Accepted.{Accepted}
 use Rattle.semantics.proofs.ImplicationLaws.{recordTo-holds}
@@ -48,14 +50,14 @@ step-ind s c P f p = cond-ind (eqb (callFault s c) 0) _ _ (λ (r : Performed). P
 
 -- ---- an integer point, as a box, is a probed fixpoint
 
-pub point-probed : (s : State) (x : List ℤ) → 0 < s .n → PointOf s x → ProbedFixpoint (s .n) (s .m) (s .coefs) (s .rhs) (boxAt (s .n) x)
+pub point-probed : (s : State) (x : List ℤ) → 0 < s .model .n → PointOf s x → ProbedFixpoint (s .model .n) (s .model .m) (s .model .rows) (boxAt (s .model .n) x)
 point-probed s x h p = record {
-  fixpoint = record { nonEmpty = nonEmpty-at (s .n) x; same = λ i k. propagate-row-point h (p .rows i k) };
-  spans = λ k kn f. absurd (none k kn (free-lower (boxAt (s .n) x) k f) (free-upper (boxAt (s .n) x) k f));
+  fixpoint = record { nonEmpty = nonEmpty-at (s .model .n) x; same = λ i k. propagate-row-point h (p .rows i k) };
+  spans = λ k kn f. absurd (none k kn (free-lower (boxAt (s .model .n) x) k f) (free-upper (boxAt (s .model .n) x) k f));
 }
   where
-    none : (k : ℕ) → k < s .n → lower (boxAt (s .n) x) k ≡ pos 0 → upper (boxAt (s .n) x) k ≡ pos 1 → ⊥
-    none k kn l u = let a = lower-at (s .n) x k kn in let b = upper-at (s .n) x k kn in let z : pos 1 ≤ℤ pos 0 = omega zarith in absurd (z .le)
+    none : (k : ℕ) → k < s .model .n → lower (boxAt (s .model .n) x) k ≡ pos 0 → upper (boxAt (s .model .n) x) k ≡ pos 1 → ⊥
+    none k kn l u = let a = lower-at (s .model .n) x k kn in let b = upper-at (s .model .n) x k kn in let z : pos 1 ≤ℤ pos 0 = omega zarith in absurd (z .le)
 
 -- ---- the box of a visit, a settle or a probe
 
@@ -88,84 +90,84 @@ unfolding isInfeasible isChanged
 propagate-row-same A b {n} {B} v e = ⊎-elim
     (λ (f : B ≡ emptyBox n). rw (f, propagate-row-empty n A b)) (λ p. propagate-row-unchanged A b p (rw e tt) (rw e tt)) (v .shape)
 
-pub propagate-narrower : (budget m : ℕ) (C R : List ℤ) {n : ℕ} {B : List ℤ} → ValidBox n B → Narrower n (propagate budget n m C R B .box) B
-propagate-narrower budget m C R {n} {B} v = ⊎-elim
-    (λ (e : B ≡ emptyBox n). inl (rw (e, propagate-empty budget n m C R)))
-    (λ p. ⊎-elim (λ t. inl (propagate-infeasible-box n m C R budget B t))
-    (λ t. inr (propagate-nonEmpty m C R budget p t, propagate-shrinks n m C R budget B t))
-    (decide (isNone (propagate budget n m C R B .ending))))
+pub propagate-narrower : (budget m : ℕ) (A : Rows) {n : ℕ} {B : List ℤ} → ValidBox n B → Narrower n (propagate budget n m A B .box) B
+propagate-narrower budget m A {n} {B} v = ⊎-elim
+    (λ (e : B ≡ emptyBox n). inl (rw (e, propagate-empty budget n m A)))
+    (λ p. ⊎-elim (λ t. inl (propagate-infeasible-box n m A budget B t))
+    (λ t. inr (propagate-nonEmpty m A budget p t, propagate-shrinks n m A budget B t))
+    (decide (isNone (propagate budget n m A B .ending))))
     (v .shape)
 
 -- ---- what such a call leaves, the box P and the table t, of s
 
 pub record Narrowed (s : State) (P : List ℤ) (t : List ℕ) : Type 0 where
-  pub box : Narrower (s .n) P (s .box)
-  pub keeps : {Q : List ℤ} → ProbedFixpoint (s .n) (s .m) (s .coefs) (s .rhs) Q → Inside (s .n) Q (s .box) → Inside (s .n) Q P
-  pub holds : (x : List ℤ) → PointOf s x → TableHolds (s .n) (s .table) x → TableHolds (s .n) t x
-  pub table : ValidTable (s .n) (s .table) → ValidTable (s .n) t
+  pub box : Narrower (s .model .n) P (s .model .box)
+  pub keeps : {Q : List ℤ} → ProbedFixpoint (s .model .n) (s .model .m) (s .model .rows) Q → Inside (s .model .n) Q (s .model .box) → Inside (s .model .n) Q P
+  pub holds : (x : List ℤ) → PointOf s x → TableHolds (s .model .n) (s .table) x → TableHolds (s .model .n) t x
+  pub table : ValidTable (s .model .n) (s .table) → ValidTable (s .model .n) t
 
-pub narrowed-refl : (s : State) → ValidModelOf s → Narrowed s (s .box) (s .table)
+pub narrowed-refl : (s : State) → ValidModel (s .model) → Narrowed s (s .model .box) (s .table)
 narrowed-refl s v = record { box = narrower-refl (v .box); keeps = λ _ i. i; holds = λ _ _ i. i; table = λ w. w }
 
 module _ (s : State) (c : Call) where
-  visit-narrowed : Accepted propagatesRow s c
-      → Narrowed s (propagateRow (s .n) (rowOf (s .n) (s .coefs) (c .row)) (at (s .rhs) (c .row)) (s .box) .box) (s .table)
+  propagate-row-narrowed : Accepted rowPropagation s c
+      → Narrowed s (propagateRowOf (s .model .n) (rowAt (s .model .n) (s .model .rows) (c .row)) (s .model .box) .box) (s .table)
   unfolding hasRow
-  visit-narrowed a = record {
-    box = propagate-row-narrower (rowOf (s .n) (s .coefs) (c .row)) (at (s .rhs) (c .row)) (a .model .box);
-    keeps = λ q i. propagate-row-monotone (rowOf (s .n) (s .coefs) (c .row)) (at (s .rhs) (c .row)) (a .model .some)
+  propagate-row-narrowed a = record {
+    box = propagate-row-narrower (rowAt (s .model .n) (s .model .rows) (c .row) .coefs) (rowAt (s .model .n) (s .model .rows) (c .row) .rhs) (a .model .box);
+    keeps = λ q i. propagate-row-monotone (rowAt (s .model .n) (s .model .rows) (c .row) .coefs) (rowAt (s .model .n) (s .model .rows) (c .row) .rhs) (a .model .some)
         (q .fixpoint .nonEmpty) (q .fixpoint .same (c .row) (a .row tt)) i;
     holds = λ _ _ i. i;
     table = λ w. w;
   }
 
-  settle-narrowed : Accepted propagates s c → Narrowed s (propagate (c .budget) (s .n) (s .m) (s .coefs) (s .rhs) (s .box) .box) (s .table)
-  settle-narrowed a = record {
-    box = propagate-narrower (c .budget) (s .m) (s .coefs) (s .rhs) (a .model .box);
+  propagate-narrowed : Accepted propagation s c → Narrowed s (propagate (c .budget) (s .model .n) (s .model .m) (s .model .rows) (s .model .box) .box) (s .table)
+  propagate-narrowed a = record {
+    box = propagate-narrower (c .budget) (s .model .m) (s .model .rows) (a .model .box);
     keeps = λ q i. propagate-keeps (a .model .some) (q .fixpoint) (c .budget) i;
     holds = λ _ _ i. i;
     table = λ w. w;
   }
 
-  module _ (a : Accepted probes s c) where
-    known : c .variable < s .n
+  module _ (a : Accepted probing s c) where
+    known : c .variable < s .model .n
     unfolding hasVariable
     known = a .variable tt
 
-    free : T (isEmpty (s .n) (s .box) || isFree (s .box) (c .variable))
+    free : T (isEmpty (s .model .n) (s .model .box) || isFree (s .model .box) (c .variable))
     unfolding hasVariable
     free = a .free tt
 
     -- a point at which the variable is v lies in side v
     on-side : (x : List ℤ) → PointOf s x → (v : ℕ) → LiteralTrue (c .variable) v x
-        → InBox (s .n) (propagate (c .budget) (s .n) (s .m) (s .coefs) (s .rhs) (fix (s .n) (s .box) (c .variable) v) .box) x
+        → InBox (s .model .n) (propagate (c .budget) (s .model .n) (s .model .m) (s .model .rows) (fix (s .model .n) (s .model .box) (c .variable) v) .box) x
     unfolding LiteralTrue
-    on-side x p v l = Inside→in (s .n) _ x (propagate-keeps (a .model .some) (point-probed s x (a .model .some) p .fixpoint) (c .budget)
+    on-side x p v l = Inside→in (s .model .n) _ x (propagate-keeps (a .model .some) (point-probed s x (a .model .some) p .fixpoint) (c .budget)
         (in-fix (c .variable) v (in→Inside (p .inside))
-        (rw (lower-at (s .n) x (c .variable) known, l) (≤ℤ-refl (pos v))) (rw (upper-at (s .n) x (c .variable) known, l) (≤ℤ-refl (pos v)))))
+        (rw (lower-at (s .model .n) x (c .variable) known, l) (≤ℤ-refl (pos v))) (rw (upper-at (s .model .n) x (c .variable) known, l) (≤ℤ-refl (pos v)))))
 
-    probe-holds : (x : List ℤ) → PointOf s x → TableHolds (s .n) (s .table) x
-        → TableHolds (s .n) (probe (c .variable) (c .budget) (s .n) (s .m) (s .coefs) (s .rhs) (s .box) (s .table) .table) x
+    probe-holds : (x : List ℤ) → PointOf s x → TableHolds (s .model .n) (s .table) x
+        → TableHolds (s .model .n) (probe (c .variable) (c .budget) (s .model .n) (s .model .m) (s .model .rows) (s .model .box) (s .table) .table) x
     probe-holds x p i =
-        probe-ind (c .variable) (c .budget) (s .n) (s .m) (s .coefs) (s .rhs) (s .box) (s .table) (λ r. TableHolds (s .n) (r .table) x)
+        probe-ind (c .variable) (c .budget) (s .model .n) (s .model .m) (s .model .rows) (s .model .box) (s .table) (λ r. TableHolds (s .model .n) (r .table) x)
         (λ _. i) (λ _ _ _. i) (λ _ _ _. i) (λ _ _ _. i)
-        (λ w _ _. let f = or-r (isEmpty (s .n) (s .box)) (isFree (s .box) (c .variable)) free w in
-        let l = free-lower (s .box) (c .variable) f in let u = free-upper (s .box) (c .variable) f in
+        (λ w _ _. let f = or-r (isEmpty (s .model .n) (s .model .box)) (isFree (s .model .box) (c .variable)) free w in
+        let l = free-lower (s .model .box) (c .variable) f in let u = free-upper (s .model .box) (c .variable) f in
         let g = p .inside .low (c .variable) known in let h = p .inside .high (c .variable) known in
-        recordTo-holds (s .n) (c .variable) x known (omega zarith) (omega zarith) (s .box) _ _ (s .table) (on-side x p 0) (on-side x p 1) i)
+        recordTo-holds (s .model .n) (c .variable) x known (omega zarith) (omega zarith) (s .model .box) _ _ (s .table) (on-side x p 0) (on-side x p 1) i)
 
-    probe-box : Narrower (s .n) (probe (c .variable) (c .budget) (s .n) (s .m) (s .coefs) (s .rhs) (s .box) (s .table) .box) (s .box)
+    probe-box : Narrower (s .model .n) (probe (c .variable) (c .budget) (s .model .n) (s .model .m) (s .model .rows) (s .model .box) (s .table) .box) (s .model .box)
     probe-box = ⊎-elim
-        (λ (e : s .box ≡ emptyBox (s .n)). inl (rw (e, probe-empty (c .variable) (c .budget) (s .n) (s .m) (s .coefs) (s .rhs) (s .table))))
-        (probe-narrower (c .variable) (c .budget) (s .m) (s .coefs) (s .rhs) (s .table) free)
+        (λ (e : s .model .box ≡ emptyBox (s .model .n)). inl (rw (e, probe-empty (c .variable) (c .budget) (s .model .n) (s .model .m) (s .model .rows) (s .table))))
+        (probe-narrower (c .variable) (c .budget) (s .model .m) (s .model .rows) (s .table) free)
         (a .model .box .shape)
 
-    probe-narrowed : let r = probe (c .variable) (c .budget) (s .n) (s .m) (s .coefs) (s .rhs) (s .box) (s .table) in Narrowed s (r .box) (r .table)
+    probe-narrowed : let r = probe (c .variable) (c .budget) (s .model .n) (s .model .m) (s .model .rows) (s .model .box) (s .table) in Narrowed s (r .box) (r .table)
     probe-narrowed = record {
       box = probe-box;
       keeps = λ q i. probe-keeps (c .variable) (c .budget) (s .table) (a .model .some) known free q i;
       holds = probe-holds;
-      table = probe-table-valid (c .variable) (c .budget) (s .m) (s .coefs) (s .rhs) (s .box) known;
+      table = probe-table-valid (c .variable) (c .budget) (s .model .m) (s .model .rows) (s .model .box) known;
     }
 
 -- ---- r is what calls of these kinds leave of s
@@ -178,9 +180,9 @@ pub record NarrowedTo (s r : State) : Type 0 where
 
 pub act-narrowed : (k : Kind) (s : State) (c : Call) → T (narrows k) → Accepted k s c → NarrowedTo s (act k s c .state)
 unfolding act narrows
-act-narrowed propagatesRow s c _ a = record { box = _; table = _; is = refl; narrowed = visit-narrowed s c a }
-act-narrowed propagates s c _ a = record { box = _; table = _; is = refl; narrowed = settle-narrowed s c a }
-act-narrowed probes s c _ a = record { box = _; table = _; is = refl; narrowed = probe-narrowed s c a }
-act-narrowed tightens s c z a = absurd z
-act-narrowed removes s c z a = absurd z
-act-narrowed other s c z a = absurd z
+act-narrowed rowPropagation s c _ a = record { box = _; table = _; is = refl; narrowed = propagate-row-narrowed s c a }
+act-narrowed propagation s c _ a = record { box = _; table = _; is = refl; narrowed = propagate-narrowed s c a }
+act-narrowed probing s c _ a = record { box = _; table = _; is = refl; narrowed = probe-narrowed s c a }
+act-narrowed tightening s c z a = absurd z
+act-narrowed removal s c z a = absurd z
+act-narrowed unknown s c z a = absurd z

@@ -10,18 +10,19 @@ use mathlib.Core.Logic.{_↔_, _⊎_, inl, inr, ⊎-elim}
 use mathlib.Core.Path.{_∙_, _≡_, ap, refl, subst, sym}
 use native.Mathlib.Omega.{arith}
 use Rattle.integer.proofs.Tests.{T→false, cond-ind, decide, eqb-test, neqb→ne, test-false}
-use Rattle.model.specs.Checks.{lengthChecks, modelFault, modelChecks, numberChecks, sizeChecks, table, tableByteChecks, tableLengthChecks}
-use Rattle.model.proofs.CheckLaws.{first-none}
-use Rattle.semantics.specs.CallList.{ListAnswer, ListRun, callsMade, listChecks, listFault, ran, recordAt, recordsFrom, recordsOf, refusedList, runList}
+use Rattle.model.specs.Checks.{modelFault, table}
+use Rattle.model.specs.State.{State}
+use Rattle.model.specs.Valid.{ValidState}
+use Rattle.model.proofs.CheckLaws.{fits-table-fault-none}
+use Rattle.semantics.specs.Call.{Call, lengthsOf}
 use Rattle.semantics.specs.CallChecks.{callFault}
+use Rattle.semantics.specs.CallList.{ListAnswer, ListRun, callsMade, listChecks, listFault, ran, recordAt, recordsFrom, recordsOf, refusedList, runList}
 use Rattle.semantics.specs.Demand2.{Demand2}
 use Rattle.semantics.specs.Perform.{perform}
-use Rattle.semantics.specs.Points.{PointOf, TableHolds, ValidState}
+use Rattle.semantics.specs.Points.{PointOf, TableHolds}
 use Rattle.semantics.specs.Run.{CallClass, Counts, answersNone, changedCall, classOf, countCall, infeasibleCall, isRefused, noCounts, refusedCall, run, sameState, step, tally, unchangedCall}
-use Rattle.semantics.specs.State.{Call, State, lengthsOf}
 use Rattle.semantics.specs.TwoLists.{CountsAddUp, Demand3Lists, ListMeans, TwoLists}
 use Rattle.semantics.specs.TwoRuns.{Demand3, HandedIn, Narrows}
-use Rattle.semantics.proofs.Accepted.{accepted-valid, valid-accepted}
 use Rattle.semantics.proofs.Demand2.{demand-2}
 use Rattle.semantics.proofs.Demand3.{demand-3}
 use Rattle.semantics.proofs.ImplicationLaws.{zeros-hold}
@@ -32,14 +33,12 @@ use Rattle.semantics.proofs.Tally.{count-total, tally-length, total}
 
 -- the checks of a list are those of the model and table, with one more of the list's own length
 pub list-accepted : (s : State) (xs : List ℕ) → (listFault s xs ≡ 0) ↔ (ValidState s × (length xs % 4 ≡ 0))
-unfolding listFault listChecks modelFault modelChecks sizeChecks lengthChecks tableLengthChecks numberChecks tableByteChecks
+unfolding listFault listChecks modelFault
 list-accepted s xs =
-    let d = first-none (listChecks s xs) tt in
-    let o = first-none (modelChecks (s .n) (s .m) (s .box) (s .coefs) (s .rhs) (table (s .table))) tt in
+    let d = fits-table-fault-none (s .model) (s .table) (eqb (length xs % 4) 0) in
     let q = eqb-test (length xs % 4) 0 in (
-      (λ e. let h = d .0 e in
-          (accepted-valid s (o .1 (h .0, (h .1 .0, (h .1 .1 .0, h .1 .1 .1 .1)))), q .0 (h .1 .1 .1 .0))),
-      (λ h. let g = o .0 (valid-accepted s (h .0)) in d .1 (g .0, (g .1 .0, (g .1 .1 .0, (q .1 (h .1), g .1 .1 .1))))),
+      (λ e. let h = d .0 e in (record { model = h .0; table = h .1 }, q .0 (h .2))),
+      (λ h. d .1 (h .0 .model, h .0 .table, q .1 (h .1))),
     )
 
 -- ---- what a list is run as
@@ -172,7 +171,7 @@ pub list-means : (s : State) (xs : List ℕ) → ListMeans s (runList s xs)
 unfolding noCounts
 list-means s xs =
     let p = list-preserves s xs in
-    let holds : (x : List ℤ) → PointOf s x → TableHolds (s .n) (s .table) x → TableHolds (s .n) (runList s xs .state .table) x =
+    let holds : (x : List ℤ) → PointOf s x → TableHolds (s .model .n) (s .table) x → TableHolds (s .model .n) (runList s xs .state .table) x =
     (λ x o t. rw (p .sizes .0) at (p .holds x o t)) in
     record {
       points = p .points;
@@ -181,7 +180,7 @@ list-means s xs =
           (λ _ e h. tally-none noCounts s (recordsOf s xs) (λ z. absurd (let w : ⊥ = omega arith in w)) (rw (sym (ran-injective e)) at h))
           (λ _ e. absurd (subst Ran (sym e) tt));
       holds = holds;
-      implied = λ e x o. holds x o (rw e (zeros-hold (s .n) (4 * (s .n * s .n)) x));
+      implied = λ e x o. holds x o (rw e (zeros-hold (s .model .n) (4 * (s .model .n * s .model .n)) x));
     }
 
 -- ---- a run record by record: before record i, the state is s and k are counted
@@ -191,7 +190,7 @@ pub record Along (s₀ : State) (xs : List ℕ) (s : State) (k : Counts) (i : �
   pub counted : total k ≡ i
   pub start : ValidState s₀
   pub valid : ValidState s
-  pub sizes : (s .n ≡ s₀ .n) × (s .m ≡ s₀ .m)
+  pub sizes : (s .model .n ≡ s₀ .model .n) × (s .model .m ≡ s₀ .model .m)
   -- what is left from here gives the whole
   pub runs : run s (recordsFrom (length xs / 4 - i) s₀ xs i) ≡ run s₀ (recordsOf s₀ xs)
   pub tallies : tally k s (recordsFrom (length xs / 4 - i) s₀ xs i) ≡ tally noCounts s₀ (recordsOf s₀ xs)
@@ -202,11 +201,11 @@ along-start s xs v = let e : length xs / 4 - 0 ≡ length xs / 4 = omega arith i
     record { bound = omega arith; counted = refl; start = v; valid = v; sizes = (refl, refl); runs = rw e; tallies = rw e }
 
 -- valid states of one size have buffers of the same lengths, so that a record is the same call on both
-valid-lengths : (s : State) → ValidState s → lengthsOf s ≡ record { box = 2 * s .n; coefs = s .m * s .n; rhs = s .m; table = 4 * (s .n * s .n) }
+valid-lengths : (s : State) → ValidState s → lengthsOf s ≡ record { box = 2 * s .model .n; coefs = s .model .m * s .model .n; rhs = s .model .m; table = 4 * (s .model .n * s .model .n) }
 unfolding lengthsOf
 valid-lengths s v = rw (v .model .box .len, v .model .coefsLen, v .model .rhsLen, v .table .len)
 
-same-record : {s r : State} (xs : List ℕ) (i : ℕ) → ValidState s → ValidState r → (s .n ≡ r .n) × (s .m ≡ r .m) → recordAt r xs i ≡ recordAt s xs i
+same-record : {s r : State} (xs : List ℕ) (i : ℕ) → ValidState s → ValidState r → (s .model .n ≡ r .model .n) × (s .model .m ≡ r .model .m) → recordAt r xs i ≡ recordAt s xs i
 unfolding recordAt
 same-record {s} {r} xs i v w e = rw (valid-lengths s v, valid-lengths r w, e .0, e .1)
 

@@ -13,33 +13,33 @@ use native.Mathlib.Omega.{arith}
 use Rattle.integer.proofs.Parts.{zarith}
 use Rattle.integer.proofs.Tests.{T→false, T→true, and-i, and-l, and-r, bool-ext, decide, eqb-test, not-not, or-r, test-false, test-true}
 use Rattle.model.specs.Box.{Inside, NonEmpty, at, isEmpty, isFree, sameList, width}
-use Rattle.model.specs.Point.{rowOf}
-use Rattle.model.specs.Valid.{ValidTable}
+use Rattle.model.specs.Rows.{Row, Rows, rowAt, rowOf, setRow}
+use Rattle.model.specs.State.{State, withBox, withRow}
+use Rattle.model.specs.Valid.{ValidModel, ValidTable}
 use Rattle.model.proofs.BoxLaws.{free-lower, free-upper, sameList-refl, sameList→eq}
-use Rattle.row.specs.Outcome.{Outcome, isChanged, isInfeasible}
-use Rattle.row.specs.Propagation.{propagateRow}
-use Rattle.row.specs.Redundancy.{removeRedundantRow}
-use Rattle.row.specs.Tightening.{tightenCoefficient}
+use Rattle.model.proofs.RowsLaws.{length-rowOf, setRow-row, setRow-same}
+use Rattle.row.specs.Outcome.{isChanged, isInfeasible}
+use Rattle.row.specs.Propagation.{propagateRow, propagateRowOf}
+use Rattle.row.specs.Redundancy.{removeRedundantRow, removeRowOf}
+use Rattle.row.specs.Tightening.{NewRow, rowLeft, tightenCoefficient, tightenRowOf}
 use Rattle.row.proofs.ImpliedBoxLaws.{valid-nonEmpty}
 use Rattle.row.proofs.PropagationLaws.{propagate-row-changed, propagate-row-feasible-ind, propagate-row-unchanged}
 use Rattle.row.proofs.RedundancyLaws.{remove-redundant-row-changed, remove-redundant-row-replaces, remove-redundant-row-unchanged}
 use Rattle.row.proofs.TighteningLaws.{tighten-coefficient-changed, tighten-coefficient-length, tighten-coefficient-unchanged}
 use Rattle.row.proofs.Width.{width-mono}
+use Rattle.semantics.specs.Call.{Call, Kind, hasBudget, hasRow, hasTable, hasVariable, kindOf, probing, propagation, removal, rowPropagation, tightening}
 use Rattle.semantics.specs.CallChecks.{callFault}
 use Rattle.semantics.specs.Demand2.{ones}
 use Rattle.semantics.specs.Perform.{act, perform}
-use Rattle.semantics.specs.Points.{ValidModelOf}
 use Rattle.semantics.specs.Probe.{ProbeEnding, bothFeasible, fix, fixed, infeasible, probe, recordTo}
 use Rattle.semantics.specs.Propagate.{isNone, isSpent, passTo, propagate, propagateFrom}
 use Rattle.semantics.specs.Run.{CallClass, answersNone, changedCall, classOf, infeasibleCall, isRefused, probeInfeasible, refusedCall, sameBytes, sameState, step, unchangedCall}
-use Rattle.semantics.specs.State.{Call, Kind, State, hasBudget, hasRow, hasTable, hasVariable, kindOf, probes, propagates, propagatesRow, removes, tightens, withBox, withRow}
 use Rattle.semantics.proofs.Accepted.{Accepted, accepted}
 use Rattle.semantics.proofs.CallLaws.{perform-accepted, step-accepted, step-ind}
 use Rattle.semantics.proofs.Convergence.{pass-passed}
 use Rattle.semantics.proofs.ImplicationLaws.{recordTo-added, recordTo-same}
 use Rattle.semantics.proofs.ProbeLaws.{at-fix, probe-ind}
-use Rattle.semantics.proofs.PropagateLaws.{propagate-ind, propagateFrom-ind, propagateFrom-shrinks, propagate-shrinks}
-use Rattle.semantics.proofs.RowChange.{length-rowOf, withRow-row, withRow-row-rhs, withRow-same}
+use Rattle.semantics.proofs.PropagateLaws.{propagate-ind, propagate-shrinks, propagateFrom-ind, propagateFrom-shrinks}
 
 -- ---- the same state
 
@@ -66,24 +66,24 @@ and-comm false true = refl
 and-comm false false = refl
 
 -- where only the box and the table can be new
-same-withBox : (s : State) (P : List ℤ) (t : List ℕ) → sameState s (withBox s P t) ≡ (sameList (s .box) P && sameBytes (s .table) t)
+same-withBox : (s : State) (P : List ℤ) (t : List ℕ) → sameState s (withBox s P t) ≡ (sameList (s .model .box) P && sameBytes (s .table) t)
 unfolding sameState withBox
 same-withBox s P t = rw (
-  T→true (sameList (s .coefs) (s .coefs)) (sameList-refl (s .coefs)),
-  T→true (sameList (s .rhs) (s .rhs)) (sameList-refl (s .rhs)),
-  and-true (sameList (s .box) P),
-  and-true (sameList (s .box) P),
+  T→true (sameList (s .model .rows .coefs) (s .model .rows .coefs)) (sameList-refl (s .model .rows .coefs)),
+  T→true (sameList (s .model .rows .rhs) (s .model .rows .rhs)) (sameList-refl (s .model .rows .rhs)),
+  and-true (sameList (s .model .box) P),
+  and-true (sameList (s .model .box) P),
 )
 
-same-box : (s : State) (P : List ℤ) → sameState s (withBox s P (s .table)) ≡ sameList (s .box) P
-same-box s P = same-withBox s P (s .table) ∙ rw (T→true (sameBytes (s .table) (s .table)) (sameBytes-refl (s .table)), and-true (sameList (s .box) P))
+same-box : (s : State) (P : List ℤ) → sameState s (withBox s P (s .table)) ≡ sameList (s .model .box) P
+same-box s P = same-withBox s P (s .table) ∙ rw (T→true (sameBytes (s .table) (s .table)) (sameBytes-refl (s .table)), and-true (sameList (s .model .box) P))
 
--- where only row r can be
-same-withRow : (s : State) (r : ℕ) (A : List ℤ) (b : ℤ)
-    → sameState s (withRow s r A b) ≡ (sameList (s .coefs) (withRow s r A b .coefs) && sameList (s .rhs) (withRow s r A b .rhs))
+-- where only row i can be
+same-withRow : (s : State) (i : ℕ) (r : Row) → let A = setRow (s .model .n) (s .model .rows) i r in
+    sameState s (withRow s i r) ≡ (sameList (s .model .rows .coefs) (A .coefs) && sameList (s .model .rows .rhs) (A .rhs))
 unfolding sameState withRow
-same-withRow s r A b = rw (
-  T→true (sameList (s .box) (s .box)) (sameList-refl (s .box)),
+same-withRow s i r = rw (
+  T→true (sameList (s .model .box) (s .model .box)) (sameList-refl (s .model .box)),
   T→true (sameBytes (s .table) (s .table)) (sameBytes-refl (s .table)),
 ) (and-true _)
 
@@ -96,52 +96,56 @@ sameList-is a b false f g = test-false (sameList a b) (same-test a b) (g tt)
 
 -- ---- what each rule changes, by its answer
 
--- row r becomes A, with the right side b, by a rule whose outcome is o
-row-same : (s : State) (r : ℕ) (A : List ℤ) (b : ℤ) (o : Outcome) → ValidModelOf s → r < s .m → length A ≡ s .n
-    → (T (not (isChanged o)) → (A ≡ rowOf (s .n) (s .coefs) r) × (b ≡ at (s .rhs) r))
-    → (T (isChanged o) → A ≡ rowOf (s .n) (s .coefs) r → b ≡ at (s .rhs) r → ⊥)
-    → sameState s (withRow s r A b) ≡ not (isChanged o)
-row-same s r A b o v rm len stays moves =
-    let N = withRow s r A b in
-    let C = sameList (s .coefs) (N .coefs) in
-    let R = sameList (s .rhs) (N .rhs) in
-    same-withRow s r A b ∙ bool-ext (C && R) (not (isChanged o))
-    (λ t. let e = sameList→eq (s .coefs) (N .coefs) (and-l C R t) in
-    let f = sameList→eq (s .rhs) (N .rhs) (and-r C R t) in
+-- row i becomes what a rule left of it
+row-same : (s : State) (i : ℕ) (q : NewRow) → ValidModel (s .model) → i < s .model .m → length (q .coefs) ≡ s .model .n
+    → let old = rowAt (s .model .n) (s .model .rows) i in
+    (T (not (isChanged (q .outcome))) → (q .coefs ≡ old .coefs) × (q .rhs ≡ old .rhs))
+    → (T (isChanged (q .outcome)) → q .coefs ≡ old .coefs → q .rhs ≡ old .rhs → ⊥)
+    → sameState s (withRow s i (rowLeft q)) ≡ not (isChanged (q .outcome))
+row-same s i q v im len stays moves =
+    let n = s .model .n in
+    let A = s .model .rows in
+    let N = setRow n A i (rowLeft q) in
+    let C = sameList (A .coefs) (N .coefs) in
+    let R = sameList (A .rhs) (N .rhs) in
+    same-withRow s i (rowLeft q) ∙ bool-ext (C && R) (not (isChanged (q .outcome)))
+    (λ t. let e = sameList→eq (A .coefs) (N .coefs) (and-l C R t) in
+    let f = sameList→eq (A .rhs) (N .rhs) (and-r C R t) in
+    let new = setRow-row n (s .model .m) A i (rowLeft q) (v .coefsLen) (v .rhsLen) im len in
     ⊎-elim
     (λ u. absurd (moves u
-    (sym (withRow-row s r A b v rm len) ∙ ap (λ (z : List ℤ). rowOf (s .n) z r) (sym e))
-    (sym (withRow-row-rhs s r A b v rm len) ∙ ap (λ (z : List ℤ). at z r) (sym f))))
-    (λ u. u) (decide (isChanged o)))
+    (sym (ap (λ (r : Row). r .coefs) new) ∙ ap (λ (z : List ℤ). rowOf n z i) (sym e))
+    (sym (ap (λ (r : Row). r .rhs) new) ∙ ap (λ (z : List ℤ). at z i) (sym f))))
+    (λ u. u) (decide (isChanged (q .outcome))))
     (λ t. let h = stays t in
-    rw (withRow-same s r A b (h .0) (h .1)) (and-i (sameList (s .coefs) (s .coefs)) _ (sameList-refl (s .coefs)) (sameList-refl (s .rhs))))
+    rw (setRow-same n A i (rowLeft q) (h .0) (h .1)) (and-i (sameList (A .coefs) (A .coefs)) _ (sameList-refl (A .coefs)) (sameList-refl (A .rhs))))
 
-module _ (n m : ℕ) (C R : List ℤ) where
+module _ (n m : ℕ) (A : Rows) where
   -- one that is not Spent made a pass of its own
-  one-more : (left made : ℕ) (B : List ℤ) → T (not (isSpent (propagateFrom left made n m C R B .ending)))
-      → made < propagateFrom left made n m C R B .passes
+  one-more : (left made : ℕ) (B : List ℤ) → T (not (isSpent (propagateFrom left made n m A B .ending)))
+      → made < propagateFrom left made n m A B .passes
   unfolding propagateFrom isSpent
   one-more zero made B = λ z. absurd z
-  one-more (suc left) made B = propagateFrom-ind left made n m C R B (λ r. T (not (isSpent (r .ending))) → made < r .passes)
+  one-more (suc left) made B = propagateFrom-ind left made n m A B (λ r. T (not (isSpent (r .ending))) → made < r .passes)
       (λ _ _. omega arith)
-      (λ _ _ t. let h = one-more left (suc made) (passTo n m C R B .box) t in omega arith)
+      (λ _ _ t. let h = one-more left (suc made) (passTo n m A B .box) t in omega arith)
       (λ _ _ _. omega arith)
 
   -- a settle leaves the box exactly where its first pass moved nothing; a later box is less wide
-  settle-same : (budget : ℕ) {B : List ℤ} → 1 ≤ budget → NonEmpty n B → let r = propagate budget n m C R B in
+  propagate-same : (budget : ℕ) {B : List ℤ} → 1 ≤ budget → NonEmpty n B → let r = propagate budget n m A B in
       T (not (isNone (r .ending))) → sameList B (r .box) ≡ (not (isSpent (r .ending)) && eqb (r .passes) 1)
   unfolding isNone isSpent
-  settle-same zero h p = absurd (let z : ⊥ = omega arith in z)
-  settle-same (suc left) {B} h p =
-      propagate-ind (suc left) n m C R B (λ r. T (not (isNone (r .ending))) → sameList B (r .box) ≡ (not (isSpent (r .ending)) && eqb (r .passes) 1))
+  propagate-same zero h p = absurd (let z : ⊥ = omega arith in z)
+  propagate-same (suc left) {B} h p =
+      propagate-ind (suc left) n m A B (λ r. T (not (isNone (r .ending))) → sameList B (r .box) ≡ (not (isSpent (r .ending)) && eqb (r .passes) 1))
       (λ _ z. absurd z)
-      (λ _. propagateFrom-ind left 0 n m C R B
+      (λ _. propagateFrom-ind left 0 n m A B
       (λ r. T (not (isNone (r .ending))) → sameList B (r .box) ≡ (not (isSpent (r .ending)) && eqb (r .passes) 1))
       (λ _ z. absurd z)
-      (λ t u w. let P = passTo n m C R B .box in let r = propagateFrom left 1 n m C R P in
-      let d = test-false (sameList B (r .box)) (same-test B (r .box)) (λ e. less P (r .box) (pass-passed m C R p t .less u) (propagateFrom-shrinks n m C R left 1 P w) e) in
+      (λ t u w. let P = passTo n m A B .box in let r = propagateFrom left 1 n m A P in
+      let d = test-false (sameList B (r .box)) (same-test B (r .box)) (λ e. less P (r .box) (pass-passed m A p t .less u) (propagateFrom-shrinks n m A left 1 P w) e) in
       d ∙ sym (later (r .passes) (isSpent (r .ending)) (one-more left 1 P)))
-      (λ t u _. test-true (sameList B (passTo n m C R B .box)) (same-test B (passTo n m C R B .box)) (pass-passed m C R p t .same u)))
+      (λ t u _. test-true (sameList B (passTo n m A B .box)) (same-test B (passTo n m A B .box)) (pass-passed m A p t .same u)))
     where
       less : (P Q : List ℤ) → width n P <ℤ width n B → Inside n Q P → Q ≡ B → ⊥
       less P Q l i e = let w = width-mono i in let f = ap (width n) e in let z : ⊥ = omega zarith in z
@@ -156,22 +160,22 @@ addsNone infeasible = true
 addsNone (fixed v) = false
 addsNone (bothFeasible added) = eqb added 0
 
-module _ (k budget m : ℕ) (C R B : List ℤ) {n : ℕ} {t : List ℕ} (kn : k < n) (f : T (isEmpty n B || isFree B k)) (v : ValidTable n t) where
+module _ (k budget m : ℕ) (A : Rows) (B : List ℤ) {n : ℕ} {t : List ℕ} (kn : k < n) (f : T (isEmpty n B || isFree B k)) (v : ValidTable n t) where
   -- a side has the variable fixed, so it is not the box before
-  side-moves : (b : ℕ) → T (not (isEmpty n B)) → T (not (isNone (propagate budget n m C R (fix n B k b) .ending)))
-      → sameList B (propagate budget n m C R (fix n B k b) .box) ≡ false
+  side-moves : (b : ℕ) → T (not (isEmpty n B)) → T (not (isNone (propagate budget n m A (fix n B k b) .ending)))
+      → sameList B (propagate budget n m A (fix n B k b) .box) ≡ false
   side-moves b w x =
-      let P = propagate budget n m C R (fix n B k b) .box in
+      let P = propagate budget n m A (fix n B k b) .box in
       test-false (sameList B P) (same-test B P) (λ e.
-      let a = at-fix B k b kn (subst (λ (z : List ℤ). Inside n z (fix n B k b)) e (propagate-shrinks n m C R budget (fix n B k b) x)) in
+      let a = at-fix B k b kn (subst (λ (z : List ℤ). Inside n z (fix n B k b)) e (propagate-shrinks n m A budget (fix n B k b) x)) in
       let g = or-r (isEmpty n B) (isFree B k) f w in
       let l = free-lower B k g in let u = free-upper B k g in
       let z : ⊥ = omega zarith in z)
 
-  probe-same : let r = probe k budget n m C R B t in
+  probe-same : let r = probe k budget n m A B t in
       T (not (probeInfeasible (r .ending))) → (sameList B (r .box) && sameBytes t (r .table)) ≡ (addsNone (r .ending) && sameList B (r .box))
   unfolding probeInfeasible addsNone
-  probe-same = probe-ind k budget n m C R B t
+  probe-same = probe-ind k budget n m A B t
       (λ r. T (not (probeInfeasible (r .ending))) → (sameList B (r .box) && sameBytes t (r .table)) ≡ (addsNone (r .ending) && sameList B (r .box)))
       (λ _ z. absurd z)
       (λ _ _ _ z. absurd z)
@@ -206,69 +210,69 @@ module _ (s : State) (c : Call) (e : callFault s c ≡ 0) where
   accepted-kind : (k : Kind) → kindOf (c .kind) ≡ k → Accepted k s c
   accepted-kind k q = subst (λ (z : Kind). Accepted z s c) q (accepted s c e)
 
-  pub visit-class : kindOf (c .kind) ≡ propagatesRow
-      → let o = propagateRow (s .n) (rowOf (s .n) (s .coefs) (c .row)) (at (s .rhs) (c .row)) (s .box) .outcome in
+  pub propagate-row-class : kindOf (c .kind) ≡ rowPropagation
+      → let o = propagateRowOf (s .model .n) (rowAt (s .model .n) (s .model .rows) (c .row)) (s .model .box) .outcome in
       classOf s c ≡ classBy (isInfeasible o) (not (isChanged o))
   unfolding act answersNone isRefused
-  visit-class q =
-      let A = rowOf (s .n) (s .coefs) (c .row) in
-      let b = at (s .rhs) (c .row) in
-      let r = propagateRow (s .n) A b (s .box) in
-      class-of propagatesRow q tt ∙ class-is (isInfeasible (r .outcome)) (λ f.
-      let p = valid-nonEmpty (accepted-kind propagatesRow q .model .box)
-      (propagate-row-feasible-ind (s .n) A b (s .box) (λ _. T (not (isEmpty (s .n) (s .box)))) (λ t _. t) f) in
-      same-box s (r .box) ∙ sameList-is (s .box) (r .box) (not (isChanged (r .outcome)))
+  propagate-row-class q =
+      let A = rowOf (s .model .n) (s .model .rows .coefs) (c .row) in
+      let b = at (s .model .rows .rhs) (c .row) in
+      let r = propagateRow (s .model .n) A b (s .model .box) in
+      class-of rowPropagation q tt ∙ class-is (isInfeasible (r .outcome)) (λ f.
+      let p = valid-nonEmpty (accepted-kind rowPropagation q .model .box)
+      (propagate-row-feasible-ind (s .model .n) A b (s .model .box) (λ _. T (not (isEmpty (s .model .n) (s .model .box)))) (λ t _. t) f) in
+      same-box s (r .box) ∙ sameList-is (s .model .box) (r .box) (not (isChanged (r .outcome)))
       (λ t. propagate-row-unchanged A b p f t) (λ t. propagate-row-changed A b p (not-not (isChanged (r .outcome)) t)))
 
-  pub settle-class : kindOf (c .kind) ≡ propagates → let r = propagate (c .budget) (s .n) (s .m) (s .coefs) (s .rhs) (s .box) in
+  pub propagate-class : kindOf (c .kind) ≡ propagation → let r = propagate (c .budget) (s .model .n) (s .model .m) (s .model .rows) (s .model .box) in
       classOf s c ≡ classBy (isNone (r .ending)) (not (isSpent (r .ending)) && eqb (r .passes) 1)
   unfolding act answersNone isRefused hasBudget isNone
-  settle-class q =
-      let a = accepted-kind propagates q in
-      let r = propagate (c .budget) (s .n) (s .m) (s .coefs) (s .rhs) (s .box) in
-      class-of propagates q tt ∙ class-is (isNone (r .ending)) (λ f.
-      let p = valid-nonEmpty (a .model .box) (propagate-ind (c .budget) (s .n) (s .m) (s .coefs) (s .rhs) (s .box)
-      (λ r. T (not (isNone (r .ending))) → T (not (isEmpty (s .n) (s .box)))) (λ _ z. absurd z) (λ t _. t) f) in
-      same-box s (r .box) ∙ settle-same (s .n) (s .m) (s .coefs) (s .rhs) (c .budget) (a .budget tt .0) p f)
+  propagate-class q =
+      let a = accepted-kind propagation q in
+      let r = propagate (c .budget) (s .model .n) (s .model .m) (s .model .rows) (s .model .box) in
+      class-of propagation q tt ∙ class-is (isNone (r .ending)) (λ f.
+      let p = valid-nonEmpty (a .model .box) (propagate-ind (c .budget) (s .model .n) (s .model .m) (s .model .rows) (s .model .box)
+      (λ r. T (not (isNone (r .ending))) → T (not (isEmpty (s .model .n) (s .model .box)))) (λ _ z. absurd z) (λ t _. t) f) in
+      same-box s (r .box) ∙ propagate-same (s .model .n) (s .model .m) (s .model .rows) (c .budget) (a .budget tt .0) p f)
 
-  pub probe-class : kindOf (c .kind) ≡ probes
-      → let r = probe (c .variable) (c .budget) (s .n) (s .m) (s .coefs) (s .rhs) (s .box) (s .table) in
-      classOf s c ≡ classBy (probeInfeasible (r .ending)) (addsNone (r .ending) && sameList (s .box) (r .box))
+  pub probe-class : kindOf (c .kind) ≡ probing
+      → let r = probe (c .variable) (c .budget) (s .model .n) (s .model .m) (s .model .rows) (s .model .box) (s .table) in
+      classOf s c ≡ classBy (probeInfeasible (r .ending)) (addsNone (r .ending) && sameList (s .model .box) (r .box))
   unfolding act answersNone isRefused hasVariable hasTable
   probe-class q =
-      let a = accepted-kind probes q in
-      let r = probe (c .variable) (c .budget) (s .n) (s .m) (s .coefs) (s .rhs) (s .box) (s .table) in
-      class-of probes q tt ∙ class-is (probeInfeasible (r .ending)) (λ f. same-withBox s (r .box) (r .table)
-      ∙ probe-same (c .variable) (c .budget) (s .m) (s .coefs) (s .rhs) (s .box) (a .variable tt) (a .free tt) (a .table tt) f)
+      let a = accepted-kind probing q in
+      let r = probe (c .variable) (c .budget) (s .model .n) (s .model .m) (s .model .rows) (s .model .box) (s .table) in
+      class-of probing q tt ∙ class-is (probeInfeasible (r .ending)) (λ f. same-withBox s (r .box) (r .table)
+      ∙ probe-same (c .variable) (c .budget) (s .model .m) (s .model .rows) (s .model .box) (a .variable tt) (a .free tt) (a .table tt) f)
 
-  pub tighten-class : kindOf (c .kind) ≡ tightens
-      → let o = tightenCoefficient (s .n) (rowOf (s .n) (s .coefs) (c .row)) (at (s .rhs) (c .row)) (s .box) (c .variable) .outcome in
+  pub tighten-class : kindOf (c .kind) ≡ tightening
+      → let o = tightenRowOf (s .model .n) (rowAt (s .model .n) (s .model .rows) (c .row)) (s .model .box) (c .variable) .outcome in
       classOf s c ≡ classBy (isInfeasible o) (not (isChanged o))
   unfolding act answersNone isRefused hasRow hasVariable
   tighten-class q =
-      let a = accepted-kind tightens q in
-      let A = rowOf (s .n) (s .coefs) (c .row) in
-      let b = at (s .rhs) (c .row) in
-      let r = tightenCoefficient (s .n) A b (s .box) (c .variable) in
-      let len = length-rowOf (s .n) (s .m) (s .coefs) (c .row) (a .model .coefsLen) (a .row tt) in
-      class-of tightens q tt ∙ class-is (isInfeasible (r .outcome)) (λ _.
-      row-same s (c .row) (r .coefs) (r .rhs) (r .outcome) (a .model) (a .row tt) (tighten-coefficient-length (s .n) A b (s .box) (c .variable) ∙ len)
-      (tighten-coefficient-unchanged (s .n) A b (s .box) (c .variable))
-      (λ t f _. tighten-coefficient-changed (s .n) A b (s .box) (c .variable) (omega (arith, a .variable tt)) t f))
+      let a = accepted-kind tightening q in
+      let A = rowOf (s .model .n) (s .model .rows .coefs) (c .row) in
+      let b = at (s .model .rows .rhs) (c .row) in
+      let r = tightenCoefficient (s .model .n) A b (s .model .box) (c .variable) in
+      let len = length-rowOf (s .model .n) (s .model .m) (s .model .rows .coefs) (c .row) (a .model .coefsLen) (a .row tt) in
+      class-of tightening q tt ∙ class-is (isInfeasible (r .outcome)) (λ _.
+      row-same s (c .row) r (a .model) (a .row tt) (tighten-coefficient-length (s .model .n) A b (s .model .box) (c .variable) ∙ len)
+      (tighten-coefficient-unchanged (s .model .n) A b (s .model .box) (c .variable))
+      (λ t f _. tighten-coefficient-changed (s .model .n) A b (s .model .box) (c .variable) (omega (arith, a .variable tt)) t f))
 
-  pub remove-class : kindOf (c .kind) ≡ removes
-      → let o = removeRedundantRow (s .n) (rowOf (s .n) (s .coefs) (c .row)) (at (s .rhs) (c .row)) (s .box) .outcome in
+  pub remove-class : kindOf (c .kind) ≡ removal
+      → let o = removeRowOf (s .model .n) (rowAt (s .model .n) (s .model .rows) (c .row)) (s .model .box) .outcome in
       classOf s c ≡ classBy (isInfeasible o) (not (isChanged o))
   unfolding act answersNone isRefused hasRow
   remove-class q =
-      let a = accepted-kind removes q in
-      let A = rowOf (s .n) (s .coefs) (c .row) in
-      let b = at (s .rhs) (c .row) in
-      let r = removeRedundantRow (s .n) A b (s .box) in
-      let len = length-rowOf (s .n) (s .m) (s .coefs) (c .row) (a .model .coefsLen) (a .row tt) in
-      class-of removes q tt ∙ class-is (isInfeasible (r .outcome)) (λ _.
-      row-same s (c .row) (r .coefs) (r .rhs) (r .outcome) (a .model) (a .row tt) (remove-redundant-row-replaces (s .n) A b (s .box) len .len)
-      (remove-redundant-row-unchanged (s .n) A b (s .box)) (remove-redundant-row-changed (s .n) A b (s .box)))
+      let a = accepted-kind removal q in
+      let A = rowOf (s .model .n) (s .model .rows .coefs) (c .row) in
+      let b = at (s .model .rows .rhs) (c .row) in
+      let r = removeRedundantRow (s .model .n) A b (s .model .box) in
+      let len = length-rowOf (s .model .n) (s .model .m) (s .model .rows .coefs) (c .row) (a .model .coefsLen) (a .row tt) in
+      class-of removal q tt ∙ class-is (isInfeasible (r .outcome)) (λ _.
+      row-same s (c .row) r (a .model) (a .row tt) (remove-redundant-row-replaces (s .model .n) A b (s .model .box) len .len)
+      (remove-redundant-row-unchanged (s .model .n) A b (s .model .box)) (remove-redundant-row-changed (s .model .n) A b (s .model .box)))
 
 -- ---- a refused call
 

@@ -17,22 +17,22 @@ use Rattle.integer.proofs.Parts.{sub-parts, zarith}
 use Rattle.integer.proofs.RangeLaws.{within!, zwithin}
 use Rattle.integer.proofs.Tests.{all-three, both, false→T, not-or-l, not-or-r, or-cases, or-inl, or-inr, true→T}
 use Rattle.model.specs.Box.{Inside, NonEmpty, at, emptyBox, isEmpty, isFree, lower, sameList, upper, width}
-use Rattle.model.specs.Point.{rowOf}
+use Rattle.model.specs.Rows.{Rows, rowAt}
+use Rattle.model.specs.State.{State}
+use Rattle.model.specs.Valid.{ValidModel}
 use Rattle.model.proofs.BoxLaws.{empty-is, inside-antisymm, inside-refl, inside-trans, isEmpty→eq, nonEmpty-isn't, not-in-empty, sameList-refl, sameList→eq}
 use Rattle.row.specs.Outcome.{isChanged, isInfeasible}
-use Rattle.row.specs.Propagation.{Propagated, propagateRow}
+use Rattle.row.specs.Propagation.{PropagatedRow, propagateRowOf}
 use Rattle.row.proofs.PropagationLaws.{box→stable, propagate-row-nonEmpty, propagate-row-shrinks, propagate-row-unchanged, propagate-row-width, stable→same}
 use Rattle.row.proofs.Width.{width-mono, width-nonneg}
 use Rattle.semantics.specs.CallChecks.{maxBudget}
 use Rattle.semantics.specs.Convergence.{Ends, EnoughPasses, LargestBudget, NothingMoves, RestInOwnWords, RestIsTested, UniqueGreatest}
 use Rattle.semantics.specs.Fixpoint.{Fixpoint, GreatestFixpoint, ProbedFixpoint, ProbingFixpoint, SidesSpan}
-use Rattle.semantics.specs.Points.{ValidModelOf}
 use Rattle.semantics.specs.Probe.{ProbeEnding, bothFeasible, fix, fixed, hull, infeasible, probe}
 use Rattle.semantics.specs.Propagate.{Pass, isNone, isSpent, passTo, propagate, propagateFrom}
 use Rattle.semantics.specs.RestTest.{isFixpoint, isProbingFixpoint, sidesSpan}
-use Rattle.semantics.specs.State.{State}
-use Rattle.semantics.proofs.PropagateLaws.{pass-ind, pass-infeasible-box, pass-keeps, pass-shrinks, propagate-ind, propagateFrom-ind}
 use Rattle.semantics.proofs.ProbeLaws.{fix-inside, fix-nonEmpty, probe-ind}
+use Rattle.semantics.proofs.PropagateLaws.{pass-ind, pass-infeasible-box, pass-keeps, pass-shrinks, propagate-ind, propagateFrom-ind}
 
 -- ---- a pass in which no row was infeasible
 
@@ -41,69 +41,69 @@ or-left true b t = inl tt
 or-left false b t = inr (tt, t)
 
 -- r is what a pass over the first i rows left of B: narrower where a bound moved, and where none did, B, which those rows leave as it is
-pub record Passed (n i : ℕ) (C R B : List ℤ) (r : Pass) : Type 0 where
+pub record Passed (n i : ℕ) (A : Rows) (B : List ℤ) (r : Pass) : Type 0 where
   pub nonEmpty : NonEmpty n (r .box)
   pub less : T (r .moved) → width n (r .box) <ℤ width n B
   pub same : T (not (r .moved)) → r .box ≡ B
-  pub stays : T (not (r .moved)) → (j : ℕ) → j < i → propagateRow n (rowOf n C j) (at R j) B .box ≡ B
+  pub stays : T (not (r .moved)) → (j : ℕ) → j < i → propagateRowOf n (rowAt n A j) B .box ≡ B
 
-module _ (n i : ℕ) (C R B : List ℤ) (r : Pass) (p : Passed n i C R B r)
-    (t : T (not (isInfeasible (propagateRow n (rowOf n C i) (at R i) (r .box) .outcome)))) where
-  abbrev next : Propagated
-  next = propagateRow n (rowOf n C i) (at R i) (r .box)
+module _ (n i : ℕ) (A : Rows) (B : List ℤ) (r : Pass) (p : Passed n i A B r)
+    (t : T (not (isInfeasible (propagateRowOf n (rowAt n A i) (r .box) .outcome)))) where
+  abbrev next : PropagatedRow
+  next = propagateRowOf n (rowAt n A i) (r .box)
 
-  passed-row : Passed n (suc i) C R B (record { ended = isInfeasible (next .outcome); moved = r .moved || isChanged (next .outcome); box = next .box })
+  passed-row : Passed n (suc i) A B (record { ended = isInfeasible (next .outcome); moved = r .moved || isChanged (next .outcome); box = next .box })
   passed-row = record {
-    nonEmpty = propagate-row-nonEmpty (rowOf n C i) (at R i) (p .nonEmpty) t;
+    nonEmpty = propagate-row-nonEmpty (rowAt n A i .coefs) (rowAt n A i .rhs) (p .nonEmpty) t;
     less = λ u. less (or-left (r .moved) (isChanged (next .outcome)) u);
     same = λ u. stay u ∙ p .same (not-or-l (r .moved) _ u);
     stays = λ u j h. last u j h (ℕ-discrete j i);
   }
     where
       less : T (r .moved) ⊎ (T (not (r .moved)) × T (isChanged (next .outcome))) → width n (next .box) <ℤ width n B
-      less (inl m) = let l = p .less m in let w = width-mono (propagate-row-shrinks n (rowOf n C i) (at R i) (r .box) t) in omega zarith
-      less (inr m) = subst (λ (c : List ℤ). width n (next .box) <ℤ width n c) (p .same (m .0)) (propagate-row-width (rowOf n C i) (at R i) (p .nonEmpty) (m .1))
+      less (inl m) = let l = p .less m in let w = width-mono (propagate-row-shrinks n (rowAt n A i .coefs) (rowAt n A i .rhs) (r .box) t) in omega zarith
+      less (inr m) = subst (λ (c : List ℤ). width n (next .box) <ℤ width n c) (p .same (m .0)) (propagate-row-width (rowAt n A i .coefs) (rowAt n A i .rhs) (p .nonEmpty) (m .1))
 
       stay : T (not (r .moved || isChanged (next .outcome))) → next .box ≡ r .box
-      stay u = propagate-row-unchanged (rowOf n C i) (at R i) (p .nonEmpty) t (not-or-r (r .moved) (isChanged (next .outcome)) u)
+      stay u = propagate-row-unchanged (rowAt n A i .coefs) (rowAt n A i .rhs) (p .nonEmpty) t (not-or-r (r .moved) (isChanged (next .outcome)) u)
 
-      last : T (not (r .moved || isChanged (next .outcome))) → (j : ℕ) → j < suc i → Dec (j ≡ i) → propagateRow n (rowOf n C j) (at R j) B .box ≡ B
+      last : T (not (r .moved || isChanged (next .outcome))) → (j : ℕ) → j < suc i → Dec (j ≡ i) → propagateRowOf n (rowAt n A j) B .box ≡ B
       last u j h (yes e) =
-          rw e (subst (λ (c : List ℤ). propagateRow n (rowOf n C i) (at R i) c .box ≡ c) (p .same (not-or-l (r .moved) _ u)) (stay u))
+          rw e (subst (λ (c : List ℤ). propagateRowOf n (rowAt n A i) c .box ≡ c) (p .same (not-or-l (r .moved) _ u)) (stay u))
       last u j h (no ne) = p .stays (not-or-l (r .moved) _ u) j (omega arith)
 
-pub pass-passed : (i : ℕ) (C R : List ℤ) {n : ℕ} {B : List ℤ} → NonEmpty n B → T (not (passTo n i C R B .ended))
-    → Passed n i C R B (passTo n i C R B)
+pub pass-passed : (i : ℕ) (A : Rows) {n : ℕ} {B : List ℤ} → NonEmpty n B → T (not (passTo n i A B .ended))
+    → Passed n i A B (passTo n i A B)
 unfolding passTo
-pass-passed zero C R p = λ _. record { nonEmpty = p; less = λ z. absurd z; same = λ _. refl; stays = λ _ j h. absurd (let z : ⊥ = omega arith in z) }
-pass-passed (suc i) C R {n} {B} p = pass-ind n i C R B (λ r. T (not (r .ended)) → Passed n (suc i) C R B r)
-    (λ t u. absurd (T-not (passTo n i C R B .ended) u t))
-    (λ t u. passed-row n i C R B (passTo n i C R B) (pass-passed i C R p t) u)
+pass-passed zero A p = λ _. record { nonEmpty = p; less = λ z. absurd z; same = λ _. refl; stays = λ _ j h. absurd (let z : ⊥ = omega arith in z) }
+pass-passed (suc i) A {n} {B} p = pass-ind n i A B (λ r. T (not (r .ended)) → Passed n (suc i) A B r)
+    (λ t u. absurd (T-not (passTo n i A B .ended) u t))
+    (λ t u. passed-row n i A B (passTo n i A B) (pass-passed i A p t) u)
 
 -- ---- a budget above the width is enough
 
-propagateFrom-ends : (left made n m : ℕ) (C R B : List ℤ) → 0 < n → NonEmpty n B → width n B <ℤ pos left
-    → Ends n m C R B (propagateFrom left made n m C R B)
+propagateFrom-ends : (left made n m : ℕ) (A : Rows) (B : List ℤ) → 0 < n → NonEmpty n B → width n B <ℤ pos left
+    → Ends n m A B (propagateFrom left made n m A B)
 unfolding isSpent isNone
-propagateFrom-ends zero made n m C R B h p w = absurd (let z = width-nonneg p in let y : ⊥ = omega zarith in y)
-propagateFrom-ends (suc left) made n m C R B h p w = propagateFrom-ind left made n m C R B (Ends n m C R B)
+propagateFrom-ends zero made n m A B h p w = absurd (let z = width-nonneg p in let y : ⊥ = omega zarith in y)
+propagateFrom-ends (suc left) made n m A B h p w = propagateFrom-ind left made n m A B (Ends n m A B)
     (λ t. record {
       notSpent = tt;
-      none = λ _ P q i. not-in-empty n P h (q .nonEmpty) (rw (pass-infeasible-box n C R m B t) at (pass-keeps h q m (omega arith) i));
+      none = λ _ P q i. not-in-empty n P h (q .nonEmpty) (rw (pass-infeasible-box n A m B t) at (pass-keeps h q m (omega arith) i));
       greatest = λ z. absurd z;
     })
-    (λ t u. let d = pass-passed m C R p t in let l = d .less u in
-    let e = propagateFrom-ends left (suc made) n m C R (passTo n m C R B .box) h (d .nonEmpty) (omega zarith) in
+    (λ t u. let d = pass-passed m A p t in let l = d .less u in
+    let e = propagateFrom-ends left (suc made) n m A (passTo n m A B .box) h (d .nonEmpty) (omega zarith) in
     record {
       notSpent = e .notSpent;
       none = λ v P q i. e .none v P q (pass-keeps h q m (omega arith) i);
       greatest = λ v. record {
         fixpoint = e .greatest v .fixpoint;
-        inside = inside-trans (e .greatest v .inside) (pass-shrinks n C R m B t);
+        inside = inside-trans (e .greatest v .inside) (pass-shrinks n A m B t);
         greatest = λ P q i. e .greatest v .greatest P q (pass-keeps h q m (omega arith) i);
       };
     })
-    (λ t u. let d = pass-passed m C R p t in
+    (λ t u. let d = pass-passed m A p t in
     record {
       notSpent = tt;
       none = λ z. absurd z;
@@ -112,26 +112,26 @@ propagateFrom-ends (suc left) made n m C R B h p w = propagateFrom-ind left made
 
 pub propagate-ends : EnoughPasses
 unfolding EnoughPasses
-propagate-ends budget n m C R B h p w = propagate-ind budget n m C R B (Ends n m C R B)
+propagate-ends budget n m A B h p w = propagate-ind budget n m A B (Ends n m A B)
     (λ t. absurd (not-in-empty n B h p (subst (Inside n B) (isEmpty→eq n B t) (inside-refl n B))))
-    (λ _. propagateFrom-ends budget 0 n m C R B h p w)
+    (λ _. propagateFrom-ends budget 0 n m A B h p w)
 
 pub width-limit : LargestBudget
 unfolding LargestBudget width
-width-limit s v =
-    let w : Within (s .n * 65_535) (width (s .n) (s .box)) = sum-within 65_535 (λ j. upper (s .box) j -ℤ lower (s .box) j) term (s .n) in
+width-limit M v =
+    let w : Within (M .n * 65_535) (width (M .n) (M .box)) = sum-within 65_535 (λ j. upper (M .box) j -ℤ lower (M .box) j) term (M .n) in
     let f = v .few in
     (omega zwithin, omega zwithin)
   where
-    term : (j : ℕ) → Within 65_535 (upper (s .box) j -ℤ lower (s .box) j)
+    term : (j : ℕ) → Within 65_535 (upper (M .box) j -ℤ lower (M .box) j)
     term j =
         let a = v .box .range (2 * j) in
         let b = v .box .range (2 * j + 1) in
-        within! 65_535 (upper (s .box) j -ℤ lower (s .box) j) (omega (zarith, sub-parts (upper (s .box) j) (lower (s .box) j)))
+        within! 65_535 (upper (M .box) j -ℤ lower (M .box) j) (omega (zarith, sub-parts (upper (M .box) j) (lower (M .box) j)))
 
 pub greatest-unique : UniqueGreatest
 unfolding UniqueGreatest
-greatest-unique n m C R B P Q p q =
+greatest-unique n m A B P Q p q =
     inside-antisymm (p .fixpoint .nonEmpty) (q .fixpoint .nonEmpty) (q .greatest P (p .fixpoint) (p .inside)) (p .greatest Q (q .fixpoint) (q .inside))
 
 abbrev one-side : ProbeEnding → Bool
@@ -144,33 +144,33 @@ not-both e q t = subst (λ (c : ProbeEnding). T (one-side c)) (q .1) t
 
 -- ---- whether both sides of k span the box, by propagating them with such a budget
 
-module _ (budget n m : ℕ) (C R B : List ℤ) (h : 0 < n) (p : NonEmpty n B) (w : width n B <ℤ pos budget) (k : ℕ) (f : T (isFree B k)) where
+module _ (budget n m : ℕ) (A : Rows) (B : List ℤ) (h : 0 < n) (p : NonEmpty n B) (w : width n B <ℤ pos budget) (k : ℕ) (f : T (isFree B k)) where
   -- both sides are feasible, and the smallest box that contains their results is B
   abbrev pub Spanned : Type 0
   Spanned =
-      T (not (isNone (propagate budget n m C R (fix n B k 0) .ending)))
-      × T (not (isNone (propagate budget n m C R (fix n B k 1) .ending)))
-      × (hull n (propagate budget n m C R (fix n B k 0) .box) (propagate budget n m C R (fix n B k 1) .box) ≡ B)
+      T (not (isNone (propagate budget n m A (fix n B k 0) .ending)))
+      × T (not (isNone (propagate budget n m A (fix n B k 1) .ending)))
+      × (hull n (propagate budget n m A (fix n B k 0) .box) (propagate budget n m A (fix n B k 1) .box) ≡ B)
 
-  side-ends : (v : ℕ) → v < 2 → Ends n m C R (fix n B k v) (propagate budget n m C R (fix n B k v))
+  side-ends : (v : ℕ) → v < 2 → Ends n m A (fix n B k v) (propagate budget n m A (fix n B k v))
   unfolding EnoughPasses
   side-ends v b =
       let i : width n (fix n B k v) ≤ℤ width n B = width-mono (fix-inside k v f b) in
-      propagate-ends budget n m C R (fix n B k v) h (fix-nonEmpty k v p) (omega zarith)
+      propagate-ends budget n m A (fix n B k v) h (fix-nonEmpty k v p) (omega zarith)
 
-  side-greatest : (v : ℕ) → v < 2 → {Q : List ℤ} → GreatestFixpoint n m C R (fix n B k v) Q
-      → T (not (isNone (propagate budget n m C R (fix n B k v) .ending))) × (propagate budget n m C R (fix n B k v) .box ≡ Q)
+  side-greatest : (v : ℕ) → v < 2 → {Q : List ℤ} → GreatestFixpoint n m A (fix n B k v) Q
+      → T (not (isNone (propagate budget n m A (fix n B k v) .ending))) × (propagate budget n m A (fix n B k v) .box ≡ Q)
   unfolding UniqueGreatest
   side-greatest v b {Q} g =
       let e = side-ends v b in
-      let t = not-T (isNone (propagate budget n m C R (fix n B k v) .ending)) (λ t. e .none t Q (g .fixpoint) (g .inside)) in
-      (t, greatest-unique n m C R (fix n B k v) _ Q (e .greatest t) g)
+      let t = not-T (isNone (propagate budget n m A (fix n B k v) .ending)) (λ t. e .none t Q (g .fixpoint) (g .inside)) in
+      (t, greatest-unique n m A (fix n B k v) _ Q (e .greatest t) g)
 
-  pub span-iff : Spanned ↔ SidesSpan n m C R B k
+  pub span-iff : Spanned ↔ SidesSpan n m A B k
   span-iff = (
     (λ s. record {
-      q0 = propagate budget n m C R (fix n B k 0) .box;
-      q1 = propagate budget n m C R (fix n B k 1) .box;
+      q0 = propagate budget n m A (fix n B k 0) .box;
+      q1 = propagate budget n m A (fix n B k 1) .box;
       greatest0 = side-ends 0 (omega arith) .greatest (s .0);
       greatest1 = side-ends 1 (omega arith) .greatest (s .1);
       span = s .2;
@@ -181,12 +181,12 @@ module _ (budget n m : ℕ) (C R B : List ℤ) (h : 0 < n) (p : NonEmpty n B) (w
   )
 
   -- a probe with that budget answers Both and leaves the box exactly then
-  pub both-iff : (t : List ℕ) → let r = probe k budget n m C R B t in (((a : ℕ) × (r .ending ≡ bothFeasible a)) × (r .box ≡ B)) ↔ Spanned
-  both-iff t = probe-ind k budget n m C R B t (λ r. (((a : ℕ) × (r .ending ≡ bothFeasible a)) × (r .box ≡ B)) ↔ Spanned)
+  pub both-iff : (t : List ℕ) → let r = probe k budget n m A B t in (((a : ℕ) × (r .ending ≡ bothFeasible a)) × (r .box ≡ B)) ↔ Spanned
+  both-iff t = probe-ind k budget n m A B t (λ r. (((a : ℕ) × (r .ending ≡ bothFeasible a)) × (r .box ≡ B)) ↔ Spanned)
       (λ e. absurd (T-not (isEmpty n B) (false→T (isEmpty n B) (nonEmpty-isn't h p)) e))
-      (λ _ x _. ((λ q. absurd (not-both infeasible (q .0) tt)), (λ s. absurd (T-not (isNone (propagate budget n m C R (fix n B k 0) .ending)) (s .0) x))))
-      (λ _ x _. ((λ q. absurd (not-both (fixed 1) (q .0) tt)), (λ s. absurd (T-not (isNone (propagate budget n m C R (fix n B k 0) .ending)) (s .0) x))))
-      (λ _ _ y. ((λ q. absurd (not-both (fixed 0) (q .0) tt)), (λ s. absurd (T-not (isNone (propagate budget n m C R (fix n B k 1) .ending)) (s .1) y))))
+      (λ _ x _. ((λ q. absurd (not-both infeasible (q .0) tt)), (λ s. absurd (T-not (isNone (propagate budget n m A (fix n B k 0) .ending)) (s .0) x))))
+      (λ _ x _. ((λ q. absurd (not-both (fixed 1) (q .0) tt)), (λ s. absurd (T-not (isNone (propagate budget n m A (fix n B k 0) .ending)) (s .0) x))))
+      (λ _ _ y. ((λ q. absurd (not-both (fixed 0) (q .0) tt)), (λ s. absurd (T-not (isNone (propagate budget n m A (fix n B k 1) .ending)) (s .1) y))))
       (λ _ x y. ((λ q. (x, y, q .1)), (λ s. ((_, refl), s .2))))
 
 -- ---- the test of the rest call
@@ -198,81 +198,81 @@ implies-test : (a b : Bool) {P : Type 0} → (T a → T b ↔ P) → T (not a ||
 implies-test true b d = ((λ t _. d tt .0 t), (λ g. d tt .1 (g tt)))
 implies-test false b d = ((λ _ z. absurd z), (λ _. tt))
 
-module _ (n m : ℕ) (C R B : List ℤ) where
-  pub fixpoint-test : NonEmpty n B → T (isFixpoint n m C R B) ↔ Fixpoint n m C R B
+module _ (n m : ℕ) (A : Rows) (B : List ℤ) where
+  pub fixpoint-test : NonEmpty n B → T (isFixpoint n m A B) ↔ Fixpoint n m A B
   unfolding isFixpoint
   fixpoint-test p =
-      let d = all-test m (λ i. sameList (propagateRow n (rowOf n C i) (at R i) B .box) B) (λ i. sameList-test (propagateRow n (rowOf n C i) (at R i) B .box) B) in
+      let d = all-test m (λ i. sameList (propagateRowOf n (rowAt n A i) B .box) B) (λ i. sameList-test (propagateRowOf n (rowAt n A i) B .box) B) in
       ((λ t. record { nonEmpty = p; same = d .0 t }), (λ q. d .1 (q .same)))
 
   module _ (h : 0 < n) (p : NonEmpty n B) (w : width n B <ℤ pos maxBudget) where
-    pub span-test : (k : ℕ) → T (isFree B k) → T (sidesSpan n m C R B k) ↔ SidesSpan n m C R B k
+    pub span-test : (k : ℕ) → T (isFree B k) → T (sidesSpan n m A B k) ↔ SidesSpan n m A B k
     unfolding sidesSpan
     span-test k f =
-        let a = not (isNone (propagate maxBudget n m C R (fix n B k 0) .ending)) in
-        let b = not (isNone (propagate maxBudget n m C R (fix n B k 1) .ending)) in
-        let H = hull n (propagate maxBudget n m C R (fix n B k 0) .box) (propagate maxBudget n m C R (fix n B k 1) .box) in
+        let a = not (isNone (propagate maxBudget n m A (fix n B k 0) .ending)) in
+        let b = not (isNone (propagate maxBudget n m A (fix n B k 1) .ending)) in
+        let H = hull n (propagate maxBudget n m A (fix n B k 0) .box) (propagate maxBudget n m A (fix n B k 1) .box) in
         let d = all-three a b (sameList H B) ((λ t. t), (λ t. t)) ((λ t. t), (λ t. t)) (sameList-test H B) in
-        let e = span-iff maxBudget n m C R B h p w k f in
+        let e = span-iff maxBudget n m A B h p w k f in
         ((λ t. e .0 (d .0 t)), (λ s. d .1 (e .1 s)))
 
-    spans-test : T (all n (λ k. not (isFree B k) || sidesSpan n m C R B k)) ↔ ((k : ℕ) → k < n → T (isFree B k) → SidesSpan n m C R B k)
-    spans-test = all-test n _ (λ k. implies-test (isFree B k) (sidesSpan n m C R B k) (span-test k))
+    spans-test : T (all n (λ k. not (isFree B k) || sidesSpan n m A B k)) ↔ ((k : ℕ) → k < n → T (isFree B k) → SidesSpan n m A B k)
+    spans-test = all-test n _ (λ k. implies-test (isFree B k) (sidesSpan n m A B k) (span-test k))
 
-    probed-test : T (isFixpoint n m C R B && all n (λ k. not (isFree B k) || sidesSpan n m C R B k)) ↔ ProbedFixpoint n m C R B
+    probed-test : T (isFixpoint n m A B && all n (λ k. not (isFree B k) || sidesSpan n m A B k)) ↔ ProbedFixpoint n m A B
     probed-test =
-        let d = both (isFixpoint n m C R B) (all n (λ k. not (isFree B k) || sidesSpan n m C R B k)) (fixpoint-test p) spans-test in
+        let d = both (isFixpoint n m A B) (all n (λ k. not (isFree B k) || sidesSpan n m A B k)) (fixpoint-test p) spans-test in
         ((λ t. let q = d .0 t in record { fixpoint = q .0; spans = q .1 }), (λ q. d .1 (q .fixpoint, q .spans)))
 
 pub rest-test : RestIsTested
 unfolding RestIsTested LargestBudget ProbingFixpoint isProbingFixpoint
 rest-test s v = (
-  (λ t. ⊎-elim (λ e. inl (isEmpty→eq (s .n) (s .box) e)) (λ u. not-empty u (v .box .shape)) (or-cases E X t)),
-  ⊎-elim (λ e. or-inl E X (true→T E (empty-is (s .n) (s .box) e))) (λ q. or-inr E X (test (q .fixpoint .nonEmpty) .1 q)),
+  (λ t. ⊎-elim (λ e. inl (isEmpty→eq (s .model .n) (s .model .box) e)) (λ u. not-empty u (v .box .shape)) (or-cases E X t)),
+  ⊎-elim (λ e. or-inl E X (true→T E (empty-is (s .model .n) (s .model .box) e))) (λ q. or-inr E X (test (q .fixpoint .nonEmpty) .1 q)),
 )
   where
     E : Bool
-    E = isEmpty (s .n) (s .box)
+    E = isEmpty (s .model .n) (s .model .box)
 
     X : Bool
-    X = isFixpoint (s .n) (s .m) (s .coefs) (s .rhs) (s .box)
-        && all (s .n) (λ k. not (isFree (s .box) k) || sidesSpan (s .n) (s .m) (s .coefs) (s .rhs) (s .box) k)
+    X = isFixpoint (s .model .n) (s .model .m) (s .model .rows) (s .model .box)
+        && all (s .model .n) (λ k. not (isFree (s .model .box) k) || sidesSpan (s .model .n) (s .model .m) (s .model .rows) (s .model .box) k)
 
-    test : NonEmpty (s .n) (s .box) → T X ↔ ProbedFixpoint (s .n) (s .m) (s .coefs) (s .rhs) (s .box)
-    test p = probed-test (s .n) (s .m) (s .coefs) (s .rhs) (s .box) (v .some) p (width-limit s v .1)
+    test : NonEmpty (s .model .n) (s .model .box) → T X ↔ ProbedFixpoint (s .model .n) (s .model .m) (s .model .rows) (s .model .box)
+    test p = probed-test (s .model .n) (s .model .m) (s .model .rows) (s .model .box) (v .some) p (width-limit (s .model) v .1)
 
-    not-empty : T X → (s .box ≡ emptyBox (s .n)) ⊎ NonEmpty (s .n) (s .box)
-        → (s .box ≡ emptyBox (s .n)) ⊎ ProbedFixpoint (s .n) (s .m) (s .coefs) (s .rhs) (s .box)
+    not-empty : T X → (s .model .box ≡ emptyBox (s .model .n)) ⊎ NonEmpty (s .model .n) (s .model .box)
+        → (s .model .box ≡ emptyBox (s .model .n)) ⊎ ProbedFixpoint (s .model .n) (s .model .m) (s .model .rows) (s .model .box)
     not-empty u (inl e) = inl e
     not-empty u (inr p) = inr (test p .0 u)
 
 -- ---- rest in the demand's own words
 
-module _ (s : State) (v : ValidModelOf s) where
-  both-rest : (p : NonEmpty (s .n) (s .box)) (k : ℕ) → T (isFree (s .box) k)
-      → let r = probe k maxBudget (s .n) (s .m) (s .coefs) (s .rhs) (s .box) (s .table) in
-      (((a : ℕ) × (r .ending ≡ bothFeasible a)) × (r .box ≡ s .box)) ↔ SidesSpan (s .n) (s .m) (s .coefs) (s .rhs) (s .box) k
+module _ (s : State) (v : ValidModel (s .model)) where
+  both-rest : (p : NonEmpty (s .model .n) (s .model .box)) (k : ℕ) → T (isFree (s .model .box) k)
+      → let r = probe k maxBudget (s .model .n) (s .model .m) (s .model .rows) (s .model .box) (s .table) in
+      (((a : ℕ) × (r .ending ≡ bothFeasible a)) × (r .box ≡ s .model .box)) ↔ SidesSpan (s .model .n) (s .model .m) (s .model .rows) (s .model .box) k
   unfolding LargestBudget
   both-rest p k f =
-      let w = width-limit s v .1 in
-      let d = both-iff maxBudget (s .n) (s .m) (s .coefs) (s .rhs) (s .box) (v .some) p w k f (s .table) in
-      let e = span-iff maxBudget (s .n) (s .m) (s .coefs) (s .rhs) (s .box) (v .some) p w k f in
+      let w = width-limit (s .model) v .1 in
+      let d = both-iff maxBudget (s .model .n) (s .model .m) (s .model .rows) (s .model .box) (v .some) p w k f (s .table) in
+      let e = span-iff maxBudget (s .model .n) (s .model .m) (s .model .rows) (s .model .box) (v .some) p w k f in
       ((λ q. e .0 (d .0 q)), (λ q. d .1 (e .1 q)))
 
-  rest→nothing-moves : ProbedFixpoint (s .n) (s .m) (s .coefs) (s .rhs) (s .box) → NothingMoves s
+  rest→nothing-moves : ProbedFixpoint (s .model .n) (s .model .m) (s .model .rows) (s .model .box) → NothingMoves s
   rest→nothing-moves q = let p = q .fixpoint .nonEmpty in record {
     nonEmpty = p;
-    visits = λ i im. ap (λ (r : Propagated). r .outcome) (stable→same (v .some) p (box→stable (v .some) p (q .fixpoint .same i im)));
+    rowsLeave = λ i im. ap (λ (r : PropagatedRow). r .outcome) (stable→same (v .some) p (box→stable (v .some) p (q .fixpoint .same i im)));
     bothSides = λ k kn f. both-rest p k f .1 (q .spans k kn f) .0;
     probesLeave = λ k kn f. both-rest p k f .1 (q .spans k kn f) .1;
   }
 
-  nothing-moves→rest : NothingMoves s → ProbedFixpoint (s .n) (s .m) (s .coefs) (s .rhs) (s .box)
+  nothing-moves→rest : NothingMoves s → ProbedFixpoint (s .model .n) (s .model .m) (s .model .rows) (s .model .box)
   unfolding isInfeasible isChanged
   nothing-moves→rest q = let p = q .nonEmpty in record {
     fixpoint = record {
       nonEmpty = p;
-      same = λ i im. propagate-row-unchanged (rowOf (s .n) (s .coefs) i) (at (s .rhs) i) p (rw (q .visits i im) tt) (rw (q .visits i im) tt);
+      same = λ i im. propagate-row-unchanged (rowAt (s .model .n) (s .model .rows) i .coefs) (rowAt (s .model .n) (s .model .rows) i .rhs) p (rw (q .rowsLeave i im) tt) (rw (q .rowsLeave i im) tt);
     };
     spans = λ k kn f. both-rest p k f .0 (q .bothSides k kn f, q .probesLeave k kn f);
   }

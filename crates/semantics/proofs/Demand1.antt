@@ -13,16 +13,17 @@ use native.Mathlib.Omega.{arith}
 use Rattle.integer.proofs.IndexLaws.{all-test}
 use Rattle.integer.proofs.Tests.{and-l, and-r, both, cond-ind, eqb-test, le-test, leb-test, ltb-test, neqb→ne, or-test, when-test}
 use Rattle.model.specs.Box.{isEmpty, isFree, lower, upper}
-use Rattle.model.specs.Checks.{Check, bits, first, inRange, lengthChecks, must, numberChecks, ordered, sizeChecks, tableByteChecks, tableLengthChecks}
+use Rattle.model.specs.Checks.{Check, bits, first, inRange, lengthChecks, modelChecks, must, numberChecks, ordered, sizeChecks, tableByteChecks, tableLengthChecks}
 use Rattle.model.specs.Limits.{maxBound, maxCoef, maxRhs, maxRows, maxVariables, minBound, minCoef, minRhs}
+use Rattle.model.specs.State.{State}
 use Rattle.model.proofs.BoxLaws.{isEmpty-test}
 use Rattle.model.proofs.CheckLaws.{Hold, bits-test, first-none, inRange-test, length-test, size-test}
-use Rattle.semantics.specs.CallChecks.{callChecks, callFault, lentChecks, lentTable, maxBudget, recordChecks, stateChecks}
+use Rattle.semantics.specs.Call.{Call, Kind, hasBudget, hasRow, hasTable, hasVariable, isUnknown, kindOf, probing, propagation, removal, rowPropagation, tightening, unknown}
+use Rattle.semantics.specs.CallChecks.{callChecks, callFault, givenModel, isLent, lentTable, maxBudget, recordChecks}
 use Rattle.semantics.specs.Demand1.{Demand1, LengthsFit, Passes}
 use Rattle.semantics.specs.Perform.{Answer, Performed, act, perform, refused}
 use Rattle.semantics.specs.Run.{isRefused}
-use Rattle.semantics.specs.State.{Call, Kind, State, hasBudget, hasRow, hasTable, hasVariable, isOther, kindOf, lengthsOf, other, probes, propagates, propagatesRow, removes, tightens}
-use Rattle.semantics.proofs.Accepted.{accepted, isLent, lent-test}
+use Rattle.semantics.proofs.Accepted.{accepted, lent-test}
 
 -- ---- a list of checks in the order of their numbers
 
@@ -68,52 +69,53 @@ first-fails (must false number ∷ checks) n p = p .0 refl
 abbrev flatChecks : Kind → State → Call → List Check
 flatChecks k s c =
     must (leb 1 (c .n) && leb (c .n) maxVariables && leb (c .m) maxRows) 3
-    ∷ must (isLent k s c) 5
-    ∷ must (eqb (length (s .box)) (2 * c .n) && eqb (length (s .coefs)) (c .m * c .n) && eqb (length (s .rhs)) (c .m)) 5
+    ∷ must (eqb (length (s .model .box)) (2 * c .n) && eqb (length (s .model .rows .coefs)) (c .m * c .n) && eqb (length (s .model .rows .rhs)) (c .m)) 5
     ∷ must (not (hasTable k) || eqb (length (s .table)) (4 * (c .n * c .n))) 5
-    ∷ must (inRange minBound maxBound (s .box)) 6
-    ∷ must (isEmpty (c .n) (s .box) || ordered (s .box)) 7
-    ∷ must (inRange minCoef maxCoef (s .coefs)) 8
-    ∷ must (inRange minRhs maxRhs (s .rhs)) 9
+    ∷ must (isLent k s c) 5
+    ∷ must (inRange minBound maxBound (s .model .box)) 6
+    ∷ must (isEmpty (c .n) (s .model .box) || ordered (s .model .box)) 7
+    ∷ must (inRange minCoef maxCoef (s .model .rows .coefs)) 8
+    ∷ must (inRange minRhs maxRhs (s .model .rows .rhs)) 9
     ∷ must (not (hasTable k) || bits (s .table)) 10
-    ∷ must (not (isOther k)) 11
-    ∷ must (not (hasRow k) || ltb (c .row) (s .m)) 12
-    ∷ must (not (hasVariable k) || ltb (c .variable) (s .n)) 13
-    ∷ must (not (hasVariable k) || (isEmpty (s .n) (s .box) || isFree (s .box) (c .variable))) 14
+    ∷ must (not (isUnknown k)) 11
+    ∷ must (not (hasRow k) || ltb (c .row) (s .model .m)) 12
+    ∷ must (not (hasVariable k) || ltb (c .variable) (s .model .n)) 13
+    ∷ must (not (hasVariable k) || (isEmpty (s .model .n) (s .model .box) || isFree (s .model .box) (c .variable))) 14
     ∷ must (not (hasBudget k) || (leb 1 (c .budget) && leb (c .budget) maxBudget)) 15
     ∷ []
 
 flat : (k : Kind) (s : State) (c : Call) → first (callChecks k s c) ≡ first (flatChecks k s c)
-unfolding first callChecks stateChecks recordChecks sizeChecks lentChecks lengthChecks tableLengthChecks numberChecks tableByteChecks lengthsOf lentTable hasTable
-flat propagatesRow s c = refl
-flat propagates s c = refl
-flat probes s c = refl
-flat tightens s c = refl
-flat removes s c = refl
-flat other s c = refl
+unfolding first callChecks givenModel recordChecks modelChecks sizeChecks lengthChecks tableLengthChecks numberChecks tableByteChecks lentTable hasTable
+flat rowPropagation s c = refl
+flat propagation s c = refl
+flat probing s c = refl
+flat tightening s c = refl
+flat removal s c = refl
+flat unknown s c = refl
 
 lengths-test : (s : State) (c : Call)
-    → (T (isLent (kindOf (c .kind)) s c)
-    × T (eqb (length (s .box)) (2 * c .n) && eqb (length (s .coefs)) (c .m * c .n) && eqb (length (s .rhs)) (c .m))
-    × T (not (hasTable (kindOf (c .kind))) || eqb (length (s .table)) (4 * (c .n * c .n))))
+    → (T (eqb (length (s .model .box)) (2 * c .n) && eqb (length (s .model .rows .coefs)) (c .m * c .n) && eqb (length (s .model .rows .rhs)) (c .m))
+    × T (not (hasTable (kindOf (c .kind))) || eqb (length (s .table)) (4 * (c .n * c .n)))
+    × T (isLent (kindOf (c .kind)) s c))
     ↔ LengthsFit s c
+unfolding givenModel
 lengths-test s c =
     let k = kindOf (c .kind) in
     let l = lent-test k s c in
-    let d = length-test (c .n) (c .m) (s .box) (s .coefs) (s .rhs) in
+    let d = length-test (givenModel s c) in
     let t = when-test (hasTable k) _ (eqb-test (length (s .table)) (4 * (c .n * c .n))) in (
-      (λ h. let a = l .0 (h .0) in let b = d .0 (h .1) in record {
+      (λ h. let a = l .0 (h .2) in let b = d .0 (h .0) in record {
         variables = a .variables;
         rows = a .rows;
         box = (a .box, b .0);
         coefs = (a .coefs, b .1);
         rhs = (a .rhs, b .2);
-        table = λ x. (a .table x, t .0 (h .2) x);
+        table = λ x. (a .table x, t .0 (h .1) x);
       }),
       (λ f. (
-        l .1 (record { variables = f .variables; rows = f .rows; box = f .box .0; coefs = f .coefs .0; rhs = f .rhs .0; table = λ x. f .table x .0 }),
         d .1 (f .box .1, f .coefs .1, f .rhs .1),
         t .1 (λ x. f .table x .1),
+        l .1 (record { variables = f .variables; rows = f .rows; box = f .box .0; coefs = f .coefs .0; rhs = f .rhs .0; table = λ x. f .table x .0 }),
       )),
     )
 
@@ -126,10 +128,10 @@ order-test B =
 is-kind : (k i : ℕ) → 1 ≤ i → i ≤ 5 → T (eqb k i) → T true ↔ ((1 ≤ k) × (k ≤ 5))
 is-kind k i a b e = let q = eqb→eq k i e in ((λ _. (omega arith, omega arith)), (λ _. tt))
 
-kind-test : (k : ℕ) → T (not (isOther (kindOf k))) ↔ ((1 ≤ k) × (k ≤ 5))
-unfolding kindOf isOther
+kind-test : (k : ℕ) → T (not (isUnknown (kindOf k))) ↔ ((1 ≤ k) × (k ≤ 5))
+unfolding kindOf isUnknown
 kind-test k =
-    let P : Kind → Type 0 = λ q. T (not (isOther q)) ↔ ((1 ≤ k) × (k ≤ 5)) in
+    let P : Kind → Type 0 = λ q. T (not (isUnknown q)) ↔ ((1 ≤ k) × (k ≤ 5)) in
     cond-ind (eqb k 1) _ _ P (is-kind k 1 (omega arith) (omega arith)) (λ n1.
     cond-ind (eqb k 2) _ _ P (is-kind k 2 (omega arith) (omega arith)) (λ n2.
     cond-ind (eqb k 3) _ _ P (is-kind k 3 (omega arith) (omega arith)) (λ n3.
@@ -148,16 +150,16 @@ passes-test N s c =
     let k = kindOf (c .kind) in
     let t3 = size-test (c .n) (c .m) in
     let t5 = lengths-test s c in
-    let t6 = inRange-test minBound maxBound (s .box) in
-    let t7 = or-test (isEmpty (c .n) (s .box)) (ordered (s .box)) (isEmpty-test (c .n) (s .box)) (order-test (s .box)) in
-    let t8 = inRange-test minCoef maxCoef (s .coefs) in
-    let t9 = inRange-test minRhs maxRhs (s .rhs) in
+    let t6 = inRange-test minBound maxBound (s .model .box) in
+    let t7 = or-test (isEmpty (c .n) (s .model .box)) (ordered (s .model .box)) (isEmpty-test (c .n) (s .model .box)) (order-test (s .model .box)) in
+    let t8 = inRange-test minCoef maxCoef (s .model .rows .coefs) in
+    let t9 = inRange-test minRhs maxRhs (s .model .rows .rhs) in
     let t10 = when-test (hasTable k) _ (bits-test (s .table)) in
     let t11 = kind-test (c .kind) in
-    let t12 = when-test (hasRow k) _ (ltb-test (c .row) (s .m)) in
-    let t13 = when-test (hasVariable k) _ (ltb-test (c .variable) (s .n)) in
+    let t12 = when-test (hasRow k) _ (ltb-test (c .row) (s .model .m)) in
+    let t13 = when-test (hasVariable k) _ (ltb-test (c .variable) (s .model .n)) in
     let t14 = when-test (hasVariable k) _
-    (or-test (isEmpty (s .n) (s .box)) (isFree (s .box) (c .variable)) (isEmpty-test (s .n) (s .box)) ((λ t. t), (λ t. t))) in
+    (or-test (isEmpty (s .model .n) (s .model .box)) (isFree (s .model .box) (c .variable)) (isEmpty-test (s .model .n) (s .model .box)) ((λ t. t), (λ t. t))) in
     let t15 = when-test (hasBudget k) _ (both (leb 1 (c .budget)) (leb (c .budget) maxBudget) (leb-test 1 (c .budget)) (leb-test (c .budget) maxBudget)) in (
       (λ (p3, (p5, (p5′, (p5″, (p6, (p7, (p8, (p9, (p10, (p11, (p12, (p13, (p14, (p15, u)))))))))))))). record {
         check3 = λ e. t3 .0 (p3 e);
@@ -223,14 +225,14 @@ module _ (s : State) (c : Call) where
 
 -- ---- the answer
 
-act-answers : (k : Kind) (s : State) (c : Call) → T (not (isOther k)) → T (isRefused (act k s c .answer)) → ⊥
-unfolding act isOther isRefused
-act-answers propagatesRow s c o t = t
-act-answers propagates s c o t = t
-act-answers probes s c o t = t
-act-answers tightens s c o t = t
-act-answers removes s c o t = t
-act-answers other s c o t = o
+act-answers : (k : Kind) (s : State) (c : Call) → T (not (isUnknown k)) → T (isRefused (act k s c .answer)) → ⊥
+unfolding act isUnknown isRefused
+act-answers rowPropagation s c o t = t
+act-answers propagation s c o t = t
+act-answers probing s c o t = t
+act-answers tightening s c o t = t
+act-answers removal s c o t = t
+act-answers unknown s c o t = o
 
 module _ (s : State) (c : Call) where
   accepted-answers : callFault s c ≡ 0 → T (isRefused (act (kindOf (c .kind)) s c .answer)) → ⊥

@@ -7,42 +7,45 @@ use mathlib.Core.Logic.{_↔_, _≢_, ⊎-elim}
 use mathlib.Core.Path.{_≡_, ap, refl, subst, sym}
 use Rattle.integer.proofs.Tests.{decide}
 use Rattle.model.specs.Box.{at, emptyBox, isEmpty}
-use Rattle.model.specs.Point.{IntegerPoint, rowOf}
+use Rattle.model.specs.Model.{Model}
+use Rattle.model.specs.Point.{IntegerPoint}
+use Rattle.model.specs.Rows.{rowAt}
+use Rattle.model.specs.State.{State, withBox, withRow}
 use Rattle.model.proofs.BoxLaws.{isEmpty-test, not-in-empty}
 use Rattle.row.specs.Outcome.{isChanged}
 use Rattle.row.proofs.PointBox.{boxAt, in→Inside, nonEmpty-at}
 use Rattle.row.proofs.RedundancyLaws.{remove-redundant-row-infeasible, remove-redundant-row-unchanged}
 use Rattle.row.proofs.TighteningLaws.{tighten-coefficient-infeasible, tighten-coefficient-unchanged}
+use Rattle.semantics.specs.Call.{Call, Kind, hasBudget, hasRow, hasTable, hasVariable, isUnknown, kindOf, probing, propagation, removal, rowPropagation, tightening, unknown}
 use Rattle.semantics.specs.CallChecks.{callFault}
 use Rattle.semantics.specs.Demand2.{AnswersSame, Demand2, Demand2Runs, PassesWithin, Untouched, ones}
 use Rattle.semantics.specs.Perform.{Answer, Performed, act, perform, probed, propagated, propagatedRow, refused, removed, tightened}
 use Rattle.semantics.specs.Probe.{ProbeEnding, Probed, bothFeasible, fixed, infeasible, probe}
 use Rattle.semantics.specs.Run.{answersNone, step}
-use Rattle.semantics.specs.State.{Call, Kind, State, hasBudget, hasRow, hasTable, hasVariable, isOther, kindOf, other, probes, propagates, propagatesRow, removes, tightens, withBox, withRow}
 use Rattle.semantics.proofs.Accepted.{Accepted, accepted}
 use Rattle.semantics.proofs.CallLaws.{perform-accepted, propagate-row-infeasible-iff, propagate-row-same}
 use Rattle.semantics.proofs.ImplicationLaws.{recordTo-added}
 use Rattle.semantics.proofs.Preserved.{run-preserves, step-preserves}
 use Rattle.semantics.proofs.ProbeLaws.{probe-empty, probe-ind, probe-infeasible-iff, probe-passes0, probe-passes1}
 use Rattle.semantics.proofs.PropagateLaws.{propagate-infeasible-iff, propagate-passes}
-use Rattle.semantics.proofs.RowChange.{removes-untouched, tightens-untouched, withRow-same}
+use Rattle.semantics.proofs.RowChange.{removal-untouched, tightening-untouched, withRow-same}
 
 -- ---- None exactly where the box is empty afterwards
 
-act-none : (k : Kind) (s : State) (c : Call) → Accepted k s c → T (answersNone (act k s c .answer)) ↔ (act k s c .state .box ≡ emptyBox (s .n))
-unfolding act answersNone withBox withRow isOther hasVariable
-act-none propagatesRow s c a = propagate-row-infeasible-iff (rowOf (s .n) (s .coefs) (c .row)) (at (s .rhs) (c .row)) (a .model .some) (a .model .box)
-act-none propagates s c a = propagate-infeasible-iff (c .budget) (s .m) (s .coefs) (s .rhs) (a .model .some) (a .model .box)
-act-none probes s c a =
-    probe-infeasible-iff (c .variable) (c .budget) (s .m) (s .coefs) (s .rhs) (s .table) (a .free tt) (a .model .some) (a .model .box)
-act-none tightens s c a =
-    rw (tighten-coefficient-infeasible (s .n) (rowOf (s .n) (s .coefs) (c .row)) (at (s .rhs) (c .row)) (s .box) (c .variable)) (isEmpty-test (s .n) (s .box))
-act-none removes s c a =
-    rw (remove-redundant-row-infeasible (s .n) (rowOf (s .n) (s .coefs) (c .row)) (at (s .rhs) (c .row)) (s .box)) (isEmpty-test (s .n) (s .box))
-act-none other s c a = absurd (a .kind)
+act-none : (k : Kind) (s : State) (c : Call) → Accepted k s c → T (answersNone (act k s c .answer)) ↔ (act k s c .state .model .box ≡ emptyBox (s .model .n))
+unfolding act answersNone withBox withRow isUnknown hasVariable
+act-none rowPropagation s c a = propagate-row-infeasible-iff (rowAt (s .model .n) (s .model .rows) (c .row) .coefs) (rowAt (s .model .n) (s .model .rows) (c .row) .rhs) (a .model .some) (a .model .box)
+act-none propagation s c a = propagate-infeasible-iff (c .budget) (s .model .m) (s .model .rows) (a .model .some) (a .model .box)
+act-none probing s c a =
+    probe-infeasible-iff (c .variable) (c .budget) (s .model .m) (s .model .rows) (s .table) (a .free tt) (a .model .some) (a .model .box)
+act-none tightening s c a =
+    rw (tighten-coefficient-infeasible (s .model .n) (rowAt (s .model .n) (s .model .rows) (c .row) .coefs) (rowAt (s .model .n) (s .model .rows) (c .row) .rhs) (s .model .box) (c .variable)) (isEmpty-test (s .model .n) (s .model .box))
+act-none removal s c a =
+    rw (remove-redundant-row-infeasible (s .model .n) (rowAt (s .model .n) (s .model .rows) (c .row) .coefs) (rowAt (s .model .n) (s .model .rows) (c .row) .rhs) (s .model .box)) (isEmpty-test (s .model .n) (s .model .box))
+act-none unknown s c a = absurd (a .kind)
 
-pub no-point : {n m : ℕ} {B C R x : List ℤ} → 0 < n → B ≡ emptyBox n → IntegerPoint n m B C R x → ⊥
-no-point {n} {x = x} h e p = not-in-empty n (boxAt n x) h (nonEmpty-at n x) (rw e at (in→Inside (p .inside)))
+pub no-point : {M : Model} {x : List ℤ} → 0 < M .n → M .box ≡ emptyBox (M .n) → IntegerPoint M x → ⊥
+no-point {M} {x} h e p = not-in-empty (M .n) (boxAt (M .n) x) h (nonEmpty-at (M .n) x) (rw e at (in→Inside (p .inside)))
 
 -- ---- the numbers of an answer; t is the table afterwards
 
@@ -56,65 +59,65 @@ Numbers s c t (refused number) = Unit {0}
 Numbers s c t (propagatedRow o) = Unit {0}
 Numbers s c t (propagated e p) = PassesWithin (c .budget) p
 Numbers s c t (probed e s0 s1) =
-    (s .box ≢ emptyBox (s .n) → PassesWithin (c .budget) (s0 .passes) × PassesWithin (c .budget) (s1 .passes))
-    × (s .box ≡ emptyBox (s .n) → (s0 .passes ≡ 0) × (s1 .passes ≡ 0))
+    (s .model .box ≢ emptyBox (s .model .n) → PassesWithin (c .budget) (s0 .passes) × PassesWithin (c .budget) (s1 .passes))
+    × (s .model .box ≡ emptyBox (s .model .n) → (s0 .passes ≡ 0) × (s1 .passes ≡ 0))
     × Added (s .table) t e
 Numbers s c t (tightened o) = Unit {0}
 Numbers s c t (removed o) = Unit {0}
 
-module _ (s : State) (c : Call) (a : Accepted probes s c) where
+module _ (s : State) (c : Call) (a : Accepted probing s c) where
   abbrev result : Probed
-  result = probe (c .variable) (c .budget) (s .n) (s .m) (s .coefs) (s .rhs) (s .box) (s .table)
+  result = probe (c .variable) (c .budget) (s .model .n) (s .model .m) (s .model .rows) (s .model .box) (s .table)
 
   probe-numbers : Numbers s c (result .table) (probed (result .ending) (result .side0) (result .side1))
   unfolding hasBudget hasVariable hasTable
   probe-numbers = (
     (λ ne. let h = a .budget tt .0 in
-        ⊎-elim (λ t. absurd (ne (isEmpty-test (s .n) (s .box) .0 t)))
+        ⊎-elim (λ t. absurd (ne (isEmpty-test (s .model .n) (s .model .box) .0 t)))
         (λ t. (
-          probe-passes0 (c .variable) (c .budget) (s .n) (s .m) (s .coefs) (s .rhs) (s .box) (s .table) t h,
-          probe-passes1 (c .variable) (c .budget) (s .n) (s .m) (s .coefs) (s .rhs) (s .box) (s .table) t h,
+          probe-passes0 (c .variable) (c .budget) (s .model .n) (s .model .m) (s .model .rows) (s .model .box) (s .table) t h,
+          probe-passes1 (c .variable) (c .budget) (s .model .n) (s .model .m) (s .model .rows) (s .model .box) (s .table) t h,
         ))
-        (decide (isEmpty (s .n) (s .box)))),
-    (λ e. rw (e, probe-empty (c .variable) (c .budget) (s .n) (s .m) (s .coefs) (s .rhs) (s .table)) (refl, refl)),
-    probe-ind (c .variable) (c .budget) (s .n) (s .m) (s .coefs) (s .rhs) (s .box) (s .table) (λ r. Added (s .table) (r .table) (r .ending))
+        (decide (isEmpty (s .model .n) (s .model .box)))),
+    (λ e. rw (e, probe-empty (c .variable) (c .budget) (s .model .n) (s .model .m) (s .model .rows) (s .table)) (refl, refl)),
+    probe-ind (c .variable) (c .budget) (s .model .n) (s .model .m) (s .model .rows) (s .model .box) (s .table) (λ r. Added (s .table) (r .table) (r .ending))
         (λ _. tt) (λ _ _ _. tt) (λ _ _ _. tt) (λ _ _ _. tt)
-        (λ _ _ _. recordTo-added (s .n) (c .variable) (s .box) _ _ (s .table) (a .variable tt) (a .table tt)),
+        (λ _ _ _. recordTo-added (s .model .n) (c .variable) (s .model .box) _ _ (s .table) (a .variable tt) (a .table tt)),
   )
 
 act-numbers : (k : Kind) (s : State) (c : Call) → Accepted k s c → Numbers s c (act k s c .state .table) (act k s c .answer)
 unfolding act withBox withRow hasBudget
-act-numbers propagatesRow s c a = tt
-act-numbers propagates s c a = propagate-passes (s .n) (s .m) (s .coefs) (s .rhs) (c .budget) (s .box) (a .budget tt .0)
-act-numbers probes s c a = probe-numbers s c a
-act-numbers tightens s c a = tt
-act-numbers removes s c a = tt
-act-numbers other s c a = tt
+act-numbers rowPropagation s c a = tt
+act-numbers propagation s c a = propagate-passes (s .model .n) (s .model .m) (s .model .rows) (c .budget) (s .model .box) (a .budget tt .0)
+act-numbers probing s c a = probe-numbers s c a
+act-numbers tightening s c a = tt
+act-numbers removal s c a = tt
+act-numbers unknown s c a = tt
 
 -- ---- Same changes nothing, and what a kind leaves alone
 
 act-same : (k : Kind) (s : State) (c : Call) → Accepted k s c → AnswersSame (act k s c .answer) → act k s c .state ≡ s
-unfolding act AnswersSame withBox isOther isChanged
-act-same propagatesRow s c a e =
-    ap (λ (P : List ℤ). withBox s P (s .table)) (propagate-row-same (rowOf (s .n) (s .coefs) (c .row)) (at (s .rhs) (c .row)) (a .model .box) e)
-act-same propagates s c a z = absurd z
-act-same probes s c a z = absurd z
-act-same tightens s c a e =
-    let q = tighten-coefficient-unchanged (s .n) (rowOf (s .n) (s .coefs) (c .row)) (at (s .rhs) (c .row)) (s .box) (c .variable) (rw e tt) in
-    withRow-same s (c .row) _ _ (q .0) (q .1)
-act-same removes s c a e =
-    let q = remove-redundant-row-unchanged (s .n) (rowOf (s .n) (s .coefs) (c .row)) (at (s .rhs) (c .row)) (s .box) (rw e tt) in
-    withRow-same s (c .row) _ _ (q .0) (q .1)
-act-same other s c a z = absurd z
+unfolding act AnswersSame withBox isUnknown isChanged
+act-same rowPropagation s c a e =
+    ap (λ (P : List ℤ). withBox s P (s .table)) (propagate-row-same (rowAt (s .model .n) (s .model .rows) (c .row) .coefs) (rowAt (s .model .n) (s .model .rows) (c .row) .rhs) (a .model .box) e)
+act-same propagation s c a z = absurd z
+act-same probing s c a z = absurd z
+act-same tightening s c a e =
+    let q = tighten-coefficient-unchanged (s .model .n) (rowAt (s .model .n) (s .model .rows) (c .row) .coefs) (rowAt (s .model .n) (s .model .rows) (c .row) .rhs) (s .model .box) (c .variable) (rw e tt) in
+    withRow-same s (c .row) _ (q .0) (q .1)
+act-same removal s c a e =
+    let q = remove-redundant-row-unchanged (s .model .n) (rowAt (s .model .n) (s .model .rows) (c .row) .coefs) (rowAt (s .model .n) (s .model .rows) (c .row) .rhs) (s .model .box) (rw e tt) in
+    withRow-same s (c .row) _ (q .0) (q .1)
+act-same unknown s c a z = absurd z
 
 act-untouched : (k : Kind) (s : State) (c : Call) → Accepted k s c → Untouched k s c (act k s c .state)
 unfolding act Untouched withBox hasRow
-act-untouched propagatesRow s c a = (refl, refl, refl)
-act-untouched propagates s c a = (refl, refl, refl)
-act-untouched probes s c a = (refl, refl)
-act-untouched tightens s c a = tightens-untouched s c (a .model) (a .row tt)
-act-untouched removes s c a = removes-untouched s c (a .model) (a .row tt)
-act-untouched other s c a = refl
+act-untouched rowPropagation s c a = (refl, refl)
+act-untouched propagation s c a = (refl, refl)
+act-untouched probing s c a = refl
+act-untouched tightening s c a = tightening-untouched s c (a .model) (a .row tt)
+act-untouched removal s c a = removal-untouched s c (a .model) (a .row tt)
+act-untouched unknown s c a = refl
 
 -- ---- the demand
 
@@ -128,7 +131,7 @@ demand-2 s c e =
     let k = kindOf (c .kind) in
     let a = accepted s c e in
     let p = step-preserves s c in
-    let none = of-act s c e (λ r. T (answersNone (r .answer)) ↔ (r .state .box ≡ emptyBox (s .n))) (act-none k s c a) in
+    let none = of-act s c e (λ r. T (answersNone (r .answer)) ↔ (r .state .model .box ≡ emptyBox (s .model .n))) (act-none k s c a) in
     let numbers = of-act s c e (λ r. Numbers s c (r .state .table) (r .answer)) (act-numbers k s c a) in
     let with : (b : Answer) → perform s c .answer ≡ b → Numbers s c (perform s c .state .table) b =
     (λ b g. subst (Numbers s c (perform s c .state .table)) g numbers) in

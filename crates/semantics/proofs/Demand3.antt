@@ -8,14 +8,15 @@ use mathlib.Core.Logic.{_↔_, inl, inr, ⊎-elim}
 use mathlib.Core.Path.{_∙_, _≡_, refl, subst, sym}
 use native.Mathlib.Omega.{arith}
 use Rattle.model.specs.Box.{Inside}
-use Rattle.model.specs.Valid.{ValidTable}
+use Rattle.model.specs.State.{State, withBox}
+use Rattle.model.specs.Valid.{ValidModel, ValidState, ValidTable}
 use Rattle.model.proofs.BoxLaws.{inside-antisymm, inside-refl, not-in-empty}
 use Rattle.model.proofs.CheckLaws.{fault-none, table-fault-none}
+use Rattle.semantics.specs.Call.{Call, kindOf}
 use Rattle.semantics.specs.CallChecks.{callFault}
 use Rattle.semantics.specs.Fixpoint.{ProbedFixpoint, ProbingFixpoint}
-use Rattle.semantics.specs.Points.{AtRest, PointOf, TableHolds, ValidModelOf, ValidState}
+use Rattle.semantics.specs.Points.{AtRest, PointOf, TableHolds}
 use Rattle.semantics.specs.Run.{run, step}
-use Rattle.semantics.specs.State.{Call, State, kindOf, stateOf, withBox}
 use Rattle.semantics.specs.TwoRuns.{Demand3, EveryModelHandedIn, Narrows, narrows}
 use Rattle.semantics.proofs.Accepted.{accepted, handed-in-valid}
 use Rattle.semantics.proofs.CallLaws.{Narrowed, NarrowedTo, act-narrowed, narrowed-refl, step-ind}
@@ -29,19 +30,19 @@ zeros-valid n = let z : ℕ = 0 in
     record { len = length-replicate (4 * (n * n)) z; bits = λ i. let e = getD-zeros (4 * (n * n)) i in omega arith }
 
 pub handed-in : EveryModelHandedIn
-unfolding EveryModelHandedIn stateOf
-handed-in n m B C R e = record {
-  accepted = table-fault-none n m B C R (replicate (4 * (n * n)) 0) .1 (fault-none n m B C R .0 e, zeros-valid n);
+unfolding EveryModelHandedIn
+handed-in M e = record {
+  accepted = table-fault-none M (replicate (4 * (M .n * M .n)) 0) .1 (fault-none M .0 e, zeros-valid (M .n));
   zeros = refl;
 }
 
 -- ---- a run of visits, settles and probes narrows the box
 
-unchanged-narrowed : (s : State) → ValidModelOf s → NarrowedTo s s
+unchanged-narrowed : (s : State) → ValidModel (s .model) → NarrowedTo s s
 unfolding withBox
-unchanged-narrowed s v = record { box = s .box; table = s .table; is = refl; narrowed = narrowed-refl s v }
+unchanged-narrowed s v = record { box = s .model .box; table = s .table; is = refl; narrowed = narrowed-refl s v }
 
-narrowed-trans : {s r u : State} → 0 < s .n → NarrowedTo s r → NarrowedTo r u → NarrowedTo s u
+narrowed-trans : {s r u : State} → 0 < s .model .n → NarrowedTo s r → NarrowedTo r u → NarrowedTo s u
 unfolding withBox
 narrowed-trans {s} {r} {u} h p q = go (subst (λ (z : State). NarrowedTo z u) (p .is) q)
   where
@@ -61,7 +62,7 @@ narrowed-trans {s} {r} {u} h p q = go (subst (λ (z : State). NarrowedTo z u) (p
       };
     }
 
-step-narrowed : (s : State) (c : Call) → ValidModelOf s → (callFault s c ≡ 0 → T (narrows (kindOf (c .kind)))) → NarrowedTo s (step s c)
+step-narrowed : (s : State) (c : Call) → ValidModel (s .model) → (callFault s c ≡ 0 → T (narrows (kindOf (c .kind)))) → NarrowedTo s (step s c)
 step-narrowed s c v f =
     step-ind s c (NarrowedTo s) (λ e. act-narrowed (kindOf (c .kind)) s c (f e) (accepted s c e)) (unchanged-narrowed s v)
 
@@ -74,24 +75,24 @@ run-narrowed s (c ∷ cs) v p =
 -- ---- two ends of such runs from s
 
 -- a probed fixpoint at the one end lies inside the other
-inside-other : {s : State} {P Q : List ℤ} {t u : List ℕ} → 0 < s .n → Narrowed s P t → Narrowed s Q u
-    → ProbedFixpoint (s .n) (s .m) (s .coefs) (s .rhs) P → Inside (s .n) P Q
-inside-other {s} {P} h a b p = b .keeps p (narrowed-inside a h (p .fixpoint .nonEmpty) (inside-refl (s .n) P))
+inside-other : {s : State} {P Q : List ℤ} {t u : List ℕ} → 0 < s .model .n → Narrowed s P t → Narrowed s Q u
+    → ProbedFixpoint (s .model .n) (s .model .m) (s .model .rows) P → Inside (s .model .n) P Q
+inside-other {s} {P} h a b p = b .keeps p (narrowed-inside a h (p .fixpoint .nonEmpty) (inside-refl (s .model .n) P))
 
-same-box : {s : State} {P Q : List ℤ} {t u : List ℕ} → 0 < s .n → Narrowed s P t → Narrowed s Q u
-    → ProbingFixpoint (s .n) (s .m) (s .coefs) (s .rhs) P → ProbingFixpoint (s .n) (s .m) (s .coefs) (s .rhs) Q → P ≡ Q
+same-box : {s : State} {P Q : List ℤ} {t u : List ℕ} → 0 < s .model .n → Narrowed s P t → Narrowed s Q u
+    → ProbingFixpoint (s .model .n) (s .model .m) (s .model .rows) P → ProbingFixpoint (s .model .n) (s .model .m) (s .model .rows) Q → P ≡ Q
 unfolding ProbingFixpoint
 same-box h a b (inl e) (inl f) = e ∙ sym f
-same-box {s} {P} {Q} h a b (inl e) (inr q) = absurd (not-in-empty (s .n) Q h (q .fixpoint .nonEmpty) (subst (Inside (s .n) Q) e (inside-other h b a q)))
-same-box {s} {P} {Q} h a b (inr p) (inl f) = absurd (not-in-empty (s .n) P h (p .fixpoint .nonEmpty) (subst (Inside (s .n) P) f (inside-other h a b p)))
+same-box {s} {P} {Q} h a b (inl e) (inr q) = absurd (not-in-empty (s .model .n) Q h (q .fixpoint .nonEmpty) (subst (Inside (s .model .n) Q) e (inside-other h b a q)))
+same-box {s} {P} {Q} h a b (inr p) (inl f) = absurd (not-in-empty (s .model .n) P h (p .fixpoint .nonEmpty) (subst (Inside (s .model .n) P) f (inside-other h a b p)))
 same-box h a b (inr p) (inr q) =
     inside-antisymm (p .fixpoint .nonEmpty) (q .fixpoint .nonEmpty) (inside-other h a b p) (inside-other h b a q)
 
 -- at rest is judged with the rows of the state, which are those of s
-same-end : {s r u : State} → 0 < s .n → NarrowedTo s r → NarrowedTo s u → AtRest r → (r .box ≡ u .box) ↔ AtRest u
+same-end : {s r u : State} → 0 < s .model .n → NarrowedTo s r → NarrowedTo s u → AtRest r → (r .model .box ≡ u .model .box) ↔ AtRest u
 unfolding withBox
 same-end {s} {r} {u} h a b = rw (a .is, b .is) (λ p. (
-  (λ e. subst (ProbingFixpoint (s .n) (s .m) (s .coefs) (s .rhs)) e p),
+  (λ e. subst (ProbingFixpoint (s .model .n) (s .model .m) (s .model .rows)) e p),
   (λ q. same-box h (a .narrowed) (b .narrowed) p q),
 ))
 
@@ -103,8 +104,8 @@ demand-3 s before one two g p1 p2 =
     let k = run-preserves s before in
     let v = k .valid (handed-in-valid s g) in
     let ends : (cs : List Call) → Preserves s (run (run s before) cs) = (λ cs. preserves-trans k (run-preserves (run s before) cs)) in
-    let implied : (cs : List Call) (x : List ℤ) → PointOf s x → TableHolds (s .n) (run (run s before) cs .table) x =
-    (λ cs x p. rw (ends cs .sizes .0) at (ends cs .holds x p (rw (g .zeros) (zeros-hold (s .n) (4 * (s .n * s .n)) x)))) in
+    let implied : (cs : List Call) (x : List ℤ) → PointOf s x → TableHolds (s .model .n) (run (run s before) cs .table) x =
+    (λ cs x p. rw (ends cs .sizes .0) at (ends cs .holds x p (rw (g .zeros) (zeros-hold (s .model .n) (4 * (s .model .n * s .model .n)) x)))) in
     record {
       sameEnd = same-end (v .model .some) (run-narrowed (run s before) one v p1) (run-narrowed (run s before) two v p2);
       points1 = ends one .points;

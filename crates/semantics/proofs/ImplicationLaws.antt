@@ -18,10 +18,10 @@ use Rattle.integer.proofs.Tests.{and-l, and-r, cond-ind, decide, eqZ→eq, eq�
 use Rattle.model.specs.Box.{at, isFree, lower, upper}
 use Rattle.model.specs.Point.{InBox}
 use Rattle.model.specs.Valid.{ValidTable}
+use Rattle.model.proofs.RowsLaws.{index-lt}
 use Rattle.semantics.specs.Demand2.{ones}
 use Rattle.semantics.specs.Points.{ImplicationHolds, LiteralTrue, Recorded, TableHolds}
 use Rattle.semantics.specs.Probe.{Table, byteOf, implies, isFixed, literal, put, recordSide, recordTo}
-use Rattle.semantics.proofs.RowChange.{index-lt}
 
 -- ---- the bytes of different implications are different
 

@@ -2,14 +2,18 @@
 -- hold; and no fractional point is added.
 use Prim.Native.Nat.{_<_, ℕ}
 use lib.IntN.{pos, ℤ}
+use lib.ListN.{length}
 use mathlib.Core.List.{List, [], _∷_}
 use mathlib.Core.Logic.{Iff·trans, _↔_, ⊎-elim}
 use mathlib.Core.Path.{_∙_, _≡_, refl, subst, sym}
 use Rattle.integer.proofs.Parts.{mul-mono, zarith}
-use Rattle.model.specs.Box.{Inside, NonEmpty, at}
-use Rattle.model.specs.Point.{InBoxOver, rowOf}
-use Rattle.model.specs.Valid.{ValidBox}
+use Rattle.model.specs.Box.{Inside, NonEmpty}
+use Rattle.model.specs.Point.{InBoxOver}
+use Rattle.model.specs.Rows.{Row, rowAt}
+use Rattle.model.specs.State.{State, withBox, withRow}
+use Rattle.model.specs.Valid.{ValidBox, ValidModel, ValidState}
 use Rattle.model.proofs.BoxLaws.{inside-trans, not-in-empty, ≤ℤ-trans}
+use Rattle.model.proofs.RowsLaws.{length-rowOf}
 use Rattle.row.specs.ValidRow.{ValidRow}
 use Rattle.row.proofs.ImpliedBoxLaws.{valid-empty, valid-inside}
 use Rattle.row.proofs.PointBox.{Inside→in, in→Inside, nonEmpty-at}
@@ -17,20 +21,20 @@ use Rattle.row.proofs.PropagationLaws.{empty-no-point}
 use Rattle.row.proofs.RedundancyLaws.{remove-redundant-row-replaces, remove-redundant-row-valid}
 use Rattle.row.proofs.Replacement.{Replaces}
 use Rattle.row.proofs.TighteningLaws.{tighten-coefficient-replaces, tighten-coefficient-valid}
+use Rattle.semantics.specs.Call.{Call, Kind, hasRow, hasVariable, isUnknown, kindOf, probing, propagation, removal, rowPropagation, tightening, unknown}
 use Rattle.semantics.specs.Perform.{act}
-use Rattle.semantics.specs.Points.{FractionalPointOf, PointOf, TableHolds, ValidModelOf, ValidState}
+use Rattle.semantics.specs.Points.{FractionalPointOf, PointOf, TableHolds}
 use Rattle.semantics.specs.Run.{run, step}
-use Rattle.semantics.specs.State.{Call, Kind, State, hasRow, hasVariable, isOther, kindOf, other, probes, propagates, propagatesRow, removes, tightens, withBox, withRow}
 use Rattle.semantics.specs.TwoRuns.{narrows}
 use Rattle.semantics.proofs.Accepted.{Accepted, accepted}
 use Rattle.semantics.proofs.CallLaws.{Narrowed, NarrowedTo, act-narrowed, point-probed, step-ind}
-use Rattle.semantics.proofs.RowChange.{length-rowOf, row-valid, withRow-fractional, withRow-points, withRow-valid}
+use Rattle.semantics.proofs.RowChange.{row-valid, withRow-fractional, withRow-points, withRow-valid}
 
 pub record Preserves (s r : State) : Type 0 where
-  pub sizes : (r .n ≡ s .n) × (r .m ≡ s .m)
+  pub sizes : (r .model .n ≡ s .model .n) × (r .model .m ≡ s .model .m)
   pub points : (x : List ℤ) → PointOf r x ↔ PointOf s x
   pub fractional : (x : List ℤ) (d : ℕ) → FractionalPointOf r x d → FractionalPointOf s x d
-  pub holds : (x : List ℤ) → PointOf s x → TableHolds (s .n) (s .table) x → TableHolds (r .n) (r .table) x
+  pub holds : (x : List ℤ) → PointOf s x → TableHolds (s .model .n) (s .table) x → TableHolds (r .model .n) (r .table) x
   pub valid : ValidState s → ValidState r
 
 preserves-refl : (s : State) → Preserves s s
@@ -56,22 +60,22 @@ inBoxOver-inside {d = d} i o = record {
 
 module _ {s : State} {P : List ℤ} {t : List ℕ} (w : Narrowed s P t) where
   -- what is inside the new box was inside the old one
-  pub narrowed-inside : {Q : List ℤ} → 0 < s .n → NonEmpty (s .n) Q → Inside (s .n) Q P → Inside (s .n) Q (s .box)
+  pub narrowed-inside : {Q : List ℤ} → 0 < s .model .n → NonEmpty (s .model .n) Q → Inside (s .model .n) Q P → Inside (s .model .n) Q (s .model .box)
   narrowed-inside {Q} h p i =
-      ⊎-elim (λ e. absurd (not-in-empty (s .n) Q h p (subst (Inside (s .n) Q) e i))) (λ q. inside-trans i (q .1)) (w .box)
+      ⊎-elim (λ e. absurd (not-in-empty (s .model .n) Q h p (subst (Inside (s .model .n) Q) e i))) (λ q. inside-trans i (q .1)) (w .box)
 
-  pub narrowed-points : 0 < s .n → (x : List ℤ) → PointOf (withBox s P t) x ↔ PointOf s x
+  pub narrowed-points : 0 < s .model .n → (x : List ℤ) → PointOf (withBox s P t) x ↔ PointOf s x
   unfolding withBox
   narrowed-points h x = (
     (λ p. record {
       len = p .len;
-      inside = Inside→in (s .n) (s .box) x (narrowed-inside h (nonEmpty-at (s .n) x) (in→Inside (p .inside)));
+      inside = Inside→in (s .model .n) (s .model .box) x (narrowed-inside h (nonEmpty-at (s .model .n) x) (in→Inside (p .inside)));
       rows = p .rows;
     }),
-    (λ p. record { len = p .len; inside = Inside→in (s .n) P x (w .keeps (point-probed s x h p) (in→Inside (p .inside))); rows = p .rows }),
+    (λ p. record { len = p .len; inside = Inside→in (s .model .n) P x (w .keeps (point-probed s x h p) (in→Inside (p .inside))); rows = p .rows }),
   )
 
-  narrowed-fractional : 0 < s .n → (x : List ℤ) (d : ℕ) → FractionalPointOf (withBox s P t) x d → FractionalPointOf s x d
+  narrowed-fractional : 0 < s .model .n → (x : List ℤ) (d : ℕ) → FractionalPointOf (withBox s P t) x d → FractionalPointOf s x d
   unfolding withBox
   narrowed-fractional h x d p = record {
     len = p .len;
@@ -87,7 +91,7 @@ module _ {s : State} {P : List ℤ} {t : List ℕ} (w : Narrowed s P t) where
       some = o .some;
       few = o .few;
       fewRows = o .fewRows;
-      box = ⊎-elim (λ e. subst (ValidBox (s .n)) (sym e) (valid-empty (s .n))) (λ q. valid-inside (o .box) (q .0) (q .1)) (w .box);
+      box = ⊎-elim (λ e. subst (ValidBox (s .model .n)) (sym e) (valid-empty (s .model .n))) (λ q. valid-inside (o .box) (q .0) (q .1)) (w .box);
       coefsLen = o .coefsLen;
       coefs = o .coefs;
       rhsLen = o .rhsLen;
@@ -96,7 +100,7 @@ module _ {s : State} {P : List ℤ} {t : List ℕ} (w : Narrowed s P t) where
     table = w .table (v .table);
   }
 
-narrowed-preserves : {s r : State} → 0 < s .n → NarrowedTo s r → Preserves s r
+narrowed-preserves : {s r : State} → 0 < s .model .n → NarrowedTo s r → Preserves s r
 unfolding withBox
 narrowed-preserves {s} h w = subst (Preserves s) (sym (w .is)) (record {
   sizes = (refl, refl);
@@ -108,47 +112,53 @@ narrowed-preserves {s} h w = subst (Preserves s) (sym (w .is)) (record {
 
 -- ---- a sharpen, a drop
 
-row-preserves : (s : State) (r : ℕ) (A : List ℤ) (b : ℤ) → ValidModelOf s → r < s .m
-    → Replaces (s .n) (rowOf (s .n) (s .coefs) r) (at (s .rhs) r) A b (s .box) → ValidRow (s .n) A b (s .box) → Preserves s (withRow s r A b)
+row-preserves : (s : State) (i : ℕ) (r : Row) → ValidModel (s .model) → i < s .model .m
+    → let old = rowAt (s .model .n) (s .model .rows) i in
+    Replaces (s .model .n) (old .coefs) (old .rhs) (r .coefs) (r .rhs) (s .model .box)
+    → ValidRow (s .model .n) (r .coefs) (r .rhs) (s .model .box) → Preserves s (withRow s i r)
 unfolding withRow
-row-preserves s r A b v rm w y = record {
+row-preserves s i r v im w y = record {
   sizes = (refl, refl);
-  points = withRow-points s r A b v rm w;
-  fractional = withRow-fractional s r A b v rm w;
-  holds = λ x p i. i;
-  valid = λ u. record { model = withRow-valid s r A b v rm y; table = u .table };
+  points = withRow-points s i r v im w;
+  fractional = withRow-fractional s i r v im w;
+  holds = λ x p q. q;
+  valid = λ u. record { model = withRow-valid s i r v im y; table = u .table };
 }
 
 module _ (s : State) (c : Call) where
-  tighten-preserves : Accepted tightens s c → Preserves s (act tightens s c .state)
+  abbrev old : Row
+  old = rowAt (s .model .n) (s .model .rows) (c .row)
+
+  old-length : ValidModel (s .model) → c .row < s .model .m → length (old .coefs) ≡ s .model .n
+  old-length v rm = length-rowOf (s .model .n) (s .model .m) (s .model .rows .coefs) (c .row) (v .coefsLen) rm
+
+  tighten-preserves : Accepted tightening s c → Preserves s (act tightening s c .state)
   unfolding act hasRow hasVariable
   tighten-preserves a =
       let rm = a .row tt in
       let kn = a .variable tt in
-      row-preserves s (c .row) _ _ (a .model) rm
-      (tighten-coefficient-replaces (s .n) (rowOf (s .n) (s .coefs) (c .row)) (at (s .rhs) (c .row)) (s .box) (c .variable) kn
-      (length-rowOf (s .n) (s .m) (s .coefs) (c .row) (a .model .coefsLen) rm) (a .free tt))
-      (tighten-coefficient-valid (c .variable) (row-valid s (c .row) (a .model) rm) kn)
+      row-preserves s (c .row) _ (a .model) rm
+      (tighten-coefficient-replaces (s .model .n) (old .coefs) (old .rhs) (s .model .box) (c .variable) kn (old-length (a .model) rm) (a .free tt))
+      (tighten-coefficient-valid (c .variable) (row-valid (s .model) (c .row) (a .model) rm) kn)
 
-  remove-preserves : Accepted removes s c → Preserves s (act removes s c .state)
+  remove-preserves : Accepted removal s c → Preserves s (act removal s c .state)
   unfolding act hasRow
   remove-preserves a =
       let rm = a .row tt in
-      row-preserves s (c .row) _ _ (a .model) rm
-      (remove-redundant-row-replaces (s .n) (rowOf (s .n) (s .coefs) (c .row)) (at (s .rhs) (c .row)) (s .box)
-      (length-rowOf (s .n) (s .m) (s .coefs) (c .row) (a .model .coefsLen) rm))
-      (remove-redundant-row-valid (row-valid s (c .row) (a .model) rm))
+      row-preserves s (c .row) _ (a .model) rm
+      (remove-redundant-row-replaces (s .model .n) (old .coefs) (old .rhs) (s .model .box) (old-length (a .model) rm))
+      (remove-redundant-row-valid (row-valid (s .model) (c .row) (a .model) rm))
 
 -- ---- any call, any run
 
 pub act-preserves : (k : Kind) (s : State) (c : Call) → Accepted k s c → Preserves s (act k s c .state)
-unfolding narrows isOther
-act-preserves propagatesRow s c a = narrowed-preserves (a .model .some) (act-narrowed propagatesRow s c tt a)
-act-preserves propagates s c a = narrowed-preserves (a .model .some) (act-narrowed propagates s c tt a)
-act-preserves probes s c a = narrowed-preserves (a .model .some) (act-narrowed probes s c tt a)
-act-preserves tightens s c a = tighten-preserves s c a
-act-preserves removes s c a = remove-preserves s c a
-act-preserves other s c a = absurd (a .kind)
+unfolding narrows isUnknown
+act-preserves rowPropagation s c a = narrowed-preserves (a .model .some) (act-narrowed rowPropagation s c tt a)
+act-preserves propagation s c a = narrowed-preserves (a .model .some) (act-narrowed propagation s c tt a)
+act-preserves probing s c a = narrowed-preserves (a .model .some) (act-narrowed probing s c tt a)
+act-preserves tightening s c a = tighten-preserves s c a
+act-preserves removal s c a = remove-preserves s c a
+act-preserves unknown s c a = absurd (a .kind)
 
 pub step-preserves : (s : State) (c : Call) → Preserves s (step s c)
 step-preserves s c = step-ind s c (Preserves s) (λ e. act-preserves (kindOf (c .kind)) s c (accepted s c e)) (preserves-refl s)

@@ -11,320 +11,320 @@ use native.Mathlib.Numerals.{add-one}
 use native.Mathlib.Omega.{arith}
 use Rattle.integer.proofs.Tests.{T→false, T→true, cond-ind, decide}
 use Rattle.model.specs.Box.{Inside, NonEmpty, at, emptyBox, isEmpty}
-use Rattle.model.specs.Point.{rowOf}
+use Rattle.model.specs.Rows.{Rows, rowAt}
 use Rattle.model.specs.Valid.{ValidBox}
 use Rattle.model.proofs.BoxLaws.{inside-refl, inside-trans, isEmpty-empty, isEmpty→eq, not-in-empty}
 use Rattle.row.specs.Outcome.{isChanged, isInfeasible}
-use Rattle.row.specs.Propagation.{propagateRow}
+use Rattle.row.specs.Propagation.{propagateRowOf}
 use Rattle.row.proofs.PropagationLaws.{propagate-row-infeasible-box, propagate-row-inside, propagate-row-monotone, propagate-row-nonEmpty, propagate-row-shrinks, propagate-row-valid}
 use Rattle.semantics.specs.Fixpoint.{Fixpoint}
-use Rattle.semantics.specs.Propagate.{Pass, Propagation, budgetSpent, converged, infeasible, isNone, isSpent, passRow, passTo, propagate, propagateFrom}
+use Rattle.semantics.specs.Propagate.{Pass, Propagated, budgetSpent, converged, infeasible, isNone, isSpent, passRow, passTo, propagate, propagateFrom}
 
 -- ---- a pass, row by row
 
-module _ (n i : ℕ) (C R B : List ℤ) where
+module _ (n i : ℕ) (A : Rows) (B : List ℤ) where
   -- the two cases of one row more
   pub pass-ind : (P : Pass → Type 0)
-      → (T (passTo n i C R B .ended) → P (passTo n i C R B))
-      → (T (not (passTo n i C R B .ended)) → let v = propagateRow n (rowOf n C i) (at R i) (passTo n i C R B .box) in
-      P (record { ended = isInfeasible (v .outcome); moved = passTo n i C R B .moved || isChanged (v .outcome); box = v .box }))
-      → P (passTo n (suc i) C R B)
+      → (T (passTo n i A B .ended) → P (passTo n i A B))
+      → (T (not (passTo n i A B .ended)) → let v = propagateRowOf n (rowAt n A i) (passTo n i A B .box) in
+      P (record { ended = isInfeasible (v .outcome); moved = passTo n i A B .moved || isChanged (v .outcome); box = v .box }))
+      → P (passTo n (suc i) A B)
   unfolding passTo passRow
-  pass-ind P f g = cond-ind (passTo n i C R B .ended) _ _ P f g
+  pass-ind P f g = cond-ind (passTo n i A B .ended) _ _ P f g
 
-  pub pass-next : T (not (passTo n i C R B .ended)) → let v = propagateRow n (rowOf n C i) (at R i) (passTo n i C R B .box) in
-      passTo n (i + 1) C R B ≡ record { ended = isInfeasible (v .outcome); moved = passTo n i C R B .moved || isChanged (v .outcome); box = v .box }
+  pub pass-next : T (not (passTo n i A B .ended)) → let v = propagateRowOf n (rowAt n A i) (passTo n i A B .box) in
+      passTo n (i + 1) A B ≡ record { ended = isInfeasible (v .outcome); moved = passTo n i A B .moved || isChanged (v .outcome); box = v .box }
   unfolding passTo passRow
-  pass-next t = rw (add-one, T→false (passTo n i C R B .ended) t)
+  pass-next t = rw (add-one, T→false (passTo n i A B .ended) t)
 
 -- what ended stays
-pub pass-ended : (n i : ℕ) (C R B : List ℤ) (k : ℕ) → i ≤ k → T (passTo n i C R B .ended) → passTo n k C R B ≡ passTo n i C R B
-pass-ended n i C R B zero h t = ap (λ (q : ℕ). passTo n q C R B) (let e : 0 ≡ i = omega arith in e)
-pass-ended n i C R B (suc k) h t = go (ℕ-discrete i (suc k)) (λ (q : i ≤ k). pass-ended n i C R B k q t)
+pub pass-ended : (n i : ℕ) (A : Rows) (B : List ℤ) (k : ℕ) → i ≤ k → T (passTo n i A B .ended) → passTo n k A B ≡ passTo n i A B
+pass-ended n i A B zero h t = ap (λ (q : ℕ). passTo n q A B) (let e : 0 ≡ i = omega arith in e)
+pass-ended n i A B (suc k) h t = go (ℕ-discrete i (suc k)) (λ (q : i ≤ k). pass-ended n i A B k q t)
   where
-    go : Dec (i ≡ suc k) → (i ≤ k → passTo n k C R B ≡ passTo n i C R B) → passTo n (suc k) C R B ≡ passTo n i C R B
-    go (yes e) r = ap (λ (q : ℕ). passTo n q C R B) (sym e)
+    go : Dec (i ≡ suc k) → (i ≤ k → passTo n k A B ≡ passTo n i A B) → passTo n (suc k) A B ≡ passTo n i A B
+    go (yes e) r = ap (λ (q : ℕ). passTo n q A B) (sym e)
     go (no ne) r =
         let e = r (omega arith) in
-        pass-ind n k C R B (λ p. p ≡ passTo n i C R B) (λ _. e) (λ z. absurd (T-not (passTo n k C R B .ended) z (rw e t)))
+        pass-ind n k A B (λ p. p ≡ passTo n i A B) (λ _. e) (λ z. absurd (T-not (passTo n k A B .ended) z (rw e t)))
 
-module _ (n : ℕ) (C R : List ℤ) where
-  pub pass-infeasible-box : (i : ℕ) (B : List ℤ) → T (passTo n i C R B .ended) → passTo n i C R B .box ≡ emptyBox n
+module _ (n : ℕ) (A : Rows) where
+  pub pass-infeasible-box : (i : ℕ) (B : List ℤ) → T (passTo n i A B .ended) → passTo n i A B .box ≡ emptyBox n
   unfolding passTo
   pass-infeasible-box zero B = λ z. absurd z
-  pass-infeasible-box (suc i) B = pass-ind n i C R B (λ r. T (r .ended) → r .box ≡ emptyBox n)
+  pass-infeasible-box (suc i) B = pass-ind n i A B (λ r. T (r .ended) → r .box ≡ emptyBox n)
       (λ _. pass-infeasible-box i B)
-      (λ _. propagate-row-infeasible-box n (rowOf n C i) (at R i) (passTo n i C R B .box))
+      (λ _. propagate-row-infeasible-box n (rowAt n A i .coefs) (rowAt n A i .rhs) (passTo n i A B .box))
 
-  pub pass-shrinks : (i : ℕ) (B : List ℤ) → T (not (passTo n i C R B .ended)) → Inside n (passTo n i C R B .box) B
+  pub pass-shrinks : (i : ℕ) (B : List ℤ) → T (not (passTo n i A B .ended)) → Inside n (passTo n i A B .box) B
   unfolding passTo
   pass-shrinks zero B = λ _. inside-refl n B
-  pass-shrinks (suc i) B = pass-ind n i C R B (λ r. T (not (r .ended)) → Inside n (r .box) B)
+  pass-shrinks (suc i) B = pass-ind n i A B (λ r. T (not (r .ended)) → Inside n (r .box) B)
       (λ _. pass-shrinks i B)
-      (λ t u. inside-trans (propagate-row-shrinks n (rowOf n C i) (at R i) (passTo n i C R B .box) u) (pass-shrinks i B t))
+      (λ t u. inside-trans (propagate-row-shrinks n (rowAt n A i .coefs) (rowAt n A i .rhs) (passTo n i A B .box) u) (pass-shrinks i B t))
 
-module _ (C R : List ℤ) {n : ℕ} where
-  pub pass-inside : (i : ℕ) (B : List ℤ) {Q : List ℤ} → 0 < n → NonEmpty n Q → Inside n Q (passTo n i C R B .box) → Inside n Q B
+module _ (A : Rows) {n : ℕ} where
+  pub pass-inside : (i : ℕ) (B : List ℤ) {Q : List ℤ} → 0 < n → NonEmpty n Q → Inside n Q (passTo n i A B .box) → Inside n Q B
   unfolding passTo
   pass-inside zero B h p = λ k. k
-  pass-inside (suc i) B {Q} h p = pass-ind n i C R B (λ r. Inside n Q (r .box) → Inside n Q B)
+  pass-inside (suc i) B {Q} h p = pass-ind n i A B (λ r. Inside n Q (r .box) → Inside n Q B)
       (λ _. pass-inside i B h p)
-      (λ _ k. pass-inside i B h p (propagate-row-inside (rowOf n C i) (at R i) (passTo n i C R B .box) h p k))
+      (λ _ k. pass-inside i B h p (propagate-row-inside (rowAt n A i .coefs) (rowAt n A i .rhs) (passTo n i A B .box) h p k))
 
-  pub pass-nonEmpty : (i : ℕ) {B : List ℤ} → NonEmpty n B → T (not (passTo n i C R B .ended)) → NonEmpty n (passTo n i C R B .box)
+  pub pass-nonEmpty : (i : ℕ) {B : List ℤ} → NonEmpty n B → T (not (passTo n i A B .ended)) → NonEmpty n (passTo n i A B .box)
   unfolding passTo
   pass-nonEmpty zero p = λ _. p
-  pass-nonEmpty (suc i) {B} p = pass-ind n i C R B (λ r. T (not (r .ended)) → NonEmpty n (r .box))
+  pass-nonEmpty (suc i) {B} p = pass-ind n i A B (λ r. T (not (r .ended)) → NonEmpty n (r .box))
       (λ _. pass-nonEmpty i p)
-      (λ t. propagate-row-nonEmpty (rowOf n C i) (at R i) (pass-nonEmpty i p t))
+      (λ t. propagate-row-nonEmpty (rowAt n A i .coefs) (rowAt n A i .rhs) (pass-nonEmpty i p t))
 
-  pub pass-valid : (i : ℕ) {B : List ℤ} → ValidBox n B → ValidBox n (passTo n i C R B .box)
+  pub pass-valid : (i : ℕ) {B : List ℤ} → ValidBox n B → ValidBox n (passTo n i A B .box)
   unfolding passTo
   pass-valid zero v = v
-  pass-valid (suc i) {B} v = pass-ind n i C R B (λ r. ValidBox n (r .box))
-      (λ _. pass-valid i v) (λ _. propagate-row-valid (rowOf n C i) (at R i) (pass-valid i v))
+  pass-valid (suc i) {B} v = pass-ind n i A B (λ r. ValidBox n (r .box))
+      (λ _. pass-valid i v) (λ _. propagate-row-valid (rowAt n A i .coefs) (rowAt n A i .rhs) (pass-valid i v))
 
 -- a fixpoint inside stays inside
-pub pass-keeps : {n m : ℕ} {C R Q : List ℤ} → 0 < n → Fixpoint n m C R Q → (i : ℕ) → i ≤ m → {B : List ℤ} → Inside n Q B
-    → Inside n Q (passTo n i C R B .box)
+pub pass-keeps : {n m : ℕ} {A : Rows} {Q : List ℤ} → 0 < n → Fixpoint n m A Q → (i : ℕ) → i ≤ m → {B : List ℤ} → Inside n Q B
+    → Inside n Q (passTo n i A B .box)
 unfolding passTo
 pass-keeps h q zero l k = k
-pass-keeps {n} {m} {C} {R} {Q} h q (suc i) l {B} k =
+pass-keeps {n} {m} {A} {Q} h q (suc i) l {B} k =
     let r = pass-keeps h q i (omega arith) k in
-    pass-ind n i C R B (λ r. Inside n Q (r .box))
-    (λ _. r) (λ _. propagate-row-monotone (rowOf n C i) (at R i) h (q .nonEmpty) (q .same i l) r)
+    pass-ind n i A B (λ r. Inside n Q (r .box))
+    (λ _. r) (λ _. propagate-row-monotone (rowAt n A i .coefs) (rowAt n A i .rhs) h (q .nonEmpty) (q .same i l) r)
 
 -- ---- pass by pass
 
-module _ (left made n m : ℕ) (C R B : List ℤ) where
+module _ (left made n m : ℕ) (A : Rows) (B : List ℤ) where
   -- the three cases where a pass is left
-  pub propagateFrom-ind : (P : Propagation → Type 0)
-      → (T (passTo n m C R B .ended) → P (record { ending = infeasible; passes = suc made; box = passTo n m C R B .box }))
-      → (T (not (passTo n m C R B .ended)) → T (passTo n m C R B .moved) → P (propagateFrom left (suc made) n m C R (passTo n m C R B .box)))
-      → (T (not (passTo n m C R B .ended)) → T (not (passTo n m C R B .moved))
-      → P (record { ending = converged; passes = suc made; box = passTo n m C R B .box }))
-      → P (propagateFrom (suc left) made n m C R B)
+  pub propagateFrom-ind : (P : Propagated → Type 0)
+      → (T (passTo n m A B .ended) → P (record { ending = infeasible; passes = suc made; box = passTo n m A B .box }))
+      → (T (not (passTo n m A B .ended)) → T (passTo n m A B .moved) → P (propagateFrom left (suc made) n m A (passTo n m A B .box)))
+      → (T (not (passTo n m A B .ended)) → T (not (passTo n m A B .moved))
+      → P (record { ending = converged; passes = suc made; box = passTo n m A B .box }))
+      → P (propagateFrom (suc left) made n m A B)
   unfolding propagateFrom
-  propagateFrom-ind P f g h = cond-ind (passTo n m C R B .ended) _ _ P f (λ t. cond-ind (passTo n m C R B .moved) _ _ P (g t) (h t))
+  propagateFrom-ind P f g h = cond-ind (passTo n m A B .ended) _ _ P f (λ t. cond-ind (passTo n m A B .moved) _ _ P (g t) (h t))
 
   -- the same, where it is known which
-  pub propagate-none-now : T (passTo n m C R B .ended)
-      → propagateFrom (suc left) made n m C R B ≡ record { ending = infeasible; passes = suc made; box = passTo n m C R B .box }
-  propagate-none-now t = propagateFrom-ind (λ r. r ≡ record { ending = infeasible; passes = suc made; box = passTo n m C R B .box })
-      (λ _. refl) (λ u. absurd (T-not (passTo n m C R B .ended) u t)) (λ u. absurd (T-not (passTo n m C R B .ended) u t))
+  pub propagate-none-now : T (passTo n m A B .ended)
+      → propagateFrom (suc left) made n m A B ≡ record { ending = infeasible; passes = suc made; box = passTo n m A B .box }
+  propagate-none-now t = propagateFrom-ind (λ r. r ≡ record { ending = infeasible; passes = suc made; box = passTo n m A B .box })
+      (λ _. refl) (λ u. absurd (T-not (passTo n m A B .ended) u t)) (λ u. absurd (T-not (passTo n m A B .ended) u t))
 
-  pub propagate-again : T (not (passTo n m C R B .ended)) → T (passTo n m C R B .moved)
-      → propagateFrom (suc left) made n m C R B ≡ propagateFrom left (suc made) n m C R (passTo n m C R B .box)
-  propagate-again t v = propagateFrom-ind (λ r. r ≡ propagateFrom left (suc made) n m C R (passTo n m C R B .box))
-      (λ u. absurd (T-not (passTo n m C R B .ended) t u)) (λ _ _. refl) (λ _ u. absurd (T-not (passTo n m C R B .moved) u v))
+  pub propagate-again : T (not (passTo n m A B .ended)) → T (passTo n m A B .moved)
+      → propagateFrom (suc left) made n m A B ≡ propagateFrom left (suc made) n m A (passTo n m A B .box)
+  propagate-again t v = propagateFrom-ind (λ r. r ≡ propagateFrom left (suc made) n m A (passTo n m A B .box))
+      (λ u. absurd (T-not (passTo n m A B .ended) t u)) (λ _ _. refl) (λ _ u. absurd (T-not (passTo n m A B .moved) u v))
 
-  pub propagate-converged : T (not (passTo n m C R B .ended)) → T (not (passTo n m C R B .moved))
-      → propagateFrom (suc left) made n m C R B ≡ record { ending = converged; passes = suc made; box = passTo n m C R B .box }
-  propagate-converged t v = propagateFrom-ind (λ r. r ≡ record { ending = converged; passes = suc made; box = passTo n m C R B .box })
-      (λ u. absurd (T-not (passTo n m C R B .ended) t u)) (λ _ u. absurd (T-not (passTo n m C R B .moved) v u)) (λ _ _. refl)
+  pub propagate-converged : T (not (passTo n m A B .ended)) → T (not (passTo n m A B .moved))
+      → propagateFrom (suc left) made n m A B ≡ record { ending = converged; passes = suc made; box = passTo n m A B .box }
+  propagate-converged t v = propagateFrom-ind (λ r. r ≡ record { ending = converged; passes = suc made; box = passTo n m A B .box })
+      (λ u. absurd (T-not (passTo n m A B .ended) t u)) (λ _ u. absurd (T-not (passTo n m A B .moved) v u)) (λ _ _. refl)
 
-pub propagate-spent : (made n m : ℕ) (C R B : List ℤ) → propagateFrom 0 made n m C R B ≡ record { ending = budgetSpent; passes = made; box = B }
+pub propagate-spent : (made n m : ℕ) (A : Rows) (B : List ℤ) → propagateFrom 0 made n m A B ≡ record { ending = budgetSpent; passes = made; box = B }
 unfolding propagateFrom
-propagate-spent made n m C R B = refl
+propagate-spent made n m A B = refl
 
 -- the two cases of the call
-pub propagate-ind : (budget n m : ℕ) (C R B : List ℤ) (P : Propagation → Type 0)
+pub propagate-ind : (budget n m : ℕ) (A : Rows) (B : List ℤ) (P : Propagated → Type 0)
     → (T (isEmpty n B) → P (record { ending = infeasible; passes = 1; box = B }))
-    → (T (not (isEmpty n B)) → P (propagateFrom budget 0 n m C R B))
-    → P (propagate budget n m C R B)
+    → (T (not (isEmpty n B)) → P (propagateFrom budget 0 n m A B))
+    → P (propagate budget n m A B)
 unfolding propagate
-propagate-ind budget n m C R B P f g = cond-ind (isEmpty n B) _ _ P f g
+propagate-ind budget n m A B P f g = cond-ind (isEmpty n B) _ _ P f g
 
-pub propagate-empty : (budget n m : ℕ) (C R : List ℤ)
-    → propagate budget n m C R (emptyBox n) ≡ record { ending = infeasible; passes = 1; box = emptyBox n }
+pub propagate-empty : (budget n m : ℕ) (A : Rows)
+    → propagate budget n m A (emptyBox n) ≡ record { ending = infeasible; passes = 1; box = emptyBox n }
 unfolding propagate
-propagate-empty budget n m C R = rw (T→true (isEmpty n (emptyBox n)) (isEmpty-empty n))
+propagate-empty budget n m A = rw (T→true (isEmpty n (emptyBox n)) (isEmpty-empty n))
 
 -- ---- what is inside
 
-module _ (m : ℕ) (C R : List ℤ) {n : ℕ} where
+module _ (m : ℕ) (A : Rows) {n : ℕ} where
   propagateFrom-inside : (left made : ℕ) (B : List ℤ) {Q : List ℤ} → 0 < n → NonEmpty n Q
-      → Inside n Q (propagateFrom left made n m C R B .box) → Inside n Q B
+      → Inside n Q (propagateFrom left made n m A B .box) → Inside n Q B
   unfolding propagateFrom
   propagateFrom-inside zero made B h p = λ k. k
   propagateFrom-inside (suc left) made B {Q} h p =
-      propagateFrom-ind left made n m C R B (λ r. Inside n Q (r .box) → Inside n Q B)
-      (λ _. pass-inside C R m B h p)
-      (λ _ _ k. pass-inside C R m B h p (propagateFrom-inside left (suc made) (passTo n m C R B .box) h p k))
-      (λ _ _. pass-inside C R m B h p)
+      propagateFrom-ind left made n m A B (λ r. Inside n Q (r .box) → Inside n Q B)
+      (λ _. pass-inside A m B h p)
+      (λ _ _ k. pass-inside A m B h p (propagateFrom-inside left (suc made) (passTo n m A B .box) h p k))
+      (λ _ _. pass-inside A m B h p)
 
   -- what is inside the result was inside the given box
   pub propagate-inside : (budget : ℕ) (B : List ℤ) {Q : List ℤ} → 0 < n → NonEmpty n Q
-      → Inside n Q (propagate budget n m C R B .box) → Inside n Q B
-  propagate-inside budget B {Q} h p = propagate-ind budget n m C R B (λ r. Inside n Q (r .box) → Inside n Q B)
+      → Inside n Q (propagate budget n m A B .box) → Inside n Q B
+  propagate-inside budget B {Q} h p = propagate-ind budget n m A B (λ r. Inside n Q (r .box) → Inside n Q B)
       (λ _ k. k) (λ _. propagateFrom-inside budget 0 B h p)
 
-  propagateFrom-nonEmpty : (left made : ℕ) {B : List ℤ} → NonEmpty n B → T (not (isNone (propagateFrom left made n m C R B .ending)))
-      → NonEmpty n (propagateFrom left made n m C R B .box)
+  propagateFrom-nonEmpty : (left made : ℕ) {B : List ℤ} → NonEmpty n B → T (not (isNone (propagateFrom left made n m A B .ending)))
+      → NonEmpty n (propagateFrom left made n m A B .box)
   unfolding propagateFrom isNone
   propagateFrom-nonEmpty zero made p = λ _. p
   propagateFrom-nonEmpty (suc left) made {B} p =
-      propagateFrom-ind left made n m C R B (λ r. T (not (isNone (r .ending))) → NonEmpty n (r .box))
+      propagateFrom-ind left made n m A B (λ r. T (not (isNone (r .ending))) → NonEmpty n (r .box))
       (λ _ z. absurd z)
-      (λ t _. propagateFrom-nonEmpty left (suc made) (pass-nonEmpty C R m p t))
-      (λ t _ _. pass-nonEmpty C R m p t)
+      (λ t _. propagateFrom-nonEmpty left (suc made) (pass-nonEmpty A m p t))
+      (λ t _ _. pass-nonEmpty A m p t)
 
-  pub propagate-nonEmpty : (budget : ℕ) {B : List ℤ} → NonEmpty n B → T (not (isNone (propagate budget n m C R B .ending)))
-      → NonEmpty n (propagate budget n m C R B .box)
+  pub propagate-nonEmpty : (budget : ℕ) {B : List ℤ} → NonEmpty n B → T (not (isNone (propagate budget n m A B .ending)))
+      → NonEmpty n (propagate budget n m A B .box)
   unfolding isNone
-  propagate-nonEmpty budget {B} p = propagate-ind budget n m C R B (λ r. T (not (isNone (r .ending))) → NonEmpty n (r .box))
+  propagate-nonEmpty budget {B} p = propagate-ind budget n m A B (λ r. T (not (isNone (r .ending))) → NonEmpty n (r .box))
       (λ _ z. absurd z) (λ _. propagateFrom-nonEmpty budget 0 p)
 
-  propagateFrom-valid : (left made : ℕ) {B : List ℤ} → ValidBox n B → ValidBox n (propagateFrom left made n m C R B .box)
+  propagateFrom-valid : (left made : ℕ) {B : List ℤ} → ValidBox n B → ValidBox n (propagateFrom left made n m A B .box)
   unfolding propagateFrom
   propagateFrom-valid zero made v = v
-  propagateFrom-valid (suc left) made {B} v = let p = pass-valid C R m v in
-      propagateFrom-ind left made n m C R B (λ r. ValidBox n (r .box))
+  propagateFrom-valid (suc left) made {B} v = let p = pass-valid A m v in
+      propagateFrom-ind left made n m A B (λ r. ValidBox n (r .box))
       (λ _. p) (λ _ _. propagateFrom-valid left (suc made) p) (λ _ _. p)
 
-  pub propagate-valid : (budget : ℕ) {B : List ℤ} → ValidBox n B → ValidBox n (propagate budget n m C R B .box)
-  propagate-valid budget {B} v = propagate-ind budget n m C R B (λ r. ValidBox n (r .box)) (λ _. v) (λ _. propagateFrom-valid budget 0 v)
+  pub propagate-valid : (budget : ℕ) {B : List ℤ} → ValidBox n B → ValidBox n (propagate budget n m A B .box)
+  propagate-valid budget {B} v = propagate-ind budget n m A B (λ r. ValidBox n (r .box)) (λ _. v) (λ _. propagateFrom-valid budget 0 v)
 
-module _ {n m : ℕ} {C R Q : List ℤ} (h : 0 < n) (q : Fixpoint n m C R Q) where
-  propagateFrom-keeps : (left made : ℕ) {B : List ℤ} → Inside n Q B → Inside n Q (propagateFrom left made n m C R B .box)
+module _ {n m : ℕ} {A : Rows} {Q : List ℤ} (h : 0 < n) (q : Fixpoint n m A Q) where
+  propagateFrom-keeps : (left made : ℕ) {B : List ℤ} → Inside n Q B → Inside n Q (propagateFrom left made n m A B .box)
   unfolding propagateFrom
   propagateFrom-keeps zero made k = k
   propagateFrom-keeps (suc left) made {B} k =
       let p = pass-keeps h q m (omega arith) k in
-      propagateFrom-ind left made n m C R B (λ r. Inside n Q (r .box))
+      propagateFrom-ind left made n m A B (λ r. Inside n Q (r .box))
       (λ _. p) (λ _ _. propagateFrom-keeps left (suc made) p) (λ _ _. p)
 
   -- a fixpoint inside the given box is inside the result
-  pub propagate-keeps : (budget : ℕ) {B : List ℤ} → Inside n Q B → Inside n Q (propagate budget n m C R B .box)
-  propagate-keeps budget {B} k = propagate-ind budget n m C R B (λ r. Inside n Q (r .box)) (λ _. k) (λ _. propagateFrom-keeps budget 0 k)
+  pub propagate-keeps : (budget : ℕ) {B : List ℤ} → Inside n Q B → Inside n Q (propagate budget n m A B .box)
+  propagate-keeps budget {B} k = propagate-ind budget n m A B (λ r. Inside n Q (r .box)) (λ _. k) (λ _. propagateFrom-keeps budget 0 k)
 
 -- ---- infeasible is the empty box; any other ending leaves a box inside
 
-module _ (n m : ℕ) (C R : List ℤ) where
-  propagateFrom-infeasible-box : (left made : ℕ) (B : List ℤ) → T (isNone (propagateFrom left made n m C R B .ending))
-      → propagateFrom left made n m C R B .box ≡ emptyBox n
+module _ (n m : ℕ) (A : Rows) where
+  propagateFrom-infeasible-box : (left made : ℕ) (B : List ℤ) → T (isNone (propagateFrom left made n m A B .ending))
+      → propagateFrom left made n m A B .box ≡ emptyBox n
   unfolding propagateFrom isNone
   propagateFrom-infeasible-box zero made B = λ z. absurd z
   propagateFrom-infeasible-box (suc left) made B =
-      propagateFrom-ind left made n m C R B (λ r. T (isNone (r .ending)) → r .box ≡ emptyBox n)
-      (λ t _. pass-infeasible-box n C R m B t)
-      (λ _ _. propagateFrom-infeasible-box left (suc made) (passTo n m C R B .box))
+      propagateFrom-ind left made n m A B (λ r. T (isNone (r .ending)) → r .box ≡ emptyBox n)
+      (λ t _. pass-infeasible-box n A m B t)
+      (λ _ _. propagateFrom-infeasible-box left (suc made) (passTo n m A B .box))
       (λ _ _ z. absurd z)
 
-  pub propagate-infeasible-box : (budget : ℕ) (B : List ℤ) → T (isNone (propagate budget n m C R B .ending))
-      → propagate budget n m C R B .box ≡ emptyBox n
-  propagate-infeasible-box budget B = propagate-ind budget n m C R B (λ r. T (isNone (r .ending)) → r .box ≡ emptyBox n)
+  pub propagate-infeasible-box : (budget : ℕ) (B : List ℤ) → T (isNone (propagate budget n m A B .ending))
+      → propagate budget n m A B .box ≡ emptyBox n
+  propagate-infeasible-box budget B = propagate-ind budget n m A B (λ r. T (isNone (r .ending)) → r .box ≡ emptyBox n)
       (λ t _. isEmpty→eq n B t) (λ _. propagateFrom-infeasible-box budget 0 B)
 
-  pub propagateFrom-shrinks : (left made : ℕ) (B : List ℤ) → T (not (isNone (propagateFrom left made n m C R B .ending)))
-      → Inside n (propagateFrom left made n m C R B .box) B
+  pub propagateFrom-shrinks : (left made : ℕ) (B : List ℤ) → T (not (isNone (propagateFrom left made n m A B .ending)))
+      → Inside n (propagateFrom left made n m A B .box) B
   unfolding propagateFrom isNone
   propagateFrom-shrinks zero made B = λ _. inside-refl n B
   propagateFrom-shrinks (suc left) made B =
-      propagateFrom-ind left made n m C R B (λ r. T (not (isNone (r .ending))) → Inside n (r .box) B)
+      propagateFrom-ind left made n m A B (λ r. T (not (isNone (r .ending))) → Inside n (r .box) B)
       (λ _ z. absurd z)
-      (λ t _ u. inside-trans (propagateFrom-shrinks left (suc made) (passTo n m C R B .box) u) (pass-shrinks n C R m B t))
-      (λ t _ _. pass-shrinks n C R m B t)
+      (λ t _ u. inside-trans (propagateFrom-shrinks left (suc made) (passTo n m A B .box) u) (pass-shrinks n A m B t))
+      (λ t _ _. pass-shrinks n A m B t)
 
-  pub propagate-shrinks : (budget : ℕ) (B : List ℤ) → T (not (isNone (propagate budget n m C R B .ending)))
-      → Inside n (propagate budget n m C R B .box) B
+  pub propagate-shrinks : (budget : ℕ) (B : List ℤ) → T (not (isNone (propagate budget n m A B .ending)))
+      → Inside n (propagate budget n m A B .box) B
   unfolding isNone
-  propagate-shrinks budget B = propagate-ind budget n m C R B (λ r. T (not (isNone (r .ending))) → Inside n (r .box) B)
+  propagate-shrinks budget B = propagate-ind budget n m A B (λ r. T (not (isNone (r .ending))) → Inside n (r .box) B)
       (λ _ z. absurd z) (λ _. propagateFrom-shrinks budget 0 B)
 
-pub propagate-infeasible-iff : (budget m : ℕ) (C R : List ℤ) {n : ℕ} {B : List ℤ} → 0 < n → ValidBox n B
-    → T (isNone (propagate budget n m C R B .ending)) ↔ (propagate budget n m C R B .box ≡ emptyBox n)
+pub propagate-infeasible-iff : (budget m : ℕ) (A : Rows) {n : ℕ} {B : List ℤ} → 0 < n → ValidBox n B
+    → T (isNone (propagate budget n m A B .ending)) ↔ (propagate budget n m A B .box ≡ emptyBox n)
 unfolding isNone
-propagate-infeasible-iff budget m C R {n} {B} h v = (propagate-infeasible-box n m C R budget B, back (v .shape))
+propagate-infeasible-iff budget m A {n} {B} h v = (propagate-infeasible-box n m A budget B, back (v .shape))
   where
-    back : (B ≡ emptyBox n) ⊎ NonEmpty n B → propagate budget n m C R B .box ≡ emptyBox n → T (isNone (propagate budget n m C R B .ending))
-    back (inl f) e = rw (f, propagate-empty budget n m C R) tt
-    back (inr p) e = ⊎-elim (λ t. t) (λ t. absurd (not-in-empty n (emptyBox n) h (rw e at (propagate-nonEmpty m C R budget p t)) (inside-refl n (emptyBox n))))
-        (decide (isNone (propagate budget n m C R B .ending)))
+    back : (B ≡ emptyBox n) ⊎ NonEmpty n B → propagate budget n m A B .box ≡ emptyBox n → T (isNone (propagate budget n m A B .ending))
+    back (inl f) e = rw (f, propagate-empty budget n m A) tt
+    back (inr p) e = ⊎-elim (λ t. t) (λ t. absurd (not-in-empty n (emptyBox n) h (rw e at (propagate-nonEmpty m A budget p t)) (inside-refl n (emptyBox n))))
+        (decide (isNone (propagate budget n m A B .ending)))
 
 -- ---- the passes
 
-module _ (n m : ℕ) (C R : List ℤ) where
+module _ (n m : ℕ) (A : Rows) where
   propagateFrom-passes : (left made : ℕ) (B : List ℤ)
-      → (made ≤ propagateFrom left made n m C R B .passes) × (propagateFrom left made n m C R B .passes ≤ made + left)
-      × (T (isSpent (propagateFrom left made n m C R B .ending)) → propagateFrom left made n m C R B .passes ≡ made + left)
+      → (made ≤ propagateFrom left made n m A B .passes) × (propagateFrom left made n m A B .passes ≤ made + left)
+      × (T (isSpent (propagateFrom left made n m A B .ending)) → propagateFrom left made n m A B .passes ≡ made + left)
   unfolding propagateFrom isSpent
   propagateFrom-passes zero made B = (omega arith, omega arith, λ _. omega arith)
   propagateFrom-passes (suc left) made B =
-      propagateFrom-ind left made n m C R B
+      propagateFrom-ind left made n m A B
       (λ r. (made ≤ r .passes) × (r .passes ≤ made + suc left) × (T (isSpent (r .ending)) → r .passes ≡ made + suc left))
       (λ _. (omega arith, omega arith, λ z. absurd z))
-      (λ _ _. let r = propagateFrom-passes left (suc made) (passTo n m C R B .box) in
+      (λ _ _. let r = propagateFrom-passes left (suc made) (passTo n m A B .box) in
       (omega arith, omega arith, λ t. let e = r .2 t in omega arith))
       (λ _ _. (omega arith, omega arith, λ z. absurd z))
 
   pub propagate-passes : (budget : ℕ) (B : List ℤ) → 1 ≤ budget
-      → (1 ≤ propagate budget n m C R B .passes) × (propagate budget n m C R B .passes ≤ budget)
+      → (1 ≤ propagate budget n m A B .passes) × (propagate budget n m A B .passes ≤ budget)
   propagate-passes zero B h = absurd (let z : ⊥ = omega arith in z)
-  propagate-passes (suc left) B h = propagate-ind (suc left) n m C R B (λ r. (1 ≤ r .passes) × (r .passes ≤ suc left))
+  propagate-passes (suc left) B h = propagate-ind (suc left) n m A B (λ r. (1 ≤ r .passes) × (r .passes ≤ suc left))
       (λ _. (omega arith, omega arith))
-      (λ _. propagateFrom-ind left 0 n m C R B (λ r. (1 ≤ r .passes) × (r .passes ≤ suc left))
+      (λ _. propagateFrom-ind left 0 n m A B (λ r. (1 ≤ r .passes) × (r .passes ≤ suc left))
       (λ _. (omega arith, omega arith))
-      (λ _ _. let r = propagateFrom-passes left 1 (passTo n m C R B .box) in (omega arith, omega arith))
+      (λ _ _. let r = propagateFrom-passes left 1 (passTo n m A B .box) in (omega arith, omega arith))
       (λ _ _. (omega arith, omega arith)))
 
-  pub propagate-spent-passes : (budget : ℕ) (B : List ℤ) → T (isSpent (propagate budget n m C R B .ending))
-      → propagate budget n m C R B .passes ≡ budget
+  pub propagate-spent-passes : (budget : ℕ) (B : List ℤ) → T (isSpent (propagate budget n m A B .ending))
+      → propagate budget n m A B .passes ≡ budget
   unfolding isSpent
-  propagate-spent-passes budget B = propagate-ind budget n m C R B (λ r. T (isSpent (r .ending)) → r .passes ≡ budget)
+  propagate-spent-passes budget B = propagate-ind budget n m A B (λ r. T (isSpent (r .ending)) → r .passes ≡ budget)
       (λ _ z. absurd z) (λ _ t. let e = propagateFrom-passes budget 0 B .2 t in omega arith)
 
 -- the box after j passes
-unfoldable pub afterPasses : ℕ → ℕ → ℕ → List ℤ → List ℤ → List ℤ → List ℤ
-afterPasses zero n m C R B = B
-afterPasses (suc j) n m C R B = afterPasses j n m C R (passTo n m C R B .box)
+unfoldable pub afterPasses : ℕ → ℕ → ℕ → Rows → List ℤ → List ℤ
+afterPasses zero n m A B = B
+afterPasses (suc j) n m A B = afterPasses j n m A (passTo n m A B .box)
 
 -- r, which began at B with `made` passes made, ended as its last pass went: None where a row was infeasible, else Spent where a
 -- bound moved, else Settled
-pub record LastPass (made n m : ℕ) (C R B : List ℤ) (r : Propagation) : Type 0 where
+pub record LastPass (made n m : ℕ) (A : Rows) (B : List ℤ) (r : Propagated) : Type 0 where
   pub earlier : ℕ
   pub passes : r .passes ≡ suc (made + earlier)
-  pub box : r .box ≡ passTo n m C R (afterPasses earlier n m C R B) .box
-  pub none : isNone (r .ending) ≡ passTo n m C R (afterPasses earlier n m C R B) .ended
+  pub box : r .box ≡ passTo n m A (afterPasses earlier n m A B) .box
+  pub none : isNone (r .ending) ≡ passTo n m A (afterPasses earlier n m A B) .ended
   pub spent : isSpent (r .ending)
-      ≡ (not (passTo n m C R (afterPasses earlier n m C R B) .ended) && passTo n m C R (afterPasses earlier n m C R B) .moved)
+      ≡ (not (passTo n m A (afterPasses earlier n m A B) .ended) && passTo n m A (afterPasses earlier n m A B) .moved)
 
-module _ (n m : ℕ) (C R : List ℤ) where
+module _ (n m : ℕ) (A : Rows) where
   module _ (made : ℕ) (B : List ℤ) where
-    last-infeasible : T (passTo n m C R B .ended)
-        → LastPass made n m C R B (record { ending = infeasible; passes = suc made; box = passTo n m C R B .box })
+    last-infeasible : T (passTo n m A B .ended)
+        → LastPass made n m A B (record { ending = infeasible; passes = suc made; box = passTo n m A B .box })
     unfolding isNone isSpent afterPasses
-    last-infeasible t = let e = T→true (passTo n m C R B .ended) t in
+    last-infeasible t = let e = T→true (passTo n m A B .ended) t in
         record { earlier = 0; passes = omega arith; box = refl; none = sym e; spent = rw e }
 
-    last-spent : T (not (passTo n m C R B .ended)) → T (passTo n m C R B .moved)
-        → LastPass made n m C R B (record { ending = budgetSpent; passes = suc made; box = passTo n m C R B .box })
+    last-spent : T (not (passTo n m A B .ended)) → T (passTo n m A B .moved)
+        → LastPass made n m A B (record { ending = budgetSpent; passes = suc made; box = passTo n m A B .box })
     unfolding isNone isSpent afterPasses
-    last-spent t u = let e = T→false (passTo n m C R B .ended) t in
-        record { earlier = 0; passes = omega arith; box = refl; none = sym e; spent = rw (e, T→true (passTo n m C R B .moved) u) }
+    last-spent t u = let e = T→false (passTo n m A B .ended) t in
+        record { earlier = 0; passes = omega arith; box = refl; none = sym e; spent = rw (e, T→true (passTo n m A B .moved) u) }
 
-    last-converged : T (not (passTo n m C R B .ended)) → T (not (passTo n m C R B .moved))
-        → LastPass made n m C R B (record { ending = converged; passes = suc made; box = passTo n m C R B .box })
+    last-converged : T (not (passTo n m A B .ended)) → T (not (passTo n m A B .moved))
+        → LastPass made n m A B (record { ending = converged; passes = suc made; box = passTo n m A B .box })
     unfolding isNone isSpent afterPasses
-    last-converged t u = let e = T→false (passTo n m C R B .ended) t in
-        record { earlier = 0; passes = omega arith; box = refl; none = sym e; spent = rw (e, T→false (passTo n m C R B .moved) u) }
+    last-converged t u = let e = T→false (passTo n m A B .ended) t in
+        record { earlier = 0; passes = omega arith; box = refl; none = sym e; spent = rw (e, T→false (passTo n m A B .moved) u) }
 
-    last-again : {r : Propagation} → LastPass (suc made) n m C R (passTo n m C R B .box) r → LastPass made n m C R B r
+    last-again : {r : Propagated} → LastPass (suc made) n m A (passTo n m A B .box) r → LastPass made n m A B r
     unfolding afterPasses
     last-again l = let e = l .passes in
         record { earlier = suc (l .earlier); passes = omega arith; box = l .box; none = l .none; spent = l .spent }
 
-  propagateFrom-last : (left made : ℕ) (B : List ℤ) → LastPass made n m C R B (propagateFrom (suc left) made n m C R B)
-  propagateFrom-last zero made B = propagateFrom-ind zero made n m C R B (LastPass made n m C R B)
+  propagateFrom-last : (left made : ℕ) (B : List ℤ) → LastPass made n m A B (propagateFrom (suc left) made n m A B)
+  propagateFrom-last zero made B = propagateFrom-ind zero made n m A B (LastPass made n m A B)
       (last-infeasible made B)
-      (λ t u. rw (propagate-spent (suc made) n m C R (passTo n m C R B .box)) (last-spent made B t u))
+      (λ t u. rw (propagate-spent (suc made) n m A (passTo n m A B .box)) (last-spent made B t u))
       (last-converged made B)
-  propagateFrom-last (suc left) made B = propagateFrom-ind (suc left) made n m C R B (LastPass made n m C R B)
+  propagateFrom-last (suc left) made B = propagateFrom-ind (suc left) made n m A B (LastPass made n m A B)
       (last-infeasible made B)
-      (λ _ _. last-again made B (propagateFrom-last left (suc made) (passTo n m C R B .box)))
+      (λ _ _. last-again made B (propagateFrom-last left (suc made) (passTo n m A B .box)))
       (last-converged made B)
 
-  pub propagate-last : (budget : ℕ) (B : List ℤ) → 1 ≤ budget → T (not (isEmpty n B)) → LastPass 0 n m C R B (propagate budget n m C R B)
+  pub propagate-last : (budget : ℕ) (B : List ℤ) → 1 ≤ budget → T (not (isEmpty n B)) → LastPass 0 n m A B (propagate budget n m A B)
   propagate-last zero B h t = absurd (let z : ⊥ = omega arith in z)
-  propagate-last (suc left) B h t = propagate-ind (suc left) n m C R B (LastPass 0 n m C R B)
+  propagate-last (suc left) B h t = propagate-ind (suc left) n m A B (LastPass 0 n m A B)
       (λ e. absurd (T-not (isEmpty n B) t e)) (λ _. propagateFrom-last left 0 B)

@@ -15,15 +15,18 @@ use Rattle.integer.proofs.Parts.{zarith}
 use Rattle.integer.proofs.Tests.{decide, false→T, lt-or-ge, not-and, not-not, not-or-l, not-or-r, or-inr}
 use Rattle.model.specs.Box.{Inside, NonEmpty, emptyBox, isEmpty, isFree, width}
 use Rattle.model.specs.Checks.{table}
+use Rattle.model.specs.Rows.{Rows}
+use Rattle.model.specs.State.{State, withBox}
+use Rattle.model.specs.Valid.{ValidModel, ValidState}
 use Rattle.model.proofs.BoxLaws.{free-lower, free-upper, inside-refl, nonEmpty-isn't, not-in-empty}
 use Rattle.row.proofs.Width.{width-nonneg, width-same}
-use Rattle.semantics.specs.Books.{callOn, probe as probeCall, settle}
+use Rattle.semantics.specs.Books.{callOn, probeCall as probeCall, propagateCall}
+use Rattle.semantics.specs.Call.{Call, hasBudget, hasRow, hasTable, hasVariable, isUnknown, kindOf, probing, propagation}
 use Rattle.semantics.specs.CallChecks.{callFault, maxBudget}
-use Rattle.semantics.specs.Convergence.{EnoughPasses, LargestBudget, Reachable, RestIsTested, RestReached, SettlesAndProbes}
+use Rattle.semantics.specs.Convergence.{EnoughPasses, LargestBudget, PropagateOrProbe, Reachable, RestIsTested, RestReached}
 use Rattle.semantics.specs.Fixpoint.{Fixpoint, ProbingFixpoint}
 use Rattle.semantics.specs.Perform.{act}
-use Rattle.semantics.specs.Points.{AtRest, ValidModelOf, ValidState}
-use Rattle.semantics.specs.State.{Call, State, hasBudget, hasRow, hasTable, hasVariable, isOther, kindOf, probes, propagates, withBox}
+use Rattle.semantics.specs.Points.{AtRest}
 use Rattle.semantics.specs.Probe.{fix, probe}
 use Rattle.semantics.specs.Propagate.{isNone, propagate}
 use Rattle.semantics.specs.RestTest.{isFixpoint, isProbingFixpoint, sidesSpan}
@@ -37,9 +40,9 @@ use Rattle.semantics.proofs.PropagateLaws.{propagate-infeasible-box, pr
 
 -- ---- the two calls are accepted
 
-settle-accepted : (s : State) → ValidModelOf s → callFault s (settle s maxBudget) ≡ 0
-unfolding settle callOn kindOf hasBudget hasRow hasTable hasVariable isOther
-settle-accepted s v = accepts s (settle s maxBudget) (record {
+propagate-accepted : (s : State) → ValidModel (s .model) → callFault s (propagateCall s maxBudget) ≡ 0
+unfolding propagateCall callOn kindOf hasBudget hasRow hasTable hasVariable isUnknown
+propagate-accepted s v = accepts s (propagateCall s maxBudget) (record {
   lent = lent-own refl refl refl;
   model = v;
   table = λ z. absurd z;
@@ -50,8 +53,8 @@ settle-accepted s v = accepts s (settle s maxBudget) (record {
   budget = λ _. (omega arith, omega arith);
 })
 
-probe-accepted : (s : State) (k : ℕ) → ValidState s → k < s .n → T (isFree (s .box) k) → callFault s (probeCall s k maxBudget) ≡ 0
-unfolding probeCall callOn kindOf hasBudget hasRow hasTable hasVariable isOther
+probe-accepted : (s : State) (k : ℕ) → ValidState s → k < s .model .n → T (isFree (s .model .box) k) → callFault s (probeCall s k maxBudget) ≡ 0
+unfolding probeCall callOn kindOf hasBudget hasRow hasTable hasVariable isUnknown
 probe-accepted s k v h f = accepts s (probeCall s k maxBudget) (record {
   lent = lent-own refl refl refl;
   model = v .model;
@@ -59,19 +62,19 @@ probe-accepted s k v h f = accepts s (probeCall s k maxBudget) (record {
   kind = tt;
   row = λ z. absurd z;
   variable = λ _. h;
-  free = λ _. or-inr (isEmpty (s .n) (s .box)) (isFree (s .box) k) f;
+  free = λ _. or-inr (isEmpty (s .model .n) (s .model .box)) (isFree (s .model .box) k) f;
   budget = λ _. (omega arith, omega arith);
 })
 
 -- ---- what they leave
 
-settle-step : (s : State) → ValidModelOf s
-    → step s (settle s maxBudget) ≡ withBox s (propagate maxBudget (s .n) (s .m) (s .coefs) (s .rhs) (s .box) .box) (s .table)
-unfolding act kindOf settle callOn
-settle-step s v = step-accepted s (settle s maxBudget) (settle-accepted s v)
+propagate-step : (s : State) → ValidModel (s .model)
+    → step s (propagateCall s maxBudget) ≡ withBox s (propagate maxBudget (s .model .n) (s .model .m) (s .model .rows) (s .model .box) .box) (s .table)
+unfolding act kindOf propagateCall callOn
+propagate-step s v = step-accepted s (propagateCall s maxBudget) (propagate-accepted s v)
 
-probe-step : (s : State) (k : ℕ) → ValidState s → k < s .n → T (isFree (s .box) k)
-    → let r = probe k maxBudget (s .n) (s .m) (s .coefs) (s .rhs) (s .box) (s .table) in
+probe-step : (s : State) (k : ℕ) → ValidState s → k < s .model .n → T (isFree (s .model .box) k)
+    → let r = probe k maxBudget (s .model .n) (s .model .m) (s .model .rows) (s .model .box) (s .table) in
     step s (probeCall s k maxBudget) ≡ withBox s (r .box) (r .table)
 unfolding act kindOf probeCall callOn
 probe-step s k v h f = step-accepted s (probeCall s k maxBudget) (probe-accepted s k v h f)
@@ -85,104 +88,104 @@ Less n P B = (P ≡ emptyBox n) ⊎ (width n P <ℤ width n B)
 less-of : {n : ℕ} {P B : List ℤ} → NonEmpty n P → NonEmpty n B → Inside n P B → P ≢ B → width n P <ℤ width n B
 less-of {n} {P} {B} p b i ne = ⊎-elim (λ l. l) (λ g. absurd (ne (width-same i (p .len) (b .len) g))) (lt-or-ge (width n P) (width n B))
 
-module _ (n m : ℕ) (C R B : List ℤ) (h : 0 < n) (p : NonEmpty n B) (w : width n B <ℤ pos maxBudget) where
+module _ (n m : ℕ) (A : Rows) (B : List ℤ) (h : 0 < n) (p : NonEmpty n B) (w : width n B <ℤ pos maxBudget) where
   -- a settle, where a row moves a bound
-  settle-less : T (not (isFixpoint n m C R B)) → Less n (propagate maxBudget n m C R B .box) B
+  propagate-less : T (not (isFixpoint n m A B)) → Less n (propagate maxBudget n m A B .box) B
   unfolding EnoughPasses
-  settle-less u = ⊎-elim (λ t. inl (propagate-infeasible-box n m C R maxBudget B t))
-      (λ t. let g = propagate-ends maxBudget n m C R B h p w .greatest t in
+  propagate-less u = ⊎-elim (λ t. inl (propagate-infeasible-box n m A maxBudget B t))
+      (λ t. let g = propagate-ends maxBudget n m A B h p w .greatest t in
       inr (less-of (g .fixpoint .nonEmpty) p (g .inside)
-      (λ e. T-not (isFixpoint n m C R B) u (fixpoint-test n m C R B p .1 (subst (Fixpoint n m C R) e (g .fixpoint))))))
-      (decide (isNone (propagate maxBudget n m C R B .ending)))
+      (λ e. T-not (isFixpoint n m A B) u (fixpoint-test n m A B p .1 (subst (Fixpoint n m A) e (g .fixpoint))))))
+      (decide (isNone (propagate maxBudget n m A B .ending)))
 
   -- a probe of a free variable whose sides do not span the box
-  probe-less : (k : ℕ) (t : List ℕ) → k < n → T (isFree B k) → T (not (sidesSpan n m C R B k)) → Less n (probe k maxBudget n m C R B t .box) B
+  probe-less : (k : ℕ) (t : List ℕ) → k < n → T (isFree B k) → T (not (sidesSpan n m A B k)) → Less n (probe k maxBudget n m A B t .box) B
   probe-less k t kn f u =
-      ⊎-elim (λ e. inl e) (λ q. inr (less-of (q .0) p (q .1) moves)) (probe-narrower k maxBudget m C R t (or-inr (isEmpty n B) (isFree B k) f) p)
+      ⊎-elim (λ e. inl e) (λ q. inr (less-of (q .0) p (q .1) moves)) (probe-narrower k maxBudget m A t (or-inr (isEmpty n B) (isFree B k) f) p)
     where
-      not-fixed : (v : ℕ) → v < 2 → T (not (isNone (propagate maxBudget n m C R (fix n B k v) .ending)))
-          → propagate maxBudget n m C R (fix n B k v) .box ≢ B
+      not-fixed : (v : ℕ) → v < 2 → T (not (isNone (propagate maxBudget n m A (fix n B k v) .ending)))
+          → propagate maxBudget n m A (fix n B k v) .box ≢ B
       not-fixed v b x e =
-          let a = at-fix B k v kn (rw e at (propagate-shrinks n m C R maxBudget (fix n B k v) x)) in
+          let a = at-fix B k v kn (rw e at (propagate-shrinks n m A maxBudget (fix n B k v) x)) in
           let l = free-lower B k f in
           let g = free-upper B k f in
           omega zarith
 
-      moves : probe k maxBudget n m C R B t .box ≢ B
-      moves = probe-ind k maxBudget n m C R B t (λ r. r .box ≢ B)
+      moves : probe k maxBudget n m A B t .box ≢ B
+      moves = probe-ind k maxBudget n m A B t (λ r. r .box ≢ B)
           (λ e. absurd (T-not (isEmpty n B) (false→T (isEmpty n B) (nonEmpty-isn't h p)) e))
           (λ _ _ _ e. not-in-empty n B h p (rw e (inside-refl n B)))
           (λ _ _ y. not-fixed 1 (omega arith) y)
           (λ _ x _. not-fixed 0 (omega arith) x)
-          (λ _ x y e. T-not (sidesSpan n m C R B k) u
-          (span-test n m C R B h p w k f .1 (span-iff maxBudget n m C R B h p w k f .0 (x, y, e))))
+          (λ _ x y e. T-not (sidesSpan n m A B k) u
+          (span-test n m A B h p w k f .1 (span-iff maxBudget n m A B h p w k f .0 (x, y, e))))
 
 -- where the box is not at rest, some accepted settle or probe makes it empty or narrower
 record Progress (s : State) : Type 0 where
   pub call : Call
   pub accepted : callFault s call ≡ 0
-  pub kind : (kindOf (call .kind) ≡ propagates) ⊎ (kindOf (call .kind) ≡ probes)
+  pub kind : (kindOf (call .kind) ≡ propagation) ⊎ (kindOf (call .kind) ≡ probing)
   pub valid : ValidState (step s call)
-  pub less : (step s call .box ≡ emptyBox (step s call .n)) ⊎ (width (step s call .n) (step s call .box) <ℤ width (s .n) (s .box))
+  pub less : (step s call .model .box ≡ emptyBox (step s call .model .n)) ⊎ (width (step s call .model .n) (step s call .model .box) <ℤ width (s .model .n) (s .model .box))
 
-module _ (s : State) (v : ValidState s) (p : NonEmpty (s .n) (s .box)) where
-  wide : width (s .n) (s .box) <ℤ pos maxBudget
+module _ (s : State) (v : ValidState s) (p : NonEmpty (s .model .n) (s .model .box)) where
+  wide : width (s .model .n) (s .model .box) <ℤ pos maxBudget
   unfolding LargestBudget
-  wide = width-limit s (v .model) .1
+  wide = width-limit (s .model) (v .model) .1
 
-  settle-progress : T (not (isFixpoint (s .n) (s .m) (s .coefs) (s .rhs) (s .box))) → Progress s
-  unfolding kindOf settle callOn withBox
-  settle-progress u = record {
-    call = settle s maxBudget;
-    accepted = settle-accepted s (v .model);
+  propagate-progress : T (not (isFixpoint (s .model .n) (s .model .m) (s .model .rows) (s .model .box))) → Progress s
+  unfolding kindOf propagateCall callOn withBox
+  propagate-progress u = record {
+    call = propagateCall s maxBudget;
+    accepted = propagate-accepted s (v .model);
     kind = inl refl;
-    valid = step-preserves s (settle s maxBudget) .valid v;
-    less = rw (settle-step s (v .model)) (settle-less (s .n) (s .m) (s .coefs) (s .rhs) (s .box) (v .model .some) p wide u);
+    valid = step-preserves s (propagateCall s maxBudget) .valid v;
+    less = rw (propagate-step s (v .model)) (propagate-less (s .model .n) (s .model .m) (s .model .rows) (s .model .box) (v .model .some) p wide u);
   }
 
-  probe-progress : (k : ℕ) → k < s .n → T (isFree (s .box) k) → T (not (sidesSpan (s .n) (s .m) (s .coefs) (s .rhs) (s .box) k)) → Progress s
+  probe-progress : (k : ℕ) → k < s .model .n → T (isFree (s .model .box) k) → T (not (sidesSpan (s .model .n) (s .model .m) (s .model .rows) (s .model .box) k)) → Progress s
   unfolding kindOf probeCall callOn withBox
   probe-progress k kn f u = record {
     call = probeCall s k maxBudget;
     accepted = probe-accepted s k v kn f;
     kind = inr refl;
     valid = step-preserves s (probeCall s k maxBudget) .valid v;
-    less = rw (probe-step s k v kn f) (probe-less (s .n) (s .m) (s .coefs) (s .rhs) (s .box) (v .model .some) p wide k (s .table) kn f u);
+    less = rw (probe-step s k v kn f) (probe-less (s .model .n) (s .model .m) (s .model .rows) (s .model .box) (v .model .some) p wide k (s .table) kn f u);
   }
 
-  progress : T (not (isProbingFixpoint (s .n) (s .m) (s .coefs) (s .rhs) (s .box))) → Progress s
+  progress : T (not (isProbingFixpoint (s .model .n) (s .model .m) (s .model .rows) (s .model .box))) → Progress s
   unfolding isProbingFixpoint
-  progress u = ⊎-elim settle-progress (λ t. probed (not-all (s .n) one t))
-      (not-and F (all (s .n) one) (not-or-r (isEmpty (s .n) (s .box)) (F && all (s .n) one) u))
+  progress u = ⊎-elim propagate-progress (λ t. probed (not-all (s .model .n) one t))
+      (not-and F (all (s .model .n) one) (not-or-r (isEmpty (s .model .n) (s .model .box)) (F && all (s .model .n) one) u))
     where
       F : Bool
-      F = isFixpoint (s .n) (s .m) (s .coefs) (s .rhs) (s .box)
+      F = isFixpoint (s .model .n) (s .model .m) (s .model .rows) (s .model .box)
 
       one : ℕ → Bool
-      one k = not (isFree (s .box) k) || sidesSpan (s .n) (s .m) (s .coefs) (s .rhs) (s .box) k
+      one k = not (isFree (s .model .box) k) || sidesSpan (s .model .n) (s .model .m) (s .model .rows) (s .model .box) k
 
-      probed : ((k : ℕ) × (k < s .n) × T (not (one k))) → Progress s
+      probed : ((k : ℕ) × (k < s .model .n) × T (not (one k))) → Progress s
       probed q =
           let k = q .0 in
-          let a = not (isFree (s .box) k) in
-          let b = sidesSpan (s .n) (s .m) (s .coefs) (s .rhs) (s .box) k in
-          probe-progress k (q .1) (not-not (isFree (s .box) k) (not-or-l a b (q .2))) (not-or-r a b (q .2))
+          let a = not (isFree (s .model .box) k) in
+          let b = sidesSpan (s .model .n) (s .model .m) (s .model .rows) (s .model .box) k in
+          probe-progress k (q .1) (not-not (isFree (s .model .box) k) (not-or-l a b (q .2))) (not-or-r a b (q .2))
 
 -- ---- so rest is reached
 
 rest-now : (s : State) → AtRest s → RestReached s
-unfolding SettlesAndProbes run
+unfolding PropagateOrProbe run
 rest-now s a = record { calls = []; kinds = tt; rest = a }
 
-rest-empty : (s : State) → s .box ≡ emptyBox (s .n) → RestReached s
+rest-empty : (s : State) → s .model .box ≡ emptyBox (s .model .n) → RestReached s
 unfolding ProbingFixpoint
 rest-empty s e = rest-now s (inl e)
 
 rest-after : (s : State) (g : Progress s) → RestReached (step s (g .call)) → RestReached s
-unfolding SettlesAndProbes run
+unfolding PropagateOrProbe run
 rest-after s g r = record { calls = g .call ∷ r .calls; kinds = (g .accepted, g .kind, r .kinds); rest = r .rest }
 
-rest-within : (limit : ℕ) (s : State) → ValidState s → width (s .n) (s .box) <ℤ pos limit → RestReached s
+rest-within : (limit : ℕ) (s : State) → ValidState s → width (s .model .n) (s .model .box) <ℤ pos limit → RestReached s
 unfolding RestIsTested
 rest-within zero s v w =
     ⊎-elim (rest-empty s) (λ p. absurd (let g = width-nonneg p in let z : ⊥ = omega zarith in z)) (v .model .box .shape)
@@ -192,8 +195,8 @@ rest-within (suc limit) s v w = ⊎-elim
     (λ p. let g = progress s v p u in
     rest-after s g (⊎-elim (rest-empty (step s (g .call))) (λ l. rest-within limit (step s (g .call)) (g .valid) (omega zarith)) (g .less)))
     (v .model .box .shape))
-    (decide (isProbingFixpoint (s .n) (s .m) (s .coefs) (s .rhs) (s .box)))
+    (decide (isProbingFixpoint (s .model .n) (s .model .m) (s .model .rows) (s .model .box)))
 
 pub rest-reached : Reachable
 unfolding Reachable LargestBudget
-rest-reached s v = rest-within maxBudget s v (width-limit s (v .model) .1)
+rest-reached s v = rest-within maxBudget s v (width-limit (s .model) (v .model) .1)

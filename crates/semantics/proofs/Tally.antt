@@ -4,8 +4,9 @@ use lib.ListN.{length}
 use mathlib.Core.List.{List, [], _∷_}
 use mathlib.Core.Path.{_≡_}
 use native.Mathlib.Omega.{arith}
+use Rattle.model.specs.State.{State}
+use Rattle.semantics.specs.Call.{Call}
 use Rattle.semantics.specs.Run.{CallClass, Counts, changedCall, classOf, countCall, infeasibleCall, noCounts, refusedCall, step, tally, unchangedCall}
-use Rattle.semantics.specs.State.{Call, State}
 
 abbrev pub total : Counts → ℕ
 total k = k .refusals + k .infeasibles + k .changes + k .unchanges

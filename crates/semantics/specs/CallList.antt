@@ -3,10 +3,11 @@ use Prim.Native.Nat.{_*_, _+_, _/_, _%_, suc, zero, ℕ}
 use lib.Dec.{eqb}
 use lib.ListN.{getD, length}
 use mathlib.Core.Bool.{cond}
-use mathlib.Core.List.{List, [], _++_, _∷_}
-use Rattle.model.specs.Checks.{Check, first, lengthChecks, must, numberChecks, sizeChecks, table, tableByteChecks, tableLengthChecks}
+use mathlib.Core.List.{List, [], _∷_}
+use Rattle.model.specs.Checks.{Check, first, modelChecks, table}
+use Rattle.model.specs.State.{State}
+use Rattle.semantics.specs.Call.{Call, lengthsOf}
 use Rattle.semantics.specs.Run.{Counts, noCounts, run, tally}
-use Rattle.semantics.specs.State.{Call, State, lengthsOf}
 
 -- "kind, ..; row; variable; budget; each an unsigned number of 32 bits": record i of a flat list of numbers, four to a record, as a
 -- call on s
@@ -17,8 +18,8 @@ recordAt s xs i =
       row = getD xs (4 * i + 1) 0;
       variable = getD xs (4 * i + 2) 0;
       budget = getD xs (4 * i + 3) 0;
-      n = s .n;
-      m = s .m;
+      n = s .model .n;
+      m = s .model .m;
       lengths = lengthsOf s;
     }
 
@@ -33,12 +34,7 @@ recordsOf s xs = recordsFrom (length xs / 4) s xs 0
 -- "The model and table are checked before the first record": 3, 5 to 10; a list of numbers that are not four to a record has a wrong
 -- length, 5
 unfoldable pub listChecks : State → List ℕ → List Check
-listChecks s xs =
-    sizeChecks (s .n) (s .m)
-    ++ (lengthChecks (s .n) (s .m) (s .box) (s .coefs) (s .rhs)
-    ++ (tableLengthChecks (s .n) (table (s .table))
-    ++ (must (eqb (length xs % 4) 0) 5
-    ∷ (numberChecks (s .n) (s .box) (s .coefs) (s .rhs) ++ tableByteChecks (table (s .table))))))
+listChecks s xs = modelChecks (s .model) (table (s .table)) (eqb (length xs % 4) 0)
 
 unfoldable pub listFault : State → List ℕ → ℕ
 listFault s xs = first (listChecks s xs)

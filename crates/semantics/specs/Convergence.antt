@@ -8,67 +8,71 @@ use mathlib.Core.Bool.{not}
 use mathlib.Core.List.{List, [], _∷_}
 use mathlib.Core.Logic.{_↔_, _⊎_}
 use mathlib.Core.Path.{_≡_}
-use Rattle.model.specs.Box.{Inside, NonEmpty, at, emptyBox, isFree, width}
-use Rattle.model.specs.Point.{rowOf}
+use Rattle.model.specs.Box.{Inside, NonEmpty, emptyBox, isFree, width}
+use Rattle.model.specs.Model.{Model}
+use Rattle.model.specs.Rows.{Rows, rowAt}
+use Rattle.model.specs.State.{State}
+use Rattle.model.specs.Valid.{ValidModel, ValidState}
 use Rattle.row.specs.Outcome.{unchanged}
-use Rattle.row.specs.Propagation.{propagateRow}
+use Rattle.row.specs.Propagation.{propagateRowOf}
+use Rattle.semantics.specs.Call.{Call, kindOf, probing, propagation}
 use Rattle.semantics.specs.CallChecks.{callFault, maxBudget}
 use Rattle.semantics.specs.Fixpoint.{Fixpoint, GreatestFixpoint}
-use Rattle.semantics.specs.Points.{AtRest, ValidModelOf, ValidState}
+use Rattle.semantics.specs.Points.{AtRest}
 use Rattle.semantics.specs.Probe.{bothFeasible, probe}
-use Rattle.semantics.specs.Propagate.{Propagation, isNone, isSpent, propagate}
+use Rattle.semantics.specs.Propagate.{Propagated, isNone, isSpent, propagate}
 use Rattle.semantics.specs.RestTest.{isProbingFixpoint}
 use Rattle.semantics.specs.Run.{run, step}
-use Rattle.semantics.specs.State.{Call, State, kindOf, probes, propagates}
 
 -- r is what propagating B came to, and the budget was enough
-pub record Ends (n m : ℕ) (C R B : List ℤ) (r : Propagation) : Type 0 where
+pub record Ends (n m : ℕ) (A : Rows) (B : List ℤ) (r : Propagated) : Type 0 where
   pub notSpent : T (not (isSpent (r .ending)))
   -- None exactly where there is no quiet box inside
-  pub none : T (isNone (r .ending)) → (P : List ℤ) → Fixpoint n m C R P → Inside n P B → ⊥
-  pub greatest : T (not (isNone (r .ending))) → GreatestFixpoint n m C R B (r .box)
+  pub none : T (isNone (r .ending)) → (P : List ℤ) → Fixpoint n m A P → Inside n P B → ⊥
+  pub greatest : T (not (isNone (r .ending))) → GreatestFixpoint n m A B (r .box)
 
 -- proved as `propagate-ends`
 unfoldable pub EnoughPasses : Type 0
 EnoughPasses =
-    (budget n m : ℕ) (C R B : List ℤ) → 0 < n → NonEmpty n B → width n B <ℤ pos budget → Ends n m C R B (propagate budget n m C R B)
+    (budget n m : ℕ) (A : Rows) (B : List ℤ) → 0 < n → NonEmpty n B → width n B <ℤ pos budget → Ends n m A B (propagate budget n m A B)
 
 -- the total width of any accepted model is at most 8,388,480, so the largest budget is always enough (`width-limit`)
 unfoldable pub LargestBudget : Type 0
-LargestBudget = (s : State) → ValidModelOf s → (width (s .n) (s .box) ≤ℤ pos 8_388_480) × (width (s .n) (s .box) <ℤ pos maxBudget)
+LargestBudget = (M : Model) → ValidModel M → (width (M .n) (M .box) ≤ℤ pos 8_388_480) × (width (M .n) (M .box) <ℤ pos maxBudget)
 
 -- "contains every other": there is at most one largest quiet box (`greatest-unique`)
 unfoldable pub UniqueGreatest : Type 0
-UniqueGreatest = (n m : ℕ) (C R B P Q : List ℤ) → GreatestFixpoint n m C R B P → GreatestFixpoint n m C R B Q → P ≡ Q
+UniqueGreatest = (n m : ℕ) (A : Rows) (B P Q : List ℤ) → GreatestFixpoint n m A B P → GreatestFixpoint n m A B Q → P ≡ Q
 
 -- the test of the rest call says what 01's property says (`rest-test`)
 unfoldable pub RestIsTested : Type 0
-RestIsTested = (s : State) → ValidModelOf s → T (isProbingFixpoint (s .n) (s .m) (s .coefs) (s .rhs) (s .box)) ↔ AtRest s
+RestIsTested = (s : State) → ValidModel (s .model) → T (isProbingFixpoint (s .model .n) (s .model .m) (s .model .rows) (s .model .box)) ↔ AtRest s
 
 -- "no visit moves a bound, no probe carried to its end narrows or fixes anything": every visit answers Same, and every probe with
 -- the largest budget answers Both and leaves the box
 pub record NothingMoves (s : State) : Type 0 where
-  pub nonEmpty : NonEmpty (s .n) (s .box)
-  pub visits : (i : ℕ) → i < s .m → propagateRow (s .n) (rowOf (s .n) (s .coefs) i) (at (s .rhs) i) (s .box) .outcome ≡ unchanged
-  pub bothSides : (k : ℕ) → k < s .n → T (isFree (s .box) k)
-      → ((a : ℕ) × (probe k maxBudget (s .n) (s .m) (s .coefs) (s .rhs) (s .box) (s .table) .ending ≡ bothFeasible a))
-  pub probesLeave : (k : ℕ) → k < s .n → T (isFree (s .box) k)
-      → probe k maxBudget (s .n) (s .m) (s .coefs) (s .rhs) (s .box) (s .table) .box ≡ s .box
+  pub nonEmpty : NonEmpty (s .model .n) (s .model .box)
+  pub rowsLeave : (i : ℕ) → i < s .model .m
+      → let M = s .model in propagateRowOf (M .n) (rowAt (M .n) (M .rows) i) (M .box) .outcome ≡ unchanged
+  pub bothSides : (k : ℕ) → k < s .model .n → T (isFree (s .model .box) k)
+      → let M = s .model in ((a : ℕ) × (probe k maxBudget (M .n) (M .m) (M .rows) (M .box) (s .table) .ending ≡ bothFeasible a))
+  pub probesLeave : (k : ℕ) → k < s .model .n → T (isFree (s .model .box) k)
+      → let M = s .model in probe k maxBudget (M .n) (M .m) (M .rows) (M .box) (s .table) .box ≡ M .box
 
 -- proved as `rest-in-own-words`
 unfoldable pub RestInOwnWords : Type 0
-RestInOwnWords = (s : State) → ValidModelOf s → AtRest s ↔ ((s .box ≡ emptyBox (s .n)) ⊎ NothingMoves s)
+RestInOwnWords = (s : State) → ValidModel (s .model) → AtRest s ↔ ((s .model .box ≡ emptyBox (s .model .n)) ⊎ NothingMoves s)
 
 -- a list of accepted settles and probes from s
-unfoldable pub SettlesAndProbes : State → List Call → Type 0
-SettlesAndProbes s [] = Unit {0}
-SettlesAndProbes s (c ∷ cs) =
-    (callFault s c ≡ 0) × ((kindOf (c .kind) ≡ propagates) ⊎ (kindOf (c .kind) ≡ probes)) × SettlesAndProbes (step s c) cs
+unfoldable pub PropagateOrProbe : State → List Call → Type 0
+PropagateOrProbe s [] = Unit {0}
+PropagateOrProbe s (c ∷ cs) =
+    (callFault s c ≡ 0) × ((kindOf (c .kind) ≡ propagation) ⊎ (kindOf (c .kind) ≡ probing)) × PropagateOrProbe (step s c) cs
 
 -- from every accepted model some list of settles and probes ends at rest
 pub record RestReached (s : State) : Type 0 where
   pub calls : List Call
-  pub kinds : SettlesAndProbes s calls
+  pub kinds : PropagateOrProbe s calls
   pub rest : AtRest (run s calls)
 
 -- proved as `rest-reached`

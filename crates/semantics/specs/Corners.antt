@@ -4,20 +4,21 @@ use lib.IntN.{negsuc, negℤ, pos, ℤ}
 use lib.ListN.{replicate}
 use mathlib.Core.Bool.{false, true}
 use mathlib.Core.List.{List, [], _∷_}
+use Rattle.model.specs.State.{State, withBox, withRow}
 use Rattle.row.specs.Outcome.{changed, infeasible, unchanged}
-use Rattle.semantics.specs.Books.{Line, boxed, callOn, drop, is, kept, model, probe, rowed, settle, sharpen, visit}
+use Rattle.semantics.specs.Books.{Line, boxed, callOn, fresh, is, kept, probeCall, propagateCall, propagateRowCall, removeCall, rowed, tightenCall}
+use Rattle.semantics.specs.Call.{Call, Lengths}
 use Rattle.semantics.specs.CallList.{callsMade, ran, refusedList, runList}
 use Rattle.semantics.specs.Perform.{perform, probed, propagated, propagatedRow, refused, removed, tightened}
 use Rattle.semantics.specs.Probe.{Side, bothFeasible, fixed, infeasible as bothInfeasible}
 use Rattle.semantics.specs.Propagate.{converged, infeasible as none}
-use Rattle.semantics.specs.Run.{noCounts, tally}
 use Rattle.semantics.specs.RestTest.{isProbingFixpoint, restFault}
-use Rattle.semantics.specs.State.{Call, Lengths, State, withBox, withRow}
+use Rattle.semantics.specs.Run.{noCounts, tally}
 use Rattle.semantics.specs.WorkedBooks.{binary2, empty2, pair, single}
 
 -- x + y ≤ 1 on the empty box
 unfoldable pub emptied : State
-emptied = model 2 1 empty2 (pos 1 ∷ pos 1 ∷ []) (pos 1 ∷ [])
+emptied = fresh 2 1 empty2 (pos 1 ∷ pos 1 ∷ []) (pos 1 ∷ [])
 
 -- −y ≤ −1: both sides of x fix y at 1
 unfoldable pub alike : State
@@ -25,20 +26,20 @@ alike = pair (pos 0) (negsuc 0) (negsuc 0)
 
 -- x + y ≥ 1 and x + y ≤ 1: each side of x moves y in its one pass
 unfoldable pub either : State
-either = model 2 2 binary2 (negsuc 0 ∷ negsuc 0 ∷ pos 1 ∷ pos 1 ∷ []) (negsuc 0 ∷ pos 1 ∷ [])
+either = fresh 2 2 binary2 (negsuc 0 ∷ negsuc 0 ∷ pos 1 ∷ pos 1 ∷ []) (negsuc 0 ∷ pos 1 ∷ [])
 
 -- x + y ≥ 2 and x + y ≤ 1: no side of x survives, the one by the first row, the other by the second
 unfoldable pub neither : State
-neither = model 2 2 binary2 (negsuc 0 ∷ negsuc 0 ∷ pos 1 ∷ pos 1 ∷ []) (negsuc 1 ∷ pos 1 ∷ [])
+neither = fresh 2 2 binary2 (negsuc 0 ∷ negsuc 0 ∷ pos 1 ∷ pos 1 ∷ []) (negsuc 1 ∷ pos 1 ∷ [])
 
 -- 3 x + 10⁶ y + z, y = −1,000, z = w: Lmax − 3 is −10⁹ + w
 unfoldable pub deep : ℤ → ℤ → State
 deep w b =
-    model 3 1 (pos 0 ∷ pos 1 ∷ negsuc 999 ∷ negsuc 999 ∷ w ∷ w ∷ []) (pos 3 ∷ pos 1_000_000 ∷ pos 1 ∷ []) (b ∷ [])
+    fresh 3 1 (pos 0 ∷ pos 1 ∷ negsuc 999 ∷ negsuc 999 ∷ w ∷ w ∷ []) (pos 3 ∷ pos 1_000_000 ∷ pos 1 ∷ []) (b ∷ [])
 
 -- 3 x + 2 y ≤ 4 and x + y ≥ 3, a list's own model
 unfoldable pub listed : State
-listed = model 2 2 binary2 (pos 3 ∷ pos 2 ∷ negsuc 0 ∷ negsuc 0 ∷ []) (pos 4 ∷ negsuc 2 ∷ [])
+listed = fresh 2 2 binary2 (pos 3 ∷ pos 2 ∷ negsuc 0 ∷ negsuc 0 ∷ []) (pos 4 ∷ negsuc 2 ∷ [])
 
 unfoldable pub withLengths : Call → Lengths → Call
 withLengths c l = record { kind = c .kind; row = c .row; variable = c .variable; budget = c .budget; n = c .n; m = c .m; lengths = l }
@@ -60,65 +61,65 @@ spentSide p = record { passes = p; spent = true }
 unfoldable pub corners : List Line
 corners =
     -- the empty box: each call answers None and changes nothing, a settle with 1 pass, a probe with 0 for each side; rest says yes
-    is (perform emptied (visit emptied 0)) (kept emptied (propagatedRow infeasible))
-    ∷ is (perform emptied (settle emptied 7)) (kept emptied (propagated none 1))
-    ∷ is (perform emptied (probe emptied 1 7)) (kept emptied (probed bothInfeasible (unspent 0) (unspent 0)))
-    ∷ is (perform emptied (sharpen emptied 0 1)) (kept emptied (tightened infeasible))
-    ∷ is (perform emptied (drop emptied 0)) (kept emptied (removed infeasible))
-    ∷ is (isProbingFixpoint 2 1 (emptied .coefs) (emptied .rhs) empty2) true
+    is (perform emptied (propagateRowCall emptied 0)) (kept emptied (propagatedRow infeasible))
+    ∷ is (perform emptied (propagateCall emptied 7)) (kept emptied (propagated none 1))
+    ∷ is (perform emptied (probeCall emptied 1 7)) (kept emptied (probed bothInfeasible (unspent 0) (unspent 0)))
+    ∷ is (perform emptied (tightenCall emptied 0 1)) (kept emptied (tightened infeasible))
+    ∷ is (perform emptied (removeCall emptied 0)) (kept emptied (removed infeasible))
+    ∷ is (isProbingFixpoint 2 1 (emptied .model .rows) empty2) true
     -- and 11, 12, 13 and 15 still refuse there, while 14 does not apply
     ∷ is (perform emptied (callOn emptied 0 0 0 1)) (kept emptied (refused 11))
     ∷ is (perform emptied (callOn emptied 6 0 0 1)) (kept emptied (refused 11))
-    ∷ is (perform emptied (visit emptied 1)) (kept emptied (refused 12))
-    ∷ is (perform emptied (probe emptied 2 7)) (kept emptied (refused 13))
-    ∷ is (perform emptied (probe emptied 1 0)) (kept emptied (refused 15))
-    ∷ is (perform emptied (settle emptied 0)) (kept emptied (refused 15))
-    ∷ is (perform emptied (sharpen emptied 1 0)) (kept emptied (refused 12))
-    ∷ is (perform emptied (sharpen emptied 0 2)) (kept emptied (refused 13))
-    ∷ is (perform emptied (drop emptied 1)) (kept emptied (refused 12))
+    ∷ is (perform emptied (propagateRowCall emptied 1)) (kept emptied (refused 12))
+    ∷ is (perform emptied (probeCall emptied 2 7)) (kept emptied (refused 13))
+    ∷ is (perform emptied (probeCall emptied 1 0)) (kept emptied (refused 15))
+    ∷ is (perform emptied (propagateCall emptied 0)) (kept emptied (refused 15))
+    ∷ is (perform emptied (tightenCall emptied 1 0)) (kept emptied (refused 12))
+    ∷ is (perform emptied (tightenCall emptied 0 2)) (kept emptied (refused 13))
+    ∷ is (perform emptied (removeCall emptied 1)) (kept emptied (refused 12))
     -- n and m, then the lengths, before the call's own checks; a table's length only where one is lent
-    ∷ is (perform emptied (withSizes (visit emptied 1) 0 1)) (kept emptied (refused 3))
-    ∷ is (perform emptied (withSizes (visit emptied 1) 129 1)) (kept emptied (refused 3))
-    ∷ is (perform emptied (withSizes (visit emptied 1) 2 121)) (kept emptied (refused 3))
-    ∷ is (perform emptied (withSizes (visit emptied 1) 1 1)) (kept emptied (refused 5))
-    ∷ is (perform emptied (withLengths (visit emptied 1) (record { box = 3; coefs = 2; rhs = 1; table = 16 }))) (kept emptied (refused 5))
-    ∷ is (perform emptied (withLengths (visit emptied 0) (record { box = 4; coefs = 2; rhs = 1; table = 0 })))
+    ∷ is (perform emptied (withSizes (propagateRowCall emptied 1) 0 1)) (kept emptied (refused 3))
+    ∷ is (perform emptied (withSizes (propagateRowCall emptied 1) 129 1)) (kept emptied (refused 3))
+    ∷ is (perform emptied (withSizes (propagateRowCall emptied 1) 2 121)) (kept emptied (refused 3))
+    ∷ is (perform emptied (withSizes (propagateRowCall emptied 1) 1 1)) (kept emptied (refused 5))
+    ∷ is (perform emptied (withLengths (propagateRowCall emptied 1) (record { box = 3; coefs = 2; rhs = 1; table = 16 }))) (kept emptied (refused 5))
+    ∷ is (perform emptied (withLengths (propagateRowCall emptied 0) (record { box = 4; coefs = 2; rhs = 1; table = 0 })))
     (kept emptied (propagatedRow infeasible))
-    ∷ is (perform emptied (withLengths (probe emptied 0 1) (record { box = 4; coefs = 2; rhs = 1; table = 15 }))) (kept emptied (refused 5))
+    ∷ is (perform emptied (withLengths (probeCall emptied 0 1) (record { box = 4; coefs = 2; rhs = 1; table = 15 }))) (kept emptied (refused 5))
     -- 6 to 9: the number just outside each range refuses, the last one inside does not
-    ∷ (let s = single (pos 2) (pos 5) (negℤ (pos 32_769)) (pos 5) in is (perform s (visit s 0)) (kept s (refused 6)))
-    ∷ (let s = single (pos 2) (pos 5) (pos 0) (pos 32_768) in is (perform s (visit s 0)) (kept s (refused 6)))
-    ∷ (let s = single (pos 0) (pos 5) (negℤ (pos 32_768)) (pos 32_767) in is (perform s (visit s 0)) (kept s (propagatedRow unchanged)))
-    ∷ (let s = single (pos 2) (pos 5) (pos 1) (pos 0) in is (perform s (visit s 0)) (kept s (propagatedRow infeasible)))
-    ∷ (let s = single (pos 2) (pos 5) (pos 2) (pos 1) in is (perform s (visit s 0)) (kept s (refused 7)))
-    ∷ (let s = model 2 1 (pos 1 ∷ pos 0 ∷ pos 0 ∷ pos 1 ∷ []) (pos 1 ∷ pos 1 ∷ []) (pos 1 ∷ []) in is (perform s (visit s 0)) (kept s (refused 7)))
-    ∷ (let s = single (negℤ (pos 1_000_001)) (pos 5) (pos 0) (pos 5) in is (perform s (visit s 0)) (kept s (refused 8)))
-    ∷ (let s = single (pos 1_000_001) (pos 5) (pos 0) (pos 5) in is (perform s (visit s 0)) (kept s (refused 8)))
-    ∷ (let s = single (negℤ (pos 1_000_000)) (pos 0) (pos 0) (pos 5) in is (perform s (visit s 0)) (kept s (propagatedRow unchanged)))
-    ∷ (let s = single (pos 0) (negℤ (pos 1_000_000_001)) (pos 0) (pos 5) in is (perform s (visit s 0)) (kept s (refused 9)))
-    ∷ (let s = single (pos 0) (pos 1_000_000_001) (pos 0) (pos 5) in is (perform s (visit s 0)) (kept s (refused 9)))
-    ∷ (let s = single (pos 1_000_000) (pos 1_000_000_000) (pos 0) (pos 5) in is (perform s (visit s 0)) (kept s (propagatedRow unchanged)))
+    ∷ (let s = single (pos 2) (pos 5) (negℤ (pos 32_769)) (pos 5) in is (perform s (propagateRowCall s 0)) (kept s (refused 6)))
+    ∷ (let s = single (pos 2) (pos 5) (pos 0) (pos 32_768) in is (perform s (propagateRowCall s 0)) (kept s (refused 6)))
+    ∷ (let s = single (pos 0) (pos 5) (negℤ (pos 32_768)) (pos 32_767) in is (perform s (propagateRowCall s 0)) (kept s (propagatedRow unchanged)))
+    ∷ (let s = single (pos 2) (pos 5) (pos 1) (pos 0) in is (perform s (propagateRowCall s 0)) (kept s (propagatedRow infeasible)))
+    ∷ (let s = single (pos 2) (pos 5) (pos 2) (pos 1) in is (perform s (propagateRowCall s 0)) (kept s (refused 7)))
+    ∷ (let s = fresh 2 1 (pos 1 ∷ pos 0 ∷ pos 0 ∷ pos 1 ∷ []) (pos 1 ∷ pos 1 ∷ []) (pos 1 ∷ []) in is (perform s (propagateRowCall s 0)) (kept s (refused 7)))
+    ∷ (let s = single (negℤ (pos 1_000_001)) (pos 5) (pos 0) (pos 5) in is (perform s (propagateRowCall s 0)) (kept s (refused 8)))
+    ∷ (let s = single (pos 1_000_001) (pos 5) (pos 0) (pos 5) in is (perform s (propagateRowCall s 0)) (kept s (refused 8)))
+    ∷ (let s = single (negℤ (pos 1_000_000)) (pos 0) (pos 0) (pos 5) in is (perform s (propagateRowCall s 0)) (kept s (propagatedRow unchanged)))
+    ∷ (let s = single (pos 0) (negℤ (pos 1_000_000_001)) (pos 0) (pos 5) in is (perform s (propagateRowCall s 0)) (kept s (refused 9)))
+    ∷ (let s = single (pos 0) (pos 1_000_000_001) (pos 0) (pos 5) in is (perform s (propagateRowCall s 0)) (kept s (refused 9)))
+    ∷ (let s = single (pos 1_000_000) (pos 1_000_000_000) (pos 0) (pos 5) in is (perform s (propagateRowCall s 0)) (kept s (propagatedRow unchanged)))
     -- 10: a table byte of 2 refuses a probe, and no call that is lent no table
     ∷ (let s = withBox emptied binary2 (0 ∷ 0 ∷ 0 ∷ 0 ∷ 0 ∷ 0 ∷ 0 ∷ 0 ∷ 0 ∷ 0 ∷ 0 ∷ 0 ∷ 0 ∷ 0 ∷ 0 ∷ 2 ∷ []) in
-    is (perform s (probe s 0 7)) (kept s (refused 10)))
+    is (perform s (probeCall s 0 7)) (kept s (refused 10)))
     ∷ (let s = withBox emptied binary2 (0 ∷ 0 ∷ 0 ∷ 0 ∷ 0 ∷ 0 ∷ 0 ∷ 0 ∷ 0 ∷ 0 ∷ 0 ∷ 0 ∷ 0 ∷ 0 ∷ 0 ∷ 2 ∷ []) in
-    is (perform s (visit s 0)) (kept s (propagatedRow unchanged)))
+    is (perform s (propagateRowCall s 0)) (kept s (propagatedRow unchanged)))
     -- in their order: 6 before 7 before 8 before 9 before 10, and 10 before the call's own checks
     ∷ (let s = withBox (single (pos 1_000_001) (pos 1_000_000_001) (pos 0) (pos 0)) (pos 32_768 ∷ pos 0 ∷ []) (0 ∷ 0 ∷ 0 ∷ 2 ∷ []) in
-    is (perform s (probe s 1 0)) (kept s (refused 6)))
+    is (perform s (probeCall s 1 0)) (kept s (refused 6)))
     ∷ (let s = withBox (single (pos 1_000_001) (pos 1_000_000_001) (pos 0) (pos 0)) (pos 5 ∷ pos 0 ∷ []) (0 ∷ 0 ∷ 0 ∷ 2 ∷ []) in
-    is (perform s (probe s 1 0)) (kept s (refused 7)))
+    is (perform s (probeCall s 1 0)) (kept s (refused 7)))
     ∷ (let s = withBox (single (pos 1_000_001) (pos 1_000_000_001) (pos 0) (pos 0)) (pos 0 ∷ pos 1 ∷ []) (0 ∷ 0 ∷ 0 ∷ 2 ∷ []) in
-    is (perform s (probe s 1 0)) (kept s (refused 8)))
+    is (perform s (probeCall s 1 0)) (kept s (refused 8)))
     ∷ (let s = withBox (single (pos 1) (pos 1_000_000_001) (pos 0) (pos 0)) (pos 0 ∷ pos 1 ∷ []) (0 ∷ 0 ∷ 0 ∷ 2 ∷ []) in
-    is (perform s (probe s 1 0)) (kept s (refused 9)))
+    is (perform s (probeCall s 1 0)) (kept s (refused 9)))
     ∷ (let s = withBox (single (pos 1) (pos 5) (pos 0) (pos 0)) (pos 0 ∷ pos 1 ∷ []) (0 ∷ 0 ∷ 0 ∷ 2 ∷ []) in
-    is (perform s (probe s 1 0)) (kept s (refused 10)))
+    is (perform s (probeCall s 1 0)) (kept s (refused 10)))
     -- an empty box still passes 8 and 9 before its calls answer None (D-4)
     ∷ (let s = withBox (single (pos 1_000_001) (pos 5) (pos 0) (pos 0)) (pos 1 ∷ pos 0 ∷ []) (0 ∷ 0 ∷ 0 ∷ 0 ∷ []) in
-    is (perform s (visit s 0)) (kept s (refused 8)))
+    is (perform s (propagateRowCall s 0)) (kept s (refused 8)))
     ∷ (let s = withBox (single (pos 1) (pos 1_000_000_001) (pos 0) (pos 0)) (pos 1 ∷ pos 0 ∷ []) (0 ∷ 0 ∷ 0 ∷ 0 ∷ []) in
-    is (perform s (visit s 0)) (kept s (refused 9)))
+    is (perform s (propagateRowCall s 0)) (kept s (refused 9)))
     -- "A field that its kind lacks is ignored", and so is the length of a table that is not lent
     ∷ (let s = pair (pos 3) (pos 2) (pos 5) in is (perform s (unlent (callOn s 1 0 4_294_967_295 0))) (kept s (propagatedRow unchanged)))
     ∷ (let s = pair (pos 3) (pos 2) (pos 5) in
@@ -141,60 +142,60 @@ corners =
     ∷ (let s = single (pos 2) (pos 5) (pos 0) (pos 1) in is (perform s (callOn s 2 9 9 0)) (kept s (refused 15)))
     -- the largest budget, and one more
     ∷ (let s = single (pos 2) (pos 5) (pos 0) (pos 5) in
-    is (perform s (settle s 8_388_481)) (boxed s (propagated converged 2) (pos 0 ∷ pos 2 ∷ [])))
-    ∷ (let s = single (pos 2) (pos 5) (pos 0) (pos 5) in is (perform s (settle s 8_388_482)) (kept s (refused 15)))
-    ∷ (let s = single (pos 2) (pos 5) (pos 0) (pos 1) in is (perform s (probe s 0 8_388_482)) (kept s (refused 15)))
+    is (perform s (propagateCall s 8_388_481)) (boxed s (propagated converged 2) (pos 0 ∷ pos 2 ∷ [])))
+    ∷ (let s = single (pos 2) (pos 5) (pos 0) (pos 5) in is (perform s (propagateCall s 8_388_482)) (kept s (refused 15)))
+    ∷ (let s = single (pos 2) (pos 5) (pos 0) (pos 1) in is (perform s (probeCall s 0 8_388_482)) (kept s (refused 15)))
     -- a sharpen at a variable that is not free is refused by 14, also where its coefficient is 0
-    ∷ (let s = single (pos 0) (pos 5) (pos 0) (pos 5) in is (perform s (sharpen s 0 0)) (kept s (refused 14)))
+    ∷ (let s = single (pos 0) (pos 5) (pos 0) (pos 5) in is (perform s (tightenCall s 0 0)) (kept s (refused 14)))
     -- no rows: Settled after 1; a visit has no row to take; both sides of a probe are the box itself
-    ∷ (let s = model 1 0 (pos 0 ∷ pos 5 ∷ []) [] [] in is (perform s (settle s 3)) (kept s (propagated converged 1)))
-    ∷ (let s = model 1 0 (pos 1 ∷ pos 0 ∷ []) [] [] in is (perform s (settle s 3)) (kept s (propagated none 1)))
-    ∷ (let s = model 1 0 (pos 0 ∷ pos 1 ∷ []) [] [] in is (perform s (visit s 0)) (kept s (refused 12)))
-    ∷ (let s = model 1 0 (pos 0 ∷ pos 1 ∷ []) [] [] in
-    is (perform s (probe s 0 1)) (kept s (probed (bothFeasible 0) (unspent 1) (unspent 1))))
+    ∷ (let s = fresh 1 0 (pos 0 ∷ pos 5 ∷ []) [] [] in is (perform s (propagateCall s 3)) (kept s (propagated converged 1)))
+    ∷ (let s = fresh 1 0 (pos 1 ∷ pos 0 ∷ []) [] [] in is (perform s (propagateCall s 3)) (kept s (propagated none 1)))
+    ∷ (let s = fresh 1 0 (pos 0 ∷ pos 1 ∷ []) [] [] in is (perform s (propagateRowCall s 0)) (kept s (refused 12)))
+    ∷ (let s = fresh 1 0 (pos 0 ∷ pos 1 ∷ []) [] [] in
+    is (perform s (probeCall s 0 1)) (kept s (probed (bothFeasible 0) (unspent 1) (unspent 1))))
     -- one pass is enough where nothing moves; a pass that None breaks off counts as made
-    ∷ (let s = single (pos 2) (pos 5) (pos 0) (pos 2) in is (perform s (settle s 1)) (kept s (propagated converged 1)))
+    ∷ (let s = single (pos 2) (pos 5) (pos 0) (pos 2) in is (perform s (propagateCall s 1)) (kept s (propagated converged 1)))
     ∷ (let s = single (pos 2) (negsuc 0) (pos 0) (pos 2) in
-    is (perform s (settle s 9)) (boxed s (propagated none 1) (pos 1 ∷ pos 0 ∷ [])))
+    is (perform s (propagateCall s 9)) (boxed s (propagated none 1) (pos 1 ∷ pos 0 ∷ [])))
     -- zero rows: b above 0 is dropped to 0, b = 0 is Same, b below 0 is not redundant; nothing to sharpen
-    ∷ (let s = pair (pos 0) (pos 0) (pos 4) in is (perform s (drop s 0)) (rowed s (removed changed) (pos 0 ∷ pos 0 ∷ []) (pos 0)))
-    ∷ (let s = pair (pos 0) (pos 0) (pos 0) in is (perform s (drop s 0)) (kept s (removed unchanged)))
-    ∷ (let s = pair (pos 0) (pos 0) (negsuc 0) in is (perform s (drop s 0)) (kept s (removed unchanged)))
-    ∷ (let s = pair (pos 0) (pos 3) (pos 2) in is (perform s (sharpen s 0 0)) (kept s (tightened unchanged)))
+    ∷ (let s = pair (pos 0) (pos 0) (pos 4) in is (perform s (removeCall s 0)) (rowed s (removed changed) (pos 0 ∷ pos 0 ∷ []) (pos 0)))
+    ∷ (let s = pair (pos 0) (pos 0) (pos 0) in is (perform s (removeCall s 0)) (kept s (removed unchanged)))
+    ∷ (let s = pair (pos 0) (pos 0) (negsuc 0) in is (perform s (removeCall s 0)) (kept s (removed unchanged)))
+    ∷ (let s = pair (pos 0) (pos 3) (pos 2) in is (perform s (tightenCall s 0 0)) (kept s (tightened unchanged)))
     -- both sides fix y alike: both are recorded, 4 bytes; again, none is new
-    ∷ is (perform alike (probe alike 0 5))
+    ∷ is (perform alike (probeCall alike 0 5))
     (record {
       answer = probed (bothFeasible 4) (unspent 2) (unspent 2);
       state = withBox alike (pos 0 ∷ pos 1 ∷ pos 1 ∷ pos 1 ∷ []) (0 ∷ 0 ∷ 0 ∷ 1 ∷ 0 ∷ 0 ∷ 0 ∷ 1 ∷ 1 ∷ 1 ∷ 0 ∷ 0 ∷ 0 ∷ 0 ∷ 0 ∷ 0 ∷ []);
     })
     ∷ (let s = withBox alike binary2 (0 ∷ 0 ∷ 0 ∷ 1 ∷ 0 ∷ 0 ∷ 0 ∷ 1 ∷ 1 ∷ 1 ∷ 0 ∷ 0 ∷ 0 ∷ 0 ∷ 0 ∷ 0 ∷ []) in
-    is (perform s (probe s 0 5)) (boxed s (probed (bothFeasible 0) (unspent 2) (unspent 2)) (pos 0 ∷ pos 1 ∷ pos 1 ∷ pos 1 ∷ [])))
+    is (perform s (probeCall s 0 5)) (boxed s (probed (bothFeasible 0) (unspent 2) (unspent 2)) (pos 0 ∷ pos 1 ∷ pos 1 ∷ pos 1 ∷ [])))
     -- a variable that was not free before the call is not recorded, though both sides fix it at 1
-    ∷ (let s = model 2 1 (pos 0 ∷ pos 1 ∷ pos 1 ∷ pos 2 ∷ []) (pos 0 ∷ pos 1 ∷ []) (pos 1 ∷ []) in
-    is (perform s (probe s 0 5)) (boxed s (probed (bothFeasible 0) (unspent 2) (unspent 2)) (pos 0 ∷ pos 1 ∷ pos 1 ∷ pos 1 ∷ [])))
+    ∷ (let s = fresh 2 1 (pos 0 ∷ pos 1 ∷ pos 1 ∷ pos 2 ∷ []) (pos 0 ∷ pos 1 ∷ []) (pos 1 ∷ []) in
+    is (perform s (probeCall s 0 5)) (boxed s (probed (bothFeasible 0) (unspent 2) (unspent 2)) (pos 0 ∷ pos 1 ∷ pos 1 ∷ pos 1 ∷ [])))
     -- Spent sides are used with the box they reached, and record
-    ∷ is (perform either (probe either 0 1))
+    ∷ is (perform either (probeCall either 0 1))
     (record {
       answer = probed (bothFeasible 4) (spentSide 1) (spentSide 1);
       state = withBox either binary2 (0 ∷ 0 ∷ 0 ∷ 1 ∷ 0 ∷ 0 ∷ 1 ∷ 0 ∷ 0 ∷ 1 ∷ 0 ∷ 0 ∷ 1 ∷ 0 ∷ 0 ∷ 0 ∷ []);
     })
     -- both sides None: the sides' own passes, not Spent; one side None: its passes are told too, and it is not Spent
-    ∷ is (perform neither (probe neither 0 1)) (boxed neither (probed bothInfeasible (unspent 1) (unspent 1)) empty2)
+    ∷ is (perform neither (probeCall neither 0 1)) (boxed neither (probed bothInfeasible (unspent 1) (unspent 1)) empty2)
     ∷ (let s = pair (negsuc 0) (negsuc 0) (negsuc 1) in
-    is (perform s (probe s 0 1)) (boxed s (probed (fixed 1) (unspent 1) (spentSide 1)) (pos 1 ∷ pos 1 ∷ pos 1 ∷ pos 1 ∷ [])))
+    is (perform s (probeCall s 0 1)) (boxed s (probed (fixed 1) (unspent 1) (spentSide 1)) (pos 1 ∷ pos 1 ∷ pos 1 ∷ pos 1 ∷ [])))
     -- a new right side of exactly −1,000,000,000 is made; one less is not
     ∷ (let s = deep (pos 0) (negℤ (pos 999_999_999)) in
-    is (perform s (sharpen s 0 0)) (rowed s (tightened changed) (pos 2 ∷ pos 1_000_000 ∷ pos 1 ∷ []) (negℤ (pos 1_000_000_000))))
-    ∷ (let s = deep (negsuc 0) (negℤ (pos 1_000_000_000)) in is (perform s (sharpen s 0 0)) (kept s (tightened unchanged)))
+    is (perform s (tightenCall s 0 0)) (rowed s (tightened changed) (pos 2 ∷ pos 1_000_000 ∷ pos 1 ∷ []) (negℤ (pos 1_000_000_000))))
+    ∷ (let s = deep (negsuc 0) (negℤ (pos 1_000_000_000)) in is (perform s (tightenCall s 0 0)) (kept s (tightened unchanged)))
     -- the rest call's own checks: no table
     ∷ is (restFault (withBox emptied empty2 [])) 0
     ∷ is (restFault (withBox emptied (pos 0 ∷ pos 1 ∷ pos 1 ∷ pos 0 ∷ []) [])) 7
     -- the four counts: a refused call, a None (that empties the box), a change, an unchanged call
     ∷ (let s = single (pos 2) (pos 5) (pos 0) (pos 5) in
-    is (tally noCounts s (visit s 1 ∷ visit s 0 ∷ visit s 0 ∷ drop s 0 ∷ []))
+    is (tally noCounts s (propagateRowCall s 1 ∷ propagateRowCall s 0 ∷ propagateRowCall s 0 ∷ removeCall s 0 ∷ []))
     (record { refusals = 1; infeasibles = 0; changes = 2; unchanges = 1 }))
     ∷ (let s = single (pos 2) (negsuc 0) (pos 0) (pos 5) in
-    is (tally noCounts s (visit s 0 ∷ visit s 0 ∷ drop s 0 ∷ settle s 0 ∷ []))
+    is (tally noCounts s (propagateRowCall s 0 ∷ propagateRowCall s 0 ∷ removeCall s 0 ∷ propagateCall s 0 ∷ []))
     (record { refusals = 1; infeasibles = 3; changes = 0; unchanges = 0 }))
     -- a list of numbers, "kind, ..; row; variable; budget": a visit, two sharpens of row 0, three refused calls, a probe that
     -- empties the box, and three calls more
@@ -202,7 +203,7 @@ corners =
     (1 ∷ 0 ∷ 999 ∷ 0 ∷ 4 ∷ 0 ∷ 0 ∷ 0 ∷ 4 ∷ 0 ∷ 1 ∷ 0 ∷ 9 ∷ 0 ∷ 0 ∷ 1 ∷ 1 ∷ 2 ∷ 0 ∷ 1 ∷ 2 ∷ 1 ∷ 1 ∷ 0 ∷ 3 ∷ 999 ∷ 1 ∷ 1 ∷ 2 ∷ 0 ∷ 0 ∷ 5 ∷ 1 ∷ 1 ∷ 999 ∷ 0 ∷ 5 ∷ 1 ∷ 999 ∷ 0 ∷ []))
     (record {
       answer = ran (record { refusals = 3; infeasibles = 4; changes = 2; unchanges = 1 });
-      state = withBox (withRow listed 0 (pos 1 ∷ pos 1 ∷ []) (pos 1)) empty2 (listed .table);
+      state = withBox (withRow listed 0 (record { coefs = pos 1 ∷ pos 1 ∷ []; rhs = pos 1 })) empty2 (listed .table);
     })
     -- a probe that records 2 bytes changes the table; a settle with budget 1 after it moves nothing
     ∷ (let s = pair (pos 1) (pos 1) (pos 1) in

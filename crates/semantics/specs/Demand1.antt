@@ -8,34 +8,35 @@ use mathlib.Core.Logic.{_↔_, _⊎_}
 use mathlib.Core.Path.{_≡_}
 use Rattle.model.specs.Box.{at, emptyBox, isFree, lower, upper}
 use Rattle.model.specs.Limits.{maxBound, maxCoef, maxRhs, maxRows, maxVariables, minBound, minCoef, minRhs}
+use Rattle.model.specs.State.{State}
 use Rattle.model.specs.Valid.{Between}
+use Rattle.semantics.specs.Call.{Call, hasBudget, hasRow, hasTable, hasVariable, kindOf}
 use Rattle.semantics.specs.CallChecks.{callFault, maxBudget}
 use Rattle.semantics.specs.Perform.{perform, refused}
 use Rattle.semantics.specs.Run.{isRefused}
-use Rattle.semantics.specs.State.{Call, State, hasBudget, hasRow, hasTable, hasVariable, kindOf}
 
 -- the buffers that the call is lent are the state's, and each has exactly the length needed
 pub record LengthsFit (s : State) (c : Call) : Type 0 where
-  pub variables : c .n ≡ s .n
-  pub rows : c .m ≡ s .m
-  pub box : (c .lengths .box ≡ length (s .box)) × (length (s .box) ≡ 2 * c .n)
-  pub coefs : (c .lengths .coefs ≡ length (s .coefs)) × (length (s .coefs) ≡ c .m * c .n)
-  pub rhs : (c .lengths .rhs ≡ length (s .rhs)) × (length (s .rhs) ≡ c .m)
+  pub variables : c .n ≡ s .model .n
+  pub rows : c .m ≡ s .model .m
+  pub box : (c .lengths .box ≡ length (s .model .box)) × (length (s .model .box) ≡ 2 * c .n)
+  pub coefs : (c .lengths .coefs ≡ length (s .model .rows .coefs)) × (length (s .model .rows .coefs) ≡ c .m * c .n)
+  pub rhs : (c .lengths .rhs ≡ length (s .model .rows .rhs)) × (length (s .model .rows .rhs) ≡ c .m)
   pub table : T (hasTable (kindOf (c .kind))) → (c .lengths .table ≡ length (s .table)) × (length (s .table) ≡ 4 * (c .n * c .n))
 
 -- Check number N passes, or does not apply. Numbers that are no check of a call (1, 2 and 4 are a book's) pass.
 pub record Passes (N : ℕ) (s : State) (c : Call) : Type 0 where
   pub check3 : N ≡ 3 → (1 ≤ c .n) × (c .n ≤ maxVariables) × (c .m ≤ maxRows)
   pub check5 : N ≡ 5 → LengthsFit s c
-  pub check6 : N ≡ 6 → (i : ℕ) → i < length (s .box) → Between minBound maxBound (at (s .box) i)
-  pub check7 : N ≡ 7 → (s .box ≡ emptyBox (c .n)) ⊎ ((j : ℕ) → 2 * j + 1 < length (s .box) → lower (s .box) j ≤ℤ upper (s .box) j)
-  pub check8 : N ≡ 8 → (i : ℕ) → i < length (s .coefs) → Between minCoef maxCoef (at (s .coefs) i)
-  pub check9 : N ≡ 9 → (i : ℕ) → i < length (s .rhs) → Between minRhs maxRhs (at (s .rhs) i)
+  pub check6 : N ≡ 6 → (i : ℕ) → i < length (s .model .box) → Between minBound maxBound (at (s .model .box) i)
+  pub check7 : N ≡ 7 → (s .model .box ≡ emptyBox (c .n)) ⊎ ((j : ℕ) → 2 * j + 1 < length (s .model .box) → lower (s .model .box) j ≤ℤ upper (s .model .box) j)
+  pub check8 : N ≡ 8 → (i : ℕ) → i < length (s .model .rows .coefs) → Between minCoef maxCoef (at (s .model .rows .coefs) i)
+  pub check9 : N ≡ 9 → (i : ℕ) → i < length (s .model .rows .rhs) → Between minRhs maxRhs (at (s .model .rows .rhs) i)
   pub check10 : N ≡ 10 → T (hasTable (kindOf (c .kind))) → (i : ℕ) → i < length (s .table) → getD (s .table) i 0 < 2
   pub check11 : N ≡ 11 → (1 ≤ c .kind) × (c .kind ≤ 5)
-  pub check12 : N ≡ 12 → T (hasRow (kindOf (c .kind))) → c .row < s .m
-  pub check13 : N ≡ 13 → T (hasVariable (kindOf (c .kind))) → c .variable < s .n
-  pub check14 : N ≡ 14 → T (hasVariable (kindOf (c .kind))) → (s .box ≡ emptyBox (s .n)) ⊎ T (isFree (s .box) (c .variable))
+  pub check12 : N ≡ 12 → T (hasRow (kindOf (c .kind))) → c .row < s .model .m
+  pub check13 : N ≡ 13 → T (hasVariable (kindOf (c .kind))) → c .variable < s .model .n
+  pub check14 : N ≡ 14 → T (hasVariable (kindOf (c .kind))) → (s .model .box ≡ emptyBox (s .model .n)) ⊎ T (isFree (s .model .box) (c .variable))
   pub check15 : N ≡ 15 → T (hasBudget (kindOf (c .kind))) → (1 ≤ c .budget) × (c .budget ≤ maxBudget)
 
 pub record Refusals (s : State) (c : Call) : Type 0 where

@@ -7,14 +7,16 @@ use mathlib.Core.List.{List, [], _∷_}
 use mathlib.Core.Logic.{_↔_, _≢_}
 use mathlib.Core.Path.{_≡_}
 use Rattle.model.specs.Box.{at, emptyBox}
+use Rattle.model.specs.State.{State}
+use Rattle.model.specs.Valid.{ValidState}
 use Rattle.row.specs.Outcome.{unchanged}
+use Rattle.semantics.specs.Call.{Call, Kind, kindOf, probing, propagation, removal, rowPropagation, tightening, unknown}
 use Rattle.semantics.specs.CallChecks.{callFault}
 use Rattle.semantics.specs.Perform.{Answer, perform, probed, propagated, propagatedRow, refused, removed, tightened}
-use Rattle.semantics.specs.Points.{FractionalPointOf, PointOf, ValidState}
+use Rattle.semantics.specs.Points.{FractionalPointOf, PointOf}
 use Rattle.semantics.specs.Probe.{ProbeEnding, Side, bothFeasible}
 use Rattle.semantics.specs.Propagate.{Ending}
 use Rattle.semantics.specs.Run.{answersNone, run}
-use Rattle.semantics.specs.State.{Call, Kind, State, kindOf, other, probes, propagates, propagatesRow, removes, tightens}
 
 -- how many bytes of a table are 1
 unfoldable pub ones : List ℕ → ℕ
@@ -36,18 +38,21 @@ AnswersSame (removed o) = o ≡ unchanged
 
 -- what a call of a kind leaves as it was
 unfoldable pub Untouched : Kind → State → Call → State → Type 0
-Untouched propagatesRow s c r = (r .coefs ≡ s .coefs) × (r .rhs ≡ s .rhs) × (r .table ≡ s .table)
-Untouched propagates s c r = (r .coefs ≡ s .coefs) × (r .rhs ≡ s .rhs) × (r .table ≡ s .table)
-Untouched probes s c r = (r .coefs ≡ s .coefs) × (r .rhs ≡ s .rhs)
-Untouched tightens s c r =
-    (r .box ≡ s .box) × (r .table ≡ s .table)
-    × ((i : ℕ) → i ≢ c .row * s .n + c .variable → at (r .coefs) i ≡ at (s .coefs) i)
-    × ((i : ℕ) → i ≢ c .row → at (r .rhs) i ≡ at (s .rhs) i)
-Untouched removes s c r =
-    (r .box ≡ s .box) × (r .table ≡ s .table)
-    × ((i j : ℕ) → j < s .n → i ≢ c .row → at (r .coefs) (i * s .n + j) ≡ at (s .coefs) (i * s .n + j))
-    × ((i : ℕ) → i ≢ c .row → at (r .rhs) i ≡ at (s .rhs) i)
-Untouched other s c r = r ≡ s
+Untouched rowPropagation s c r = (r .model .rows ≡ s .model .rows) × (r .table ≡ s .table)
+Untouched propagation s c r = (r .model .rows ≡ s .model .rows) × (r .table ≡ s .table)
+Untouched probing s c r = r .model .rows ≡ s .model .rows
+Untouched tightening s c r =
+    let A = s .model .rows in
+    (r .model .box ≡ s .model .box) × (r .table ≡ s .table)
+    × ((i : ℕ) → i ≢ c .row * s .model .n + c .variable → at (r .model .rows .coefs) i ≡ at (A .coefs) i)
+    × ((i : ℕ) → i ≢ c .row → at (r .model .rows .rhs) i ≡ at (A .rhs) i)
+Untouched removal s c r =
+    let n = s .model .n in
+    let A = s .model .rows in
+    (r .model .box ≡ s .model .box) × (r .table ≡ s .table)
+    × ((i j : ℕ) → j < n → i ≢ c .row → at (r .model .rows .coefs) (i * n + j) ≡ at (A .coefs) (i * n + j))
+    × ((i : ℕ) → i ≢ c .row → at (r .model .rows .rhs) i ≡ at (A .rhs) i)
+Untouched unknown s c r = r ≡ s
 
 -- of an accepted call
 pub record CallMeans (s : State) (c : Call) : Type 0 where
@@ -55,14 +60,14 @@ pub record CallMeans (s : State) (c : Call) : Type 0 where
   pub points : (x : List ℤ) → PointOf (perform s c .state) x ↔ PointOf s x
   pub fractional : (x : List ℤ) (d : ℕ) → FractionalPointOf (perform s c .state) x d → FractionalPointOf s x d
   -- None exactly where the box is empty afterwards; "`None` means that no integer point exists."
-  pub none : T (answersNone (perform s c .answer)) ↔ (perform s c .state .box ≡ emptyBox (s .n))
+  pub none : T (answersNone (perform s c .answer)) ↔ (perform s c .state .model .box ≡ emptyBox (s .model .n))
   pub noPoint : T (answersNone (perform s c .answer)) → (x : List ℤ) → PointOf s x → ⊥
   -- "every accepted call ends within its pass budget": a settle with 1 to budget passes, a probe's sides likewise, or 0 and 0 on
   -- the empty box
   pub passes : (e : Ending) (p : ℕ) → perform s c .answer ≡ propagated e p → PassesWithin (c .budget) p
-  pub sidePasses : (e : ProbeEnding) (s0 s1 : Side) → perform s c .answer ≡ probed e s0 s1 → s .box ≢ emptyBox (s .n)
+  pub sidePasses : (e : ProbeEnding) (s0 s1 : Side) → perform s c .answer ≡ probed e s0 s1 → s .model .box ≢ emptyBox (s .model .n)
       → PassesWithin (c .budget) (s0 .passes) × PassesWithin (c .budget) (s1 .passes)
-  pub emptySides : (e : ProbeEnding) (s0 s1 : Side) → perform s c .answer ≡ probed e s0 s1 → s .box ≡ emptyBox (s .n)
+  pub emptySides : (e : ProbeEnding) (s0 s1 : Side) → perform s c .answer ≡ probed e s0 s1 → s .model .box ≡ emptyBox (s .model .n)
       → (s0 .passes ≡ 0) × (s1 .passes ≡ 0)
   -- "The answer Both has the number of bytes that went from 0 to 1."
   pub added : (a : ℕ) (s0 s1 : Side) → perform s c .answer ≡ probed (bothFeasible a) s0 s1
@@ -70,7 +75,7 @@ pub record CallMeans (s : State) (c : Call) : Type 0 where
   -- Same changes nothing
   pub same : AnswersSame (perform s c .answer) → perform s c .state ≡ s
   -- "where one that the call's rule doesn't name stays"
-  pub sizes : (perform s c .state .n ≡ s .n) × (perform s c .state .m ≡ s .m)
+  pub sizes : (perform s c .state .model .n ≡ s .model .n) × (perform s c .state .model .m ≡ s .model .m)
   pub untouched : Untouched (kindOf (c .kind)) s c (perform s c .state)
   -- a valid state stays valid: a list of calls need not check the model again
   pub valid : ValidState s → ValidState (perform s c .state)
@@ -79,7 +84,7 @@ pub record CallMeans (s : State) (c : Call) : Type 0 where
 pub record RunMeans (s : State) (cs : List Call) : Type 0 where
   pub points : (x : List ℤ) → PointOf (run s cs) x ↔ PointOf s x
   pub fractional : (x : List ℤ) (d : ℕ) → FractionalPointOf (run s cs) x d → FractionalPointOf s x d
-  pub sizes : (run s cs .n ≡ s .n) × (run s cs .m ≡ s .m)
+  pub sizes : (run s cs .model .n ≡ s .model .n) × (run s cs .model .m ≡ s .model .m)
   pub valid : ValidState s → ValidState (run s cs)
 
 -- proved as `demand-2` and `demand-2-runs`

@@ -1,7 +1,7 @@
 pub mod Propagate
 pub mod Probe
 pub mod Fixpoint
-pub mod State
+pub mod Call
 pub mod CallChecks
 pub mod Perform
 pub mod Run

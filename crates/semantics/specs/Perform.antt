@@ -2,16 +2,16 @@
 use Prim.Native.Nat.{ℕ}
 use lib.Dec.{eqb}
 use mathlib.Core.Bool.{cond}
-use Rattle.model.specs.Box.{at}
-use Rattle.model.specs.Point.{rowOf}
+use Rattle.model.specs.Rows.{rowAt}
+use Rattle.model.specs.State.{State, withBox, withRow}
 use Rattle.row.specs.Outcome.{Outcome}
-use Rattle.row.specs.Propagation.{propagateRow}
-use Rattle.row.specs.Redundancy.{removeRedundantRow}
-use Rattle.row.specs.Tightening.{tightenCoefficient}
+use Rattle.row.specs.Propagation.{propagateRowOf}
+use Rattle.row.specs.Redundancy.{removeRowOf}
+use Rattle.row.specs.Tightening.{rowLeft, tightenRowOf}
+use Rattle.semantics.specs.Call.{Call, Kind, kindOf, probing, propagation, removal, rowPropagation, tightening, unknown}
 use Rattle.semantics.specs.CallChecks.{callFault}
 use Rattle.semantics.specs.Probe.{ProbeEnding, Side, probe}
 use Rattle.semantics.specs.Propagate.{Ending, propagate}
-use Rattle.semantics.specs.State.{Call, Kind, State, kindOf, other, probes, propagates, propagatesRow, removes, tightens, withBox, withRow}
 
 -- 01's answers: the number of the check that refused the call; or the case and the numbers of the call's kind
 pub data Answer : Type 0 where
@@ -33,22 +33,27 @@ pub record Performed : Type 0 where
 
 -- an accepted call of each kind; its rule's own definition says the rest
 unfoldable pub act : Kind → State → Call → Performed
-act propagatesRow s c =
-    let r = propagateRow (s .n) (rowOf (s .n) (s .coefs) (c .row)) (at (s .rhs) (c .row)) (s .box) in
+act rowPropagation s c =
+    let M = s .model in
+    let r = propagateRowOf (M .n) (rowAt (M .n) (M .rows) (c .row)) (M .box) in
     record { answer = propagatedRow (r .outcome); state = withBox s (r .box) (s .table) }
-act propagates s c =
-    let r = propagate (c .budget) (s .n) (s .m) (s .coefs) (s .rhs) (s .box) in
+act propagation s c =
+    let M = s .model in
+    let r = propagate (c .budget) (M .n) (M .m) (M .rows) (M .box) in
     record { answer = propagated (r .ending) (r .passes); state = withBox s (r .box) (s .table) }
-act probes s c =
-    let r = probe (c .variable) (c .budget) (s .n) (s .m) (s .coefs) (s .rhs) (s .box) (s .table) in
+act probing s c =
+    let M = s .model in
+    let r = probe (c .variable) (c .budget) (M .n) (M .m) (M .rows) (M .box) (s .table) in
     record { answer = probed (r .ending) (r .side0) (r .side1); state = withBox s (r .box) (r .table) }
-act tightens s c =
-    let r = tightenCoefficient (s .n) (rowOf (s .n) (s .coefs) (c .row)) (at (s .rhs) (c .row)) (s .box) (c .variable) in
-    record { answer = tightened (r .outcome); state = withRow s (c .row) (r .coefs) (r .rhs) }
-act removes s c =
-    let r = removeRedundantRow (s .n) (rowOf (s .n) (s .coefs) (c .row)) (at (s .rhs) (c .row)) (s .box) in
-    record { answer = removed (r .outcome); state = withRow s (c .row) (r .coefs) (r .rhs) }
-act other s c = record { answer = refused 11; state = s }
+act tightening s c =
+    let M = s .model in
+    let r = tightenRowOf (M .n) (rowAt (M .n) (M .rows) (c .row)) (M .box) (c .variable) in
+    record { answer = tightened (r .outcome); state = withRow s (c .row) (rowLeft r) }
+act removal s c =
+    let M = s .model in
+    let r = removeRowOf (M .n) (rowAt (M .n) (M .rows) (c .row)) (M .box) in
+    record { answer = removed (r .outcome); state = withRow s (c .row) (rowLeft r) }
+act unknown s c = record { answer = refused 11; state = s }
 
 -- "The first [check] that applies to the call is the answer; every lent number stays." Everything else is accepted.
 unfoldable pub perform : State → Call → Performed

@@ -7,30 +7,21 @@ use mathlib.Core.Logic.{_⊎_}
 use mathlib.Core.Path.{_≡_}
 use Rattle.model.specs.Box.{at}
 use Rattle.model.specs.Point.{FractionalPoint, IntegerPoint}
-use Rattle.model.specs.Valid.{ValidModel, ValidTable}
+use Rattle.model.specs.State.{State}
 use Rattle.semantics.specs.Fixpoint.{ProbingFixpoint}
 use Rattle.semantics.specs.Probe.{byteOf, literal}
-use Rattle.semantics.specs.State.{State}
 
 -- "its integer points are those of its box and rows"
 abbrev pub PointOf : State → List ℤ → Type 0
-PointOf s x = IntegerPoint (s .n) (s .m) (s .box) (s .coefs) (s .rhs) x
+PointOf s x = IntegerPoint (s .model) x
 
 -- the point x / d
 abbrev pub FractionalPointOf : State → List ℤ → ℕ → Type 0
-FractionalPointOf s x d = FractionalPoint (s .n) (s .m) (s .box) (s .coefs) (s .rhs) x d
+FractionalPointOf s x d = FractionalPoint (s .model) x d
 
 -- "at rest is judged with the rows of that state"
 abbrev pub AtRest : State → Type 0
-AtRest s = ProbingFixpoint (s .n) (s .m) (s .coefs) (s .rhs) (s .box)
-
--- the model part of a state that passes the checks, and the table's part
-abbrev pub ValidModelOf : State → Type 0
-ValidModelOf s = ValidModel (s .n) (s .m) (s .box) (s .coefs) (s .rhs)
-
-pub record ValidState (s : State) : Type 0 where
-  pub model : ValidModelOf s
-  pub table : ValidTable (s .n) (s .table)
+AtRest s = ProbingFixpoint (s .model .n) (s .model .m) (s .model .rows) (s .model .box)
 
 -- literal 2k + v is true at x: variable k is v
 unfoldable pub LiteralTrue : ℕ → ℕ → List ℤ → Type 0

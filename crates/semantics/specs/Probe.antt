@@ -7,7 +7,8 @@ use mathlib.Core.Bool.{Bool, _&&_, cond, false, not}
 use mathlib.Core.List.{List}
 use Rattle.integer.specs.Order.{eqZ, maxZ, minZ}
 use Rattle.model.specs.Box.{boxOf, emptyBox, isEmpty, isFree, lower, upper}
-use Rattle.semantics.specs.Propagate.{Propagation, isNone, isSpent, propagate}
+use Rattle.model.specs.Rows.{Rows}
+use Rattle.semantics.specs.Propagate.{Propagated, isNone, isSpent, propagate}
 
 -- "Side v is the box with k set to v", before it is settled
 unfoldable pub fix : ℕ → List ℤ → ℕ → ℕ → List ℤ
@@ -77,13 +78,13 @@ pub record Probed : Type 0 where
   pub box : List ℤ
   pub table : List ℕ
 
-unfoldable pub sideOf : Propagation → Side
+unfoldable pub sideOf : Propagated → Side
 sideOf p = record { passes = p .passes; spent = isSpent (p .ending) }
 
 -- the four cases, from the two sides as they were settled: "Both None: void, None." "One None: the bounds of the surviving side
 -- are handed on as the new box; answer Fixed with that side's v. The table stays." "Neither: the new box is the smallest that
 -- contains both sides." and the table gets what they say. "A Spent side is used with the box it reached."
-unfoldable pub joinSides : ℕ → ℕ → List ℤ → List ℕ → Propagation → Propagation → Probed
+unfoldable pub joinSides : ℕ → ℕ → List ℤ → List ℕ → Propagated → Propagated → Probed
 joinSides n k B t s0 s1 =
     cond (isNone (s0 .ending))
     (cond (isNone (s1 .ending))
@@ -102,8 +103,8 @@ joinSides n k B t s0 s1 =
 
 -- "Side v is the box with k set to v, then settled with the budget." "On the void box all five calls answer None (.. a probe
 -- with 0 for each side) and change nothing."
-unfoldable pub probe : ℕ → ℕ → ℕ → ℕ → List ℤ → List ℤ → List ℤ → List ℕ → Probed
-probe k budget n m C R B t =
+unfoldable pub probe : ℕ → ℕ → ℕ → ℕ → Rows → List ℤ → List ℕ → Probed
+probe k budget n m A B t =
     cond (isEmpty n B)
     (record {
       ending = infeasible;
@@ -112,4 +113,4 @@ probe k budget n m C R B t =
       box = B;
       table = t;
     })
-    (joinSides n k B t (propagate budget n m C R (fix n B k 0)) (propagate budget n m C R (fix n B k 1)))
+    (joinSides n k B t (propagate budget n m A (fix n B k 0)) (propagate budget n m A (fix n B k 1)))

@@ -3,10 +3,10 @@ use Prim.Native.Nat.{suc, zero, ℕ}
 use lib.IntN.{ℤ}
 use mathlib.Core.Bool.{Bool, _||_, cond, false, true}
 use mathlib.Core.List.{List}
-use Rattle.model.specs.Box.{at, isEmpty}
-use Rattle.model.specs.Point.{rowOf}
+use Rattle.model.specs.Box.{isEmpty}
+use Rattle.model.specs.Rows.{Rows, rowAt}
 use Rattle.row.specs.Outcome.{isChanged, isInfeasible}
-use Rattle.row.specs.Propagation.{Propagated, propagateRow}
+use Rattle.row.specs.Propagation.{PropagatedRow, propagateRowOf}
 
 -- a pass, as far as it has come: whether a row answered None, whether a bound moved, and the box
 pub record Pass : Type 0 where
@@ -15,21 +15,21 @@ pub record Pass : Type 0 where
   pub box : List ℤ
 
 -- "A pass ends at the first row that answers None": after that, no row changes it
-unfoldable pub passRow : Pass → Propagated → Pass
+unfoldable pub passRow : Pass → PropagatedRow → Pass
 passRow p v =
     cond (p .ended) p (record { ended = isInfeasible (v .outcome); moved = p .moved || isChanged (v .outcome); box = v .box })
 
 -- "a pass visits rows 0 to m − 1": the pass over rows 0 to i − 1 of the matrix C with the right sides R
-unfoldable pub passTo : ℕ → ℕ → List ℤ → List ℤ → List ℤ → Pass
-passTo n zero C R B = record { ended = false; moved = false; box = B }
-passTo n (suc i) C R B = passRow (passTo n i C R B) (propagateRow n (rowOf n C i) (at R i) (passTo n i C R B .box))
+unfoldable pub passTo : ℕ → ℕ → Rows → List ℤ → Pass
+passTo n zero A B = record { ended = false; moved = false; box = B }
+passTo n (suc i) A B = passRow (passTo n i A B) (propagateRowOf n (rowAt n A i) (passTo n i A B .box))
 
 -- how a settle ends: None, Settled, Spent
 pub data Ending : Type 0 where
   infeasible converged budgetSpent : Ending
 
 -- "The answer carries the passes made"
-pub record Propagation : Type 0 where
+pub record Propagated : Type 0 where
   pub ending : Ending
   pub passes : ℕ
   pub box : List ℤ
@@ -37,19 +37,19 @@ pub record Propagation : Type 0 where
 -- `left` passes may still be made and `made` are made; the last of them moved a bound, or there was none yet.
 -- "None; Settled, when the last pass moved nothing; Spent, exactly when the budget's passes are made and the last moved a bound."
 -- A pass that None breaks off counts as made.
-unfoldable pub propagateFrom : (left : ℕ) → ℕ → ℕ → ℕ → List ℤ → List ℤ → List ℤ → Propagation
-propagateFrom zero made n m C R B = record { ending = budgetSpent; passes = made; box = B }
-propagateFrom (suc left) made n m C R B =
-    let p = passTo n m C R B in
-    let again : Propagation = propagateFrom left (suc made) n m C R (p .box) in
+unfoldable pub propagateFrom : (left : ℕ) → ℕ → ℕ → ℕ → Rows → List ℤ → Propagated
+propagateFrom zero made n m A B = record { ending = budgetSpent; passes = made; box = B }
+propagateFrom (suc left) made n m A B =
+    let p = passTo n m A B in
+    let again : Propagated = propagateFrom left (suc made) n m A (p .box) in
     cond (p .ended) (record { ending = infeasible; passes = suc made; box = p .box })
     (cond (p .moved) again (record { ending = converged; passes = suc made; box = p .box }))
 
 -- "On the void box all five calls answer None (a settle with 1 pass ..) and change nothing."
 -- "With m = 0 a box that is not void is Settled after 1": its one pass moves nothing.
-unfoldable pub propagate : ℕ → ℕ → ℕ → List ℤ → List ℤ → List ℤ → Propagation
-propagate budget n m C R B =
-    cond (isEmpty n B) (record { ending = infeasible; passes = 1; box = B }) (propagateFrom budget 0 n m C R B)
+unfoldable pub propagate : ℕ → ℕ → ℕ → Rows → List ℤ → Propagated
+propagate budget n m A B =
+    cond (isEmpty n B) (record { ending = infeasible; passes = 1; box = B }) (propagateFrom budget 0 n m A B)
 
 unfoldable pub isNone : Ending → Bool
 isNone infeasible = true

@@ -4,11 +4,12 @@ use lib.Dec.{eqb}
 use mathlib.Core.Bool.{Bool, _&&_, cond, false, true}
 use mathlib.Core.List.{List, [], _∷_}
 use Rattle.model.specs.Box.{sameList}
+use Rattle.model.specs.State.{State}
 use Rattle.row.specs.Outcome.{isInfeasible}
+use Rattle.semantics.specs.Call.{Call}
 use Rattle.semantics.specs.Perform.{Answer, perform, probed, propagated, propagatedRow, refused, removed, tightened}
 use Rattle.semantics.specs.Probe.{ProbeEnding, bothFeasible, fixed, infeasible}
 use Rattle.semantics.specs.Propagate.{isNone}
-use Rattle.semantics.specs.State.{Call, State}
 
 -- the state that a call leaves: "A refused call .. leaves the state as it was"
 unfoldable pub step : State → Call → State
@@ -56,7 +57,9 @@ sameBytes (x ∷ xs) (y ∷ ys) = eqb x y && sameBytes xs ys
 -- every bound, row number and table byte is as it was
 unfoldable pub sameState : State → State → Bool
 sameState s r =
-    sameList (s .box) (r .box) && sameList (s .coefs) (r .coefs) && sameList (s .rhs) (r .rhs) && sameBytes (s .table) (r .table)
+    let M = s .model in
+    let N = r .model in
+    sameList (M .box) (N .box) && sameList (M .rows .coefs) (N .rows .coefs) && sameList (M .rows .rhs) (N .rows .rhs) && sameBytes (s .table) (r .table)
 
 -- "A call that answers None counts there only, also where it voids the box."
 unfoldable pub classOf : State → Call → CallClass

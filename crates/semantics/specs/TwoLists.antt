@@ -5,21 +5,21 @@ use lib.ListN.{length, replicate}
 use mathlib.Core.List.{List}
 use mathlib.Core.Logic.{_↔_}
 use mathlib.Core.Path.{_≡_}
+use Rattle.model.specs.State.{State}
 use Rattle.semantics.specs.CallList.{ListRun, callsMade, ran, runList}
 use Rattle.semantics.specs.Points.{AtRest, FractionalPointOf, PointOf, TableHolds}
 use Rattle.semantics.specs.Run.{Counts}
-use Rattle.semantics.specs.State.{State}
 use Rattle.semantics.specs.TwoRuns.{HandedIn, Narrows}
 
 -- of the model handed in, s; the list before the parting; and those of the two runs after it
 pub record TwoLists (s : State) (before one two : List ℕ) : Type 0 where
   pub sameEnd : AtRest (runList (runList s before .state) one .state)
-      → ((runList (runList s before .state) one .state .box ≡ runList (runList s before .state) two .state .box)
+      → ((runList (runList s before .state) one .state .model .box ≡ runList (runList s before .state) two .state .model .box)
       ↔ AtRest (runList (runList s before .state) two .state))
   pub points1 : (x : List ℤ) → PointOf (runList (runList s before .state) one .state) x ↔ PointOf s x
   pub points2 : (x : List ℤ) → PointOf (runList (runList s before .state) two .state) x ↔ PointOf s x
-  pub implied1 : (x : List ℤ) → PointOf s x → TableHolds (s .n) (runList (runList s before .state) one .state .table) x
-  pub implied2 : (x : List ℤ) → PointOf s x → TableHolds (s .n) (runList (runList s before .state) two .state .table) x
+  pub implied1 : (x : List ℤ) → PointOf s x → TableHolds (s .model .n) (runList (runList s before .state) one .state .table) x
+  pub implied2 : (x : List ℤ) → PointOf s x → TableHolds (s .model .n) (runList (runList s before .state) two .state .table) x
 
 -- for every three lists, also ones that are refused as a whole; "after [the parting] an accepted call is a visit, a settle or a
 -- probe", of the calls that the lists make (proved as `demand-3-lists`)
@@ -44,5 +44,5 @@ pub record ListMeans (s : State) (r : ListRun) : Type 0 where
   -- "None" means that no integer point exists: a call that answers None is counted
   pub noPoint : (k : Counts) → r .answer ≡ ran k → 0 < k .infeasibles → (x : List ℤ) → PointOf s x → ⊥
   -- each recorded implication holds at all of them, where those recorded before do; all do where the table was all 0
-  pub holds : (x : List ℤ) → PointOf s x → TableHolds (s .n) (s .table) x → TableHolds (s .n) (r .state .table) x
-  pub implied : s .table ≡ replicate (4 * (s .n * s .n)) 0 → (x : List ℤ) → PointOf s x → TableHolds (s .n) (r .state .table) x
+  pub holds : (x : List ℤ) → PointOf s x → TableHolds (s .model .n) (s .table) x → TableHolds (s .model .n) (r .state .table) x
+  pub implied : s .table ≡ replicate (4 * (s .model .n * s .model .n)) 0 → (x : List ℤ) → PointOf s x → TableHolds (s .model .n) (r .state .table) x

@@ -1,6 +1,6 @@
 -- Demand 3 (01, "Two runs"): two runs from one state that both end at rest end in the same box, and no run loses or adds an
 -- integer point or records an implication that fails at one.
-use Prim.Native.Nat.{_*_, ℕ}
+use Prim.Native.Nat.{_*_}
 use lib.Dec.{T}
 use lib.IntN.{ℤ}
 use lib.ListN.{replicate}
@@ -9,30 +9,32 @@ use mathlib.Core.List.{List, [], _∷_}
 use mathlib.Core.Logic.{_↔_}
 use mathlib.Core.Path.{_≡_}
 use Rattle.model.specs.Checks.{modelFault, none, table}
+use Rattle.model.specs.Model.{Model}
+use Rattle.model.specs.State.{State}
+use Rattle.semantics.specs.Call.{Call, Kind, kindOf, probing, propagation, removal, rowPropagation, tightening, unknown}
 use Rattle.semantics.specs.CallChecks.{callFault}
 use Rattle.semantics.specs.Points.{AtRest, PointOf, TableHolds}
 use Rattle.semantics.specs.Run.{run, step}
-use Rattle.semantics.specs.State.{Call, Kind, State, kindOf, other, probes, propagates, propagatesRow, removes, stateOf, tightens}
 
 -- "the model handed in, before the first list, is any that passes the checks, its box void or not, with a table all 0"
 pub record HandedIn (s : State) : Type 0 where
-  pub accepted : modelFault (s .n) (s .m) (s .box) (s .coefs) (s .rhs) (table (s .table)) ≡ 0
+  pub accepted : modelFault (s .model) (table (s .table)) true ≡ 0
   -- of its box nothing more is asked
-  pub zeros : s .table ≡ replicate (4 * (s .n * s .n)) 0
+  pub zeros : s .table ≡ replicate (4 * (s .model .n * s .model .n)) 0
 
 -- every model that passes the checks is handed in with a table all 0, its box empty or not (proved as `handed-in`)
 unfoldable pub EveryModelHandedIn : Type 0
 EveryModelHandedIn =
-    (n m : ℕ) (B C R : List ℤ) → modelFault n m B C R none ≡ 0 → HandedIn (stateOf n m B C R (replicate (4 * (n * n)) 0))
+    (M : Model) → modelFault M none true ≡ 0 → HandedIn (record { model = M; table = replicate (4 * (M .n * M .n)) 0 })
 
 -- a visit, a settle or a probe
 unfoldable pub narrows : Kind → Bool
-narrows propagatesRow = true
-narrows propagates = true
-narrows probes = true
-narrows tightens = false
-narrows removes = false
-narrows other = false
+narrows rowPropagation = true
+narrows propagation = true
+narrows probing = true
+narrows tightening = false
+narrows removal = false
+narrows unknown = false
 
 -- "after it an accepted call is a visit, a settle or a probe": of the calls that the run from s makes
 unfoldable pub Narrows : State → List Call → Type 0
@@ -45,11 +47,11 @@ Narrows s (c ∷ cs) = (callFault s c ≡ 0 → T (narrows (kindOf (c .kind)))) 
 -- holds at all of them."
 pub record TwoRuns (s : State) (before one two : List Call) : Type 0 where
   pub sameEnd : AtRest (run (run s before) one)
-      → ((run (run s before) one .box ≡ run (run s before) two .box) ↔ AtRest (run (run s before) two))
+      → ((run (run s before) one .model .box ≡ run (run s before) two .model .box) ↔ AtRest (run (run s before) two))
   pub points1 : (x : List ℤ) → PointOf (run (run s before) one) x ↔ PointOf s x
   pub points2 : (x : List ℤ) → PointOf (run (run s before) two) x ↔ PointOf s x
-  pub implied1 : (x : List ℤ) → PointOf s x → TableHolds (s .n) (run (run s before) one .table) x
-  pub implied2 : (x : List ℤ) → PointOf s x → TableHolds (s .n) (run (run s before) two .table) x
+  pub implied1 : (x : List ℤ) → PointOf s x → TableHolds (s .model .n) (run (run s before) one .table) x
+  pub implied2 : (x : List ℤ) → PointOf s x → TableHolds (s .model .n) (run (run s before) two .table) x
 
 -- "All this is a single claim about the three lists together" (proved as `demand-3`)
 unfoldable pub Demand3 : Type 0

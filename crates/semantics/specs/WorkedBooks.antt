@@ -3,15 +3,15 @@ use Prim.Native.Nat.{ℕ}
 use lib.IntN.{negsuc, pos, ℤ}
 use mathlib.Core.Bool.{Bool, false, true}
 use mathlib.Core.List.{List, [], _∷_}
+use Rattle.model.specs.State.{State}
 use Rattle.row.specs.Outcome.{changed, infeasible, unchanged}
-use Rattle.semantics.specs.Books.{Line, boxed, drop, is, kept, model, probe, rowed, settle, sharpen, visit}
+use Rattle.semantics.specs.Books.{Line, boxed, fresh, is, kept, probeCall, propagateCall, propagateRowCall, removeCall, rowed, tightenCall}
 use Rattle.semantics.specs.Demand2.{ones}
 use Rattle.semantics.specs.Perform.{perform, probed, propagated, propagatedRow, removed, tightened}
 use Rattle.semantics.specs.Probe.{fixed}
 use Rattle.semantics.specs.Propagate.{budgetSpent, converged}
 use Rattle.semantics.specs.RestTest.{isProbingFixpoint}
 use Rattle.semantics.specs.Run.{run}
-use Rattle.semantics.specs.State.{State}
 
 unfoldable pub binary2 : List ℤ
 binary2 = pos 0 ∷ pos 1 ∷ pos 0 ∷ pos 1 ∷ []
@@ -21,32 +21,32 @@ empty2 = pos 1 ∷ pos 0 ∷ pos 1 ∷ pos 0 ∷ []
 
 -- a x ≤ b with x from l to u; a x + c y ≤ b with x and y free 0-1
 unfoldable pub single : ℤ → ℤ → ℤ → ℤ → State
-single a b l u = model 1 1 (l ∷ u ∷ []) (a ∷ []) (b ∷ [])
+single a b l u = fresh 1 1 (l ∷ u ∷ []) (a ∷ []) (b ∷ [])
 
 unfoldable pub pair : ℤ → ℤ → ℤ → State
-pair a c b = model 2 1 binary2 (a ∷ c ∷ []) (b ∷ [])
+pair a c b = fresh 2 1 binary2 (a ∷ c ∷ []) (b ∷ [])
 
 -- x − y ≤ 0, x + y ≤ 1
 unfoldable pub crossed : State
-crossed = model 2 2 binary2 (pos 1 ∷ negsuc 0 ∷ pos 1 ∷ pos 1 ∷ []) (pos 0 ∷ pos 1 ∷ [])
+crossed = fresh 2 2 binary2 (pos 1 ∷ negsuc 0 ∷ pos 1 ∷ pos 1 ∷ []) (pos 0 ∷ pos 1 ∷ [])
 
 -- A: 2x ≤ 5, B: y − x ≤ 0, both 0..5
 unfoldable pub chained : State
 chained =
-    model 2 2 (pos 0 ∷ pos 5 ∷ pos 0 ∷ pos 5 ∷ []) (pos 2 ∷ pos 0 ∷ negsuc 0 ∷ pos 1 ∷ []) (pos 5 ∷ pos 0 ∷ [])
+    fresh 2 2 (pos 0 ∷ pos 5 ∷ pos 0 ∷ pos 5 ∷ []) (pos 2 ∷ pos 0 ∷ negsuc 0 ∷ pos 1 ∷ []) (pos 5 ∷ pos 0 ∷ [])
 
 -- the box after visits of the given rows, one after the other
 unfoldable pub boxAfter : State → List ℕ → List ℤ
-boxAfter s [] = s .box
-boxAfter s (r ∷ rs) = boxAfter (perform s (visit s r) .state) rs
+boxAfter s [] = s .model .box
+boxAfter s (r ∷ rs) = boxAfter (perform s (propagateRowCall s r) .state) rs
 
 unfoldable pub atRest : State → List ℤ → Bool
-atRest s B = isProbingFixpoint (s .n) (s .m) (s .coefs) (s .rhs) B
+atRest s B = isProbingFixpoint (s .model .n) (s .model .m) (s .model .rows) B
 
 -- 000's four-row clique example (2.2.2): 4 x0 + x1 − 3 x3 ≤ 2, 2 x0 + 3 x1 + 3 x3 ≤ 7, x0 + 4 x1 + 2 x2 ≤ 5, 3 x0 + x1 + 5 x2 ≤ 6
 unfoldable pub clique : State
 clique =
-    model 4 4 (pos 0 ∷ pos 1 ∷ pos 0 ∷ pos 1 ∷ pos 0 ∷ pos 1 ∷ pos 0 ∷ pos 1 ∷ [])
+    fresh 4 4 (pos 0 ∷ pos 1 ∷ pos 0 ∷ pos 1 ∷ pos 0 ∷ pos 1 ∷ pos 0 ∷ pos 1 ∷ [])
     (pos 4 ∷ pos 1 ∷ pos 0 ∷ negsuc 2 ∷ pos 2 ∷ pos 3 ∷ pos 0 ∷ pos 3 ∷ pos 1 ∷ pos 4 ∷ pos 2 ∷ pos 0 ∷ pos 3 ∷ pos 1 ∷ pos 5 ∷ pos 0 ∷ [])
     (pos 2 ∷ pos 7 ∷ pos 5 ∷ pos 6 ∷ [])
 
@@ -54,42 +54,42 @@ unfoldable pub workedBooks : List Line
 workedBooks =
     -- 2x ≤ 5, x 0..5: visit gives 0..2; again, Same
     (let s = single (pos 2) (pos 5) (pos 0) (pos 5) in
-    is (perform s (visit s 0)) (boxed s (propagatedRow changed) (pos 0 ∷ pos 2 ∷ [])))
-    ∷ (let s = single (pos 2) (pos 5) (pos 0) (pos 2) in is (perform s (visit s 0)) (kept s (propagatedRow unchanged)))
+    is (perform s (propagateRowCall s 0)) (boxed s (propagatedRow changed) (pos 0 ∷ pos 2 ∷ [])))
+    ∷ (let s = single (pos 2) (pos 5) (pos 0) (pos 2) in is (perform s (propagateRowCall s 0)) (kept s (propagatedRow unchanged)))
     -- −2x ≤ −3, x 0..5: 2..5
     ∷ (let s = single (negsuc 1) (negsuc 2) (pos 0) (pos 5) in
-    is (perform s (visit s 0)) (boxed s (propagatedRow changed) (pos 2 ∷ pos 5 ∷ [])))
+    is (perform s (propagateRowCall s 0)) (boxed s (propagatedRow changed) (pos 2 ∷ pos 5 ∷ [])))
     -- 2x ≤ −3, x −5..5: −5..−2
     ∷ (let s = single (pos 2) (negsuc 2) (negsuc 4) (pos 5) in
-    is (perform s (visit s 0)) (boxed s (propagatedRow changed) (negsuc 4 ∷ negsuc 1 ∷ [])))
+    is (perform s (propagateRowCall s 0)) (boxed s (propagatedRow changed) (negsuc 4 ∷ negsuc 1 ∷ [])))
     -- All zero: b = −1 None; b = 0 Same
-    ∷ (let s = pair (pos 0) (pos 0) (negsuc 0) in is (perform s (visit s 0)) (boxed s (propagatedRow infeasible) empty2))
-    ∷ (let s = pair (pos 0) (pos 0) (pos 0) in is (perform s (visit s 0)) (kept s (propagatedRow unchanged)))
+    ∷ (let s = pair (pos 0) (pos 0) (negsuc 0) in is (perform s (propagateRowCall s 0)) (boxed s (propagatedRow infeasible) empty2))
+    ∷ (let s = pair (pos 0) (pos 0) (pos 0) in is (perform s (propagateRowCall s 0)) (kept s (propagatedRow unchanged)))
     -- −x−y ≤ −2: both 1; ≤ −3: None
     ∷ (let s = pair (negsuc 0) (negsuc 0) (negsuc 1) in
-    is (perform s (visit s 0)) (boxed s (propagatedRow changed) (pos 1 ∷ pos 1 ∷ pos 1 ∷ pos 1 ∷ [])))
-    ∷ (let s = pair (negsuc 0) (negsuc 0) (negsuc 2) in is (perform s (visit s 0)) (boxed s (propagatedRow infeasible) empty2))
+    is (perform s (propagateRowCall s 0)) (boxed s (propagatedRow changed) (pos 1 ∷ pos 1 ∷ pos 1 ∷ pos 1 ∷ [])))
+    ∷ (let s = pair (negsuc 0) (negsuc 0) (negsuc 2) in is (perform s (propagateRowCall s 0)) (boxed s (propagatedRow infeasible) empty2))
     -- 3x+2y ≤ 4 sharpened at x: x+2y ≤ 2
-    ∷ (let s = pair (pos 3) (pos 2) (pos 4) in is (perform s (sharpen s 0 0)) (rowed s (tightened changed) (pos 1 ∷ pos 2 ∷ []) (pos 2)))
+    ∷ (let s = pair (pos 3) (pos 2) (pos 4) in is (perform s (tightenCall s 0 0)) (rowed s (tightened changed) (pos 1 ∷ pos 2 ∷ []) (pos 2)))
     -- 2y−5x ≤ 1 at x: 2y−x ≤ 1
     ∷ (let s = pair (negsuc 4) (pos 2) (pos 1) in
-    is (perform s (sharpen s 0 0)) (rowed s (tightened changed) (negsuc 0 ∷ pos 2 ∷ []) (pos 1)))
+    is (perform s (tightenCall s 0 0)) (rowed s (tightened changed) (negsuc 0 ∷ pos 2 ∷ []) (pos 1)))
     -- 3x+2y ≤ 5: sharpen Same; drop zeroes it
-    ∷ (let s = pair (pos 3) (pos 2) (pos 5) in is (perform s (sharpen s 0 0)) (kept s (tightened unchanged)))
-    ∷ (let s = pair (pos 3) (pos 2) (pos 5) in is (perform s (drop s 0)) (rowed s (removed changed) (pos 0 ∷ pos 0 ∷ []) (pos 0)))
+    ∷ (let s = pair (pos 3) (pos 2) (pos 5) in is (perform s (tightenCall s 0 0)) (kept s (tightened unchanged)))
+    ∷ (let s = pair (pos 3) (pos 2) (pos 5) in is (perform s (removeCall s 0)) (rowed s (removed changed) (pos 0 ∷ pos 0 ∷ []) (pos 0)))
     -- x+y ≤ 1: both Same
-    ∷ (let s = pair (pos 1) (pos 1) (pos 1) in is (perform s (sharpen s 0 0)) (kept s (tightened unchanged)))
-    ∷ (let s = pair (pos 1) (pos 1) (pos 1) in is (perform s (drop s 0)) (kept s (removed unchanged)))
+    ∷ (let s = pair (pos 1) (pos 1) (pos 1) in is (perform s (tightenCall s 0 0)) (kept s (tightened unchanged)))
+    ∷ (let s = pair (pos 1) (pos 1) (pos 1) in is (perform s (removeCall s 0)) (kept s (removed unchanged)))
     -- 2x ≤ 5, x 0..5: settle, budget 1, Spent; budget 2, Settled(2)
     ∷ (let s = single (pos 2) (pos 5) (pos 0) (pos 5) in
-    is (perform s (settle s 1)) (boxed s (propagated budgetSpent 1) (pos 0 ∷ pos 2 ∷ [])))
+    is (perform s (propagateCall s 1)) (boxed s (propagated budgetSpent 1) (pos 0 ∷ pos 2 ∷ [])))
     ∷ (let s = single (pos 2) (pos 5) (pos 0) (pos 5) in
-    is (perform s (settle s 2)) (boxed s (propagated converged 2) (pos 0 ∷ pos 2 ∷ [])))
+    is (perform s (propagateCall s 2)) (boxed s (propagated converged 2) (pos 0 ∷ pos 2 ∷ [])))
     -- x−y ≤ 0, x+y ≤ 1: visits Same, rest no, probe of x Fixed 0
-    ∷ is (perform crossed (visit crossed 0)) (kept crossed (propagatedRow unchanged))
-    ∷ is (perform crossed (visit crossed 1)) (kept crossed (propagatedRow unchanged))
-    ∷ is (atRest crossed (crossed .box)) false
-    ∷ is (perform crossed (probe crossed 0 1000))
+    ∷ is (perform crossed (propagateRowCall crossed 0)) (kept crossed (propagatedRow unchanged))
+    ∷ is (perform crossed (propagateRowCall crossed 1)) (kept crossed (propagatedRow unchanged))
+    ∷ is (atRest crossed (crossed .model .box)) false
+    ∷ is (perform crossed (probeCall crossed 0 1000))
     (boxed crossed (probed (fixed 0) (record { passes = 1; spent = false }) (record { passes = 1; spent = false })) (pos 0 ∷ pos 0 ∷ pos 0 ∷ pos 1 ∷ []))
     -- A: 2x ≤ 5, B: y−x ≤ 0, both 0..5: A B and B A B end at x, y 0..2; B A leaves y 0..5, not at rest
     ∷ is (boxAfter chained (0 ∷ 1 ∷ [])) (pos 0 ∷ pos 2 ∷ pos 0 ∷ pos 2 ∷ [])
@@ -98,5 +98,5 @@ workedBooks =
     ∷ is (boxAfter chained (1 ∷ 0 ∷ [])) (pos 0 ∷ pos 2 ∷ pos 0 ∷ pos 5 ∷ [])
     ∷ is (atRest chained (pos 0 ∷ pos 2 ∷ pos 0 ∷ pos 5 ∷ [])) false
     -- 000's four-row clique example: probing each variable once, upwards, from an empty table with budget 1,000 gives 8 table bytes
-    ∷ is (ones (run clique (probe clique 0 1000 ∷ probe clique 1 1000 ∷ probe clique 2 1000 ∷ probe clique 3 1000 ∷ []) .table)) 8
+    ∷ is (ones (run clique (probeCall clique 0 1000 ∷ probeCall clique 1 1000 ∷ probeCall clique 2 1000 ∷ probeCall clique 3 1000 ∷ []) .table)) 8
     ∷ []

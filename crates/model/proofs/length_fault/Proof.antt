@@ -9,38 +9,39 @@ use mathlib.Core.Path.{_≡_, sym}
 use native.Mathlib.Omega.{arith}
 use Rattle.integer.proofs.Tests.{test-false, told-false, told-true}
 use Rattle.model.specs.Checks.{first, lengthChecks}
-use Rattle.model.proofs.CheckLaws.{fails, first-none, length-test}
+use Rattle.model.specs.Model.{Model}
+use Rattle.model.proofs.CheckLaws.{LengthsFit, fails, first-none, length-test}
 use Rattle.model.proofs.length_fault.Statement.{statement}
 use Rattle.model.proofs.length_fault.Tie as tie
 
-refused : (n m : ℕ) (B C R : List ℤ) → ((length B ≡ 2 * n) × (length C ≡ m * n) × (length R ≡ m) → ⊥) → 5 ≡ first (lengthChecks n m B C R)
+refused : (M : Model) → (LengthsFit M → ⊥) → 5 ≡ first (lengthChecks M)
 unfolding lengthChecks
-refused n m B C R h = fails _ 5 _ (test-false _ (length-test n m B C R) h)
+refused M h = fails _ 5 _ (test-false _ (length-test M) h)
 
-accepted : (n m : ℕ) (B C R : List ℤ) → (length B ≡ 2 * n) × (length C ≡ m * n) × (length R ≡ m) → 0 ≡ first (lengthChecks n m B C R)
+accepted : (M : Model) → LengthsFit M → 0 ≡ first (lengthChecks M)
 unfolding lengthChecks
-accepted n m B C R h = sym (first-none (lengthChecks n m B C R) tt .1 (length-test n m B C R .1 h, tt))
+accepted M h = sym (first-none (lengthChecks M) tt .1 (length-test M .1 h, tt))
 
 is-product-requires : tie.Need-is-product-requires
 is-product-requires c κs = search needs
 
 returns : tie.Need-returns
-returns c = refused _ _ _ _ _ (λ h. eqb-false _ _ (told-false _ (c .before .is-product .ensures) (c .if1 .taken)) (h .0))
+returns c = refused _ (λ h. eqb-false _ _ (told-false _ (c .before .is-product .ensures) (c .if1 .taken)) (h .0))
 
 is-product-requires-2 : tie.Need-is-product-requires-2
 is-product-requires-2 c κs = search needs
 
 returns-2 : tie.Need-returns-2
-returns-2 c = refused _ _ _ _ _ (λ h. eqb-false _ _ (told-false _ (c .before .is-product2 .ensures) (c .if2 .taken)) (h .1))
+returns-2 c = refused _ (λ h. eqb-false _ _ (told-false _ (c .before .is-product2 .ensures) (c .if2 .taken)) (h .1))
 
 returns-3 : tie.Need-returns-3
-returns-3 c = refused _ _ _ _ _ (λ h. omega arith)
+returns-3 c = refused _ (λ h. omega arith)
 
 returns-4 : tie.Need-returns-4
 returns-4 c =
     let after2 = c .before .before in
     let after1 = after2 .before .before in
-    accepted _ _ _ _ _ (
+    accepted _ (
       eqb-true _ _ (told-true _ (after1 .is-product .ensures) (after2 .before .if1 .left)),
       eqb-true _ _ (told-true _ (after2 .is-product2 .ensures) (c .before .if2 .left)),
       c .if3 .left,

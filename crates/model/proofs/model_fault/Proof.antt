@@ -2,9 +2,11 @@
 use Prim.Native.Nat.{ℕ}
 use borrow.Author.Needs.{needs}
 use mathlib.Core.List.{List, _++_}
-use mathlib.Core.Path.{_≡_}
+use mathlib.Core.Path.{_≡_, refl}
+use Rattle.integer.proofs.Tests.{told-false, told-true}
 use Rattle.model.specs.Checks.{Check, first, lengthChecks, modelChecks, modelFault, numberChecks, sizeChecks, tableByteChecks, tableLengthChecks}
-use Rattle.model.proofs.CheckLaws.{goes, stops}
+use Rattle.model.specs.Model.{modelOf}
+use Rattle.model.proofs.CheckLaws.{fails, goes, past, stops}
 use Rattle.model.proofs.model_fault.Statement.{statement}
 use Rattle.model.proofs.model_fault.Tie as tie
 
@@ -13,7 +15,7 @@ abbrev sizes : tie.Start → List Check
 sizes s = sizeChecks (s .args .n) (s .args .m)
 
 abbrev lengths : tie.Start → List Check
-lengths s = lengthChecks (s .args .n) (s .args .m) (s .args .bounds .now) (s .args .coefs .now) (s .args .rhs .now)
+lengths s = lengthChecks (modelOf (s .args .n) (s .args .m) (s .args .bounds .now) (s .args .coefs .now) (s .args .rhs .now))
 
 size-fault-requires : tie.Need-size-fault-requires
 size-fault-requires c κs = search needs
@@ -40,12 +42,16 @@ unfolding lengthChecks
 past-2 c ys h =
     past-1 (c .before .before) _ (goes (lengths (c .before .before .before .before)) ys tt (c .before .length-fault .ensures) (c .if2 .left) h)
 
+returns-3 : tie.Need-returns-3
+unfolding modelFault modelChecks tableLengthChecks
+returns-3 c = past-2 (c .before) _ (fails _ 5 _ (told-false _ refl (c .if3 .taken)))
+
 number-fault-requires : tie.Need-number-fault-requires
 number-fault-requires c κs = search needs
 
-returns-3 : tie.Need-returns-3
+returns-4 : tie.Need-returns-4
 unfolding modelFault modelChecks tableLengthChecks numberChecks tableByteChecks
-returns-3 c = past-2 (c .before) _ (c .number-fault .ensures)
+returns-4 c = past-2 (c .before .before) _ (past _ 5 _ (told-true _ refl (c .before .if3 .left)) (c .number-fault .ensures))
 
 pub model-fault-spec : {M : Type 1} → statement M
 model-fault-spec =
@@ -55,5 +61,6 @@ model-fault-spec =
     returns
     length-fault-requires
     returns-2
+    returns-3
     number-fault-requires
-    returns-3)
+    returns-4)

@@ -1,106 +1,71 @@
--- `model::model_table_fault`: each call answers for its list of checks, and the lists are passed in their order.
+-- `model::model_table_fault`: the chain without a table, in which the table's length must fit too, and then check 10 (`table-chain`).
 -- Assumes nothing.
-use Prim.Native.Nat.{ℕ}
 use borrow.Author.Needs.{needs}
+use lib.Dec.{eqb}
+use lib.ListN.{length}
+use mathlib.Core.Bool.{_&&_}
 use mathlib.Core.List.{List, _++_}
-use mathlib.Core.Path.{_≡_}
+use mathlib.Core.Logic.{⊎-elim}
+use mathlib.Core.Path.{_∙_, _≡_, ap, sym}
+use Prim.Native.Nat.{_*_, ℕ}
 use Rattle.integer.proofs.Tests.{told-false, told-true}
-use Rattle.model.specs.Checks.{Check, first, lengthChecks, modelChecks, modelFault, numberChecks, sizeChecks, table, tableByteChecks, tableLengthChecks}
-use Rattle.model.proofs.CheckLaws.{ends, fails, goes, past, stops}
+use Rattle.model.specs.Checks.{Check, first, lengthChecks, modelChecks, modelFault, none, numberChecks, sizeChecks, table, tableByteChecks, tableLengthChecks}
+use Rattle.model.specs.Model.{Model, modelOf}
+use Rattle.model.proofs.CheckLaws.{ends, fails, goes, past, stops, table-chain}
 use Rattle.model.proofs.model_table_fault.Statement.{statement}
 use Rattle.model.proofs.model_table_fault.Tie as tie
 
--- the lists of checks
-abbrev sizes : tie.Start → List Check
-sizes s = sizeChecks (s .args .n) (s .args .m)
+is-table-length-requires : tie.Need-is-table-length-requires
+is-table-length-requires c κs = search needs
 
-abbrev lengths : tie.Start → List Check
-lengths s = lengthChecks (s .args .n) (s .args .m) (s .args .bounds .now) (s .args .coefs .now) (s .args .rhs .now)
+model-fault-requires : tie.Need-model-fault-requires
+model-fault-requires c κs = search needs
 
-abbrev tableLengths : tie.Start → List Check
-tableLengths s = tableLengthChecks (s .args .n) (table (s .args .table .now))
+-- the model that is lent, and the chain without a table
+abbrev lent : tie.Start → Model
+lent s = modelOf (s .args .n) (s .args .m) (s .args .bounds .now) (s .args .coefs .now) (s .args .rhs .now)
 
-abbrev numbers : tie.Start → List Check
-numbers s = numberChecks (s .args .n) (s .args .bounds .now) (s .args .coefs .now) (s .args .rhs .now)
+abbrev chain : tie.Start → List Check
+chain s = modelChecks (lent s) none (eqb (length (s .args .table .now)) (4 * (s .args .n * s .args .n)) && s .args .fits)
 
-size-fault-requires : tie.Need-size-fault-requires
-size-fault-requires c κs = search needs
+-- every other length fits: the table's and those that the caller answers for
+all-fit : (c : tie.Joined1)
+    → let s = c .before .before .before in c .if1 .all-fit ≡ (eqb (length (s .args .table .now)) (4 * (s .args .n * s .args .n)) && s .args .fits)
+all-fit c =
+    let z = c .before .is-table-length .ensures in
+    ⊎-elim (λ w. w .1 ∙ rw (sym z ∙ w .0 .taken)) (λ w. w .1 ∙ w .0 .left ∙ rw (sym z ∙ w .0 .left)) (c .if1 .came)
+
+told : (c : tie.After-model-fault) → c .model-fault .result ≡ first (chain (c .before .before .before .before))
+unfolding modelFault
+told c = c .model-fault .ensures ∙ ap (λ fits. modelFault (lent (c .before .before .before .before)) none fits) (all-fit (c .before))
 
 returns : tie.Need-returns
-unfolding modelFault modelChecks
-returns c = stops _ _ (c .before .size-fault .ensures) (c .if1 .taken)
-
--- past a list of checks, what the later ones answer is the answer
-past-1 : (c : tie.Else1) {r : ℕ} (ys : List Check) → r ≡ first ys → r ≡ first (sizes (c .before .before .before) ++ ys)
-unfolding sizeChecks
-past-1 c ys h = goes (sizes (c .before .before .before)) ys tt (c .before .size-fault .ensures) (c .if1 .left) h
-
-length-fault-requires : tie.Need-length-fault-requires
-length-fault-requires c κs = search needs
-
-returns-2 : tie.Need-returns-2
-unfolding modelFault modelChecks
-returns-2 c = past-1 (c .before .before) _ (stops _ _ (c .before .length-fault .ensures) (c .if2 .taken))
-
-past-2 : (c : tie.Else2) {r : ℕ} (ys : List Check) → r ≡ first ys
-    → let s = c .before .before .before .before .before in r ≡ first (sizes s ++ (lengths s ++ ys))
-unfolding lengthChecks
-past-2 c ys h =
-    past-1 (c .before .before) _
-    (goes (lengths (c .before .before .before .before .before)) ys tt (c .before .length-fault .ensures) (c .if2 .left) h)
-
-table-length-fault-requires : tie.Need-table-length-fault-requires
-table-length-fault-requires c κs = search needs
-
-returns-3 : tie.Need-returns-3
-unfolding modelFault modelChecks
-returns-3 c = past-2 (c .before .before) _ (stops _ _ (c .before .table-length-fault .ensures) (c .if3 .taken))
-
-past-3 : (c : tie.Else3) {r : ℕ} (ys : List Check) → r ≡ first ys
-    → let s = c .before .before .before .before .before .before .before in r ≡ first (sizes s ++ (lengths s ++ (tableLengths s ++ ys)))
-unfolding tableLengthChecks
-past-3 c ys h =
-    past-2 (c .before .before) _
-    (goes (tableLengths (c .before .before .before .before .before .before .before)) ys tt (c .before .table-length-fault .ensures) (c .if3 .left) h)
-
-number-fault-requires : tie.Need-number-fault-requires
-number-fault-requires c κs = search needs
-
-returns-4 : tie.Need-returns-4
-unfolding modelFault modelChecks
-returns-4 c = past-3 (c .before .before) _ (stops _ _ (c .before .number-fault .ensures) (c .if4 .taken))
-
-past-4 : (c : tie.Else4) {r : ℕ} (ys : List Check) → r ≡ first ys
-    → let s = c .before .before .before .before .before .before .before .before .before in
-    r ≡ first (sizes s ++ (lengths s ++ (tableLengths s ++ (numbers s ++ ys))))
-unfolding numberChecks
-past-4 c ys h =
-    past-3 (c .before .before) _
-    (goes (numbers (c .before .before .before .before .before .before .before .before .before)) ys tt (c .before .number-fault .ensures) (c .if4 .left) h)
+returns c = stops _ _ (told (c .before)) (c .if2 .taken) ∙ sym (table-chain _ _ _)
 
 is-bits-requires : tie.Need-is-bits-requires
 is-bits-requires c κs = search needs
 
-returns-5 : tie.Need-returns-5
-unfolding modelFault modelChecks tableByteChecks
-returns-5 c = past-4 (c .before .before) _ (fails _ 10 _ (told-false _ (c .before .is-bits .ensures) (c .if5 .taken)))
+-- past the chain, what check 10 answers is the answer
+past-chain : (c : tie.Else2) {r : ℕ} → let s = c .before .before .before .before .before in
+    r ≡ first (tableByteChecks (table (s .args .table .now))) → r ≡ modelFault (lent s) (table (s .args .table .now)) (s .args .fits)
+unfolding modelChecks sizeChecks lengthChecks tableLengthChecks numberChecks tableByteChecks
+past-chain c h = goes (chain (c .before .before .before .before .before)) _ tt (told (c .before)) (c .if2 .left) h ∙ sym (table-chain _ _ _)
 
-returns-6 : tie.Need-returns-6
-unfolding modelFault modelChecks tableByteChecks
-returns-6 c = past-4 (c .before .before) _ (past _ 10 _ (told-true _ (c .before .is-bits .ensures) (c .if5 .left)) ends)
+returns-2 : tie.Need-returns-2
+unfolding tableByteChecks
+returns-2 c = past-chain (c .before .before) (fails _ 10 _ (told-false _ (c .before .is-bits .ensures) (c .if3 .taken)))
+
+returns-3 : tie.Need-returns-3
+unfolding tableByteChecks
+returns-3 c = past-chain (c .before .before) (past _ 10 _ (told-true _ (c .before .is-bits .ensures) (c .if3 .left)) ends)
 
 pub model-table-fault-spec : {M : Type 1} → statement M
 model-table-fault-spec =
     tie.close
     (tie.spec
-    size-fault-requires
+    is-table-length-requires
+    model-fault-requires
     returns
-    length-fault-requires
-    returns-2
-    table-length-fault-requires
-    returns-3
-    number-fault-requires
-    returns-4
     is-bits-requires
-    returns-5
-    returns-6)
+    returns-2
+    returns-3)

@@ -6,7 +6,7 @@ use lib.ListN.{length}
 use mathlib.Core.Path.{_∙_, _≡_, ap, ap₂, sym}
 use native.Mathlib.Omega.{arith}
 use Rattle.book.specs.Answers.{boundsRead, coefsRead, readCall, readFault, rhsRead, sizesAnswer, sizesAre}
-use Rattle.book.specs.Book.{HoldsModel, boundsOf, coefsOf, decode, modelOf, rhsOf, rowPlace}
+use Rattle.book.specs.Book.{HoldsModel, boundsOf, coefsOf, decode, modelIn, rhsOf, rowPlace}
 use Rattle.book.specs.Bytes.{Bytes, integersAt}
 use Rattle.book.proofs.AcceptLaws.{Head, head-holds, read-passed}
 use Rattle.book.proofs.AnswerLaws.{accepted-by, becomes, refused-by, stays}
@@ -40,9 +40,9 @@ returns c =
     let f = readFault (a .book .now) (a .bounds .now) (a .coefs .now) (a .rhs .now) in
     let M = decode (a .book .now) in
     let said = refused-by {fault = f} e n (sizesAre (M .n) (M .m)) in
-    let kept₁ = stays {fault = f} e n (a .bounds .now) (M .bounds) in
-    let kept₂ = stays {fault = f} e n (a .coefs .now) (M .coefs) in
-    let kept₃ = stays {fault = f} e n (a .rhs .now) (M .rhs) in (
+    let kept₁ = stays {fault = f} e n (a .bounds .now) (M .box) in
+    let kept₂ = stays {fault = f} e n (a .coefs .now) (M .rows .coefs) in
+    let kept₃ = stays {fault = f} e n (a .rhs .now) (M .rows .rhs) in (
       said,
       (
         kept₁,
@@ -69,7 +69,7 @@ sized : (c : tie.After-trailer-u162)
     let n = c .before .trailer-u16 .result in
     let m = c .trailer-u162 .result in
     HoldsModel n m (a .book .now) × ((length (a .bounds .now) ≡ 2 * n) × (length (a .coefs .now) ≡ m * n) × (length (a .rhs .now) ≡ m))
-unfolding decode modelOf
+unfolding decode modelIn
 sized c =
     let a = c .before .before .before .before .before .before .before .before .args in
     let d = c .before .before in
@@ -78,7 +78,7 @@ sized c =
 
 sizes-said : (c : tie.After-trailer-u162)
     → let M = decode (c .before .before .before .before .before .before .before .before .args .book .now) in sizesAre (c .before .trailer-u16 .result) (c .trailer-u162 .result) ≡ sizesAre (M .n) (M .m)
-unfolding decode modelOf
+unfolding decode modelIn
 sizes-said c = ap₂ sizesAre (c .before .trailer-u16 .ensures) (c .trailer-u162 .ensures)
 
 trailer-u16-requires : tie.Need-trailer-u16-requires
@@ -121,8 +121,8 @@ same-length-6 c = search needs
 -- the buffers hold the book's model
 filled : (c : tie.After-rhs)
     → let M = decode (c .before .before .before .before .before .before .before .before .before .before .before .before .before .before .before .before .before .args .book .now) in
-    (c .before .before .before .before .before .before .before .read-integers .last .1 .1 .1 .0 ≡ M .bounds) × (c .before .before .before .before .read-coefs .last .1 .1 .1 .0 ≡ M .coefs) × (c .before .read-integers2 .last .1 .1 .1 .0 ≡ M .rhs)
-unfolding decode modelOf boundsOf rhsOf rowPlace integersAt
+    (c .before .before .before .before .before .before .before .read-integers .last .1 .1 .1 .0 ≡ M .box) × (c .before .before .before .before .read-coefs .last .1 .1 .1 .0 ≡ M .rows .coefs) × (c .before .read-integers2 .last .1 .1 .1 .0 ≡ M .rows .rhs)
+unfolding decode modelIn boundsOf rhsOf rowPlace integersAt
 filled c =
     let d = c .before .before .before .before .before .before .before .before .before in
     let bs = d .before .before .before .before .before .before .before .before .args .book .now in
@@ -142,9 +142,9 @@ returns-2 c =
     let M = decode (a .book .now) in
     let z = no-fault (d .before .before) in
     let said = sizes-said d ∙ accepted-by z (sizesAre (M .n) (M .m)) in
-    let new₁ = filled c .0 ∙ becomes z (a .bounds .now) (M .bounds) in
-    let new₂ = filled c .1 ∙ becomes z (a .coefs .now) (M .coefs) in
-    let new₃ = filled c .2 ∙ becomes z (a .rhs .now) (M .rhs) in (
+    let new₁ = filled c .0 ∙ becomes z (a .bounds .now) (M .box) in
+    let new₂ = filled c .1 ∙ becomes z (a .coefs .now) (M .rows .coefs) in
+    let new₃ = filled c .2 ∙ becomes z (a .rhs .now) (M .rows .rhs) in (
       said,
       (
         new₁,

@@ -7,8 +7,9 @@ use mathlib.Core.Path.{_∙_, _≡_, sym}
 use native.Mathlib.Omega.{arith}
 use Rattle.model.specs.Checks.{Check, first, lengthChecks}
 use Rattle.model.proofs.CheckLaws.{goes, stops}
+use Rattle.model.specs.Model.{modelOf}
 use Rattle.book.specs.Answers.{readFault}
-use Rattle.book.specs.Book.{decode, modelOf}
+use Rattle.book.specs.Book.{decode, modelIn}
 use Rattle.book.specs.BookChecks.{headChecks, modelNumberChecks, readChecks}
 use Rattle.book.proofs.AcceptLaws.{Head, head-holds, head-numbered, head-test}
 use Rattle.book.proofs.reading.read_fault.Statement.{statement}
@@ -41,8 +42,8 @@ length-fault-requires c κs = search needs
 lengths : (c : tie.After-length-fault)
     → let a = c .before .before .before .before .before .before .args in
     let M = decode (a .book .now) in
-    c .length-fault .result ≡ first (lengthChecks (M .n) (M .m) (a .bounds .now) (a .coefs .now) (a .rhs .now))
-unfolding decode modelOf
+    c .length-fault .result ≡ first (lengthChecks (modelOf (M .n) (M .m) (a .bounds .now) (a .coefs .now) (a .rhs .now)))
+unfolding decode modelIn
 lengths c = rw (← c .before .before .trailer-u16 .ensures, ← c .before .trailer-u162 .ensures) (c .length-fault .ensures)
 
 returns-2 : tie.Need-returns-2
@@ -57,7 +58,7 @@ number-fault-requires c κs =
 -- `number_fault` answers for the book's model
 numbers : (c : tie.After-number-fault)
     → c .number-fault .result ≡ first (modelNumberChecks (decode (c .before .before .before .before .before .before .before .before .args .book .now)))
-unfolding decode modelOf
+unfolding decode modelIn
 numbers c =
     rw (← c .before .before .before .before .trailer-u16 .ensures, ← c .before .before .before .trailer-u162 .ensures) (c .number-fault .ensures)
 
@@ -67,7 +68,7 @@ returns-3 c =
     let a = c .before .before .before .before .before .before .before .before .args in
     let M = decode (a .book .now) in
     past-head (c .before .before .before .before .before) _
-    (goes (lengthChecks (M .n) (M .m) (a .bounds .now) (a .coefs .now) (a .rhs .now)) (modelNumberChecks M) tt (lengths (c .before .before)) (c .before .if2 .left) (numbers c))
+    (goes (lengthChecks (modelOf (M .n) (M .m) (a .bounds .now) (a .coefs .now) (a .rhs .now))) (modelNumberChecks M) tt (lengths (c .before .before)) (c .before .if2 .left) (numbers c))
 
 pub read-fault-spec : {M : Type 1} → statement M
 read-fault-spec =

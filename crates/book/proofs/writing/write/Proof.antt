@@ -7,11 +7,12 @@ use mathlib.Core.List.{List}
 use mathlib.Core.Path.{_∙_, _≡_, ap, ap₂, sym}
 use native.Mathlib.Omega.{arith}
 use Rattle.model.specs.Box.{at}
+use Rattle.model.specs.Model.{Model, modelOf}
+use Rattle.model.specs.Valid.{ValidModel}
 use Rattle.book.specs.Answers.{bookWritten, writeAnswer, writeCall, writeFault, written}
-use Rattle.book.specs.Book.{Model, bookLength, boundBytes, encode, model, rowBytes}
+use Rattle.book.specs.Book.{bookLength, boundBytes, encode, rowBytesAt}
 use Rattle.book.specs.Bytes.{integerBytes, integersBytes}
 use Rattle.book.specs.Pieces.{joined, overwrite}
-use Rattle.book.specs.RoundTrips.{Valid}
 use Rattle.book.proofs.AcceptLaws.{write-passed}
 use Rattle.book.proofs.AnswerLaws.{accepted-by, becomes, refused-by, stays}
 use Rattle.book.proofs.EncodeLaws.{book-assembled, length-trailerBytes}
@@ -22,7 +23,7 @@ use Rattle.book.proofs.writing.write.Tie as tie
 
 -- the model that is lent
 abbrev lent-model : tie.Start → Model
-lent-model s = model (s .args .n) (s .args .m) (s .args .bounds .now) (s .args .coefs .now) (s .args .rhs .now)
+lent-model s = modelOf (s .args .n) (s .args .m) (s .args .bounds .now) (s .args .coefs .now) (s .args .rhs .now)
 
 write-fault-requires : tie.Need-write-fault-requires
 write-fault-requires c κs = search needs
@@ -48,7 +49,7 @@ no-fault : (c : tie.Else1) → let s = c .before .before .before .before in writ
 no-fault c = sym (c .before .write-fault .ensures) ∙ c .if1 .left
 
 -- so the model is valid, and the book has its length
-ready : (c : tie.Else1) → let s = c .before .before .before .before in Valid (lent-model s) × (length (s .args .book .now) ≡ bookLength (s .args .n) (s .args .m))
+ready : (c : tie.Else1) → let s = c .before .before .before .before in ValidModel (lent-model s) × (length (s .args .book .now) ≡ bookLength (s .args .n) (s .args .m))
 ready c = let s = c .before .before .before .before in write-passed (lent-model s) (s .args .book .now) (no-fault c)
 
 write-integers-requires : tie.Need-write-integers-requires
@@ -73,15 +74,15 @@ kept-length w = (w .write-rows .kept .1 .1 .1 .0 ∙ w .before .before .before .
 body : (w : tie.After-write-rows)
     → let s = w .before .before .before .before .before .before .before .before .before .before in
     let M = lent-model s in
-    w .write-rows .last .1 .1 .1 .0 ≡ overwrite (8 * M .n) (joined (M .m) (rowBytes (M .n) (M .coefs) (M .rhs))) (overwrite 0 (boundBytes M) (s .args .book .now))
+    w .write-rows .last .1 .1 .1 .0 ≡ overwrite (8 * M .n) (joined (M .m) (rowBytesAt (M .n) (M .rows))) (overwrite 0 (boundBytes M) (s .args .book .now))
 unfolding integersBytes boundBytes
 body w =
     let M = lent-model (w .before .before .before .before .before .before .before .before .before .before) in
     let v = ready (w .before .before .before .before .before .before) .0 in
     w .write-rows .ensures
-    ∙ ap₂ (λ (k : ℕ) (bs : List ℕ). overwrite (8 * M .n) (joined k (rowBytes (M .n) (M .coefs) (M .rhs))) bs) (v .rhsLen)
+    ∙ ap₂ (λ (k : ℕ) (bs : List ℕ). overwrite (8 * M .n) (joined k (rowBytesAt (M .n) (M .rows))) bs) (v .rhsLen)
     (w .before .before .before .before .write-integers .ensures
-    ∙ ap (λ (k : ℕ). overwrite 0 (joined k (λ i. integerBytes (at (M .bounds) i))) (w .before .before .before .before .before .before .before .before .before .before .args .book .now)) (v .box .len))
+    ∙ ap (λ (k : ℕ). overwrite 0 (joined k (λ i. integerBytes (at (M .box) i))) (w .before .before .before .before .before .before .before .before .before .before .args .book .now)) (v .box .len))
 
 sub-end : tie.Need-sub-end
 unfolding bookLength

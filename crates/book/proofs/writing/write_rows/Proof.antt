@@ -3,24 +3,26 @@ use Prim.Native.Nat.{_*_, _+_, _-_, _<_, _≤_, ℕ}
 use lib.IntN.{ℤ}
 use lib.ListN.{length}
 use mathlib.Core.List.{List, _++_}
-use mathlib.Core.Path.{_∙_, _≡_, ap, ap₂, refl}
+use mathlib.Core.Path.{_∙_, _≡_, ap, ap₂, refl, sym}
 use mir.Facts.{toZ-ofZ}
 use mir.Syntax.{w32}
 use mir.Val.{SFits}
 use native.Mathlib.Omega.{arith}
 use Rattle.model.specs.Box.{at}
-use Rattle.book.specs.Book.{rowBytes, rowPlace}
+use Rattle.model.specs.Rows.{rowAt, rowOf, rowsOf}
+use Rattle.model.proofs.RowsLaws.{at-rowOf}
+use Rattle.book.specs.Book.{rowBytes, rowBytesAt, rowPlace}
 use Rattle.book.specs.Bytes.{integerBytes, integersBytes}
 use Rattle.book.specs.Pieces.{joined, overwrite, part}
 use Rattle.book.proofs.ByteLaws.{integersBytes-part, length-integerBytes}
 use Rattle.book.proofs.EncodeLaws.{length-rowBytes, row-within}
-use Rattle.book.proofs.PieceLaws.{length-joined, length-part, overwrite-next, overwrite-start, overwrite-turn, piece-within}
+use Rattle.book.proofs.PieceLaws.{joined-cong, length-joined, length-part, overwrite-next, overwrite-start, overwrite-turn, piece-within}
 use Rattle.book.proofs.writing.write_rows.Statement.{statement}
 use Rattle.book.proofs.writing.write_rows.Tie as tie
 
 abbrev Inv-loop : tie.InvT-loop
 Inv-loop n coefs rhs book₀ i₀ book i =
-    (i ≤ length rhs) × (length book ≡ length book₀) × (book ≡ overwrite (8 * n) (joined i (rowBytes n coefs rhs)) book₀)
+    (i ≤ length rhs) × (length book ≡ length book₀) × (book ≡ overwrite (8 * n) (joined i (rowBytesAt n (rowsOf coefs rhs))) book₀)
 
 abbrev μ-loop : tie.MeasureT-loop
 μ-loop n coefs rhs book₀ i₀ book i = length rhs - i
@@ -58,12 +60,13 @@ lent-length c =
 lent-bytes : (c : tie.After-row-place Inv-loop μ-loop)
     → let a = c .before .before .before .before .args in
     let k = c .before .before .loop .i * a .n in
-    integersBytes (part k (k + a .n - k) (a .coefs .now)) ≡ joined (a .n) (λ j. integerBytes (at (a .coefs .now) (k + j)))
+    integersBytes (part k (k + a .n - k) (a .coefs .now)) ≡ joined (a .n) (λ j. integerBytes (at (rowOf (a .n) (a .coefs .now) (c .before .before .loop .i)) j))
 lent-bytes c =
     let a = c .before .before .before .before .args in
     let k = c .before .before .loop .i * a .n in
     let e : k + a .n - k ≡ a .n = omega arith in
-    rw e (integersBytes-part k (a .n) (a .coefs .now) (omega (arith, inside c)))
+    rw e (integersBytes-part k (a .n) (a .coefs .now) (omega (arith, inside c))
+    ∙ joined-cong (a .n) _ _ (λ j h. ap integerBytes (sym (at-rowOf (a .n) (a .coefs .now) (c .before .before .loop .i) j h))))
 
 mul-start : tie.Need-mul-start Inv-loop μ-loop
 mul-start c = omega (arith, inside c)
@@ -116,22 +119,23 @@ loop-again c =
     let i = at-loop .i in
     let n = a .n in
     let R = a .rhs .now in
+    let A = rowsOf (a .coefs .now) R in
     let p = d .row-place .result in
     let one = c .before .before .before .before .before .before .before in
     let all = c .before .before .write-integers in
     let X = integerBytes (at R i) in
-    let Y : List ℕ = joined n (λ j. integerBytes (at (a .coefs .now) (i * n + j))) in
+    let Y : List ℕ = joined n (λ j. integerBytes (at (rowAt n A i .coefs) j)) in
     let fx : SFits w32 (at R i) = record { sfits = one .before .write-i32-arg2 .given } in
     let x = length-integerBytes (at R i) in
-    let y : length Y ≡ n * 4 = length-joined n 4 _ (λ j _. length-integerBytes (at (a .coefs .now) (i * n + j))) in
-    let rows = length-joined i (4 + 4 * n) (rowBytes n (a .coefs .now) R) (λ r _. length-rowBytes n (a .coefs .now) R r) in (
+    let y : length Y ≡ n * 4 = length-joined n 4 _ (λ j _. length-integerBytes (at (rowAt n A i .coefs) j)) in
+    let rows = length-joined i (4 + 4 * n) (rowBytesAt n A) (λ r _. length-rowBytes n (rowAt n A r)) in (
       omega arith,
       all .kept .0 ∙ one .write-i32 .kept .0 ∙ at-loop .inv .1,
       all .ensures
           ∙ ap₂ (overwrite (p + 4)) (lent-bytes d) (one .write-i32 .ensures ∙ ap (λ (z : ℤ). overwrite p (integerBytes z) (at-loop .book)) (toZ-ofZ fx))
           ∙ overwrite-next p (p + 4) X Y (at-loop .book) (omega (arith, x)) (omega (arith, y, inside d))
           ∙ ap (overwrite p (X ++ Y)) (at-loop .inv .2)
-          ∙ overwrite-turn (8 * n) p i (rowBytes n (a .coefs .now) R) (a .book .now) (omega (arith, rows)) (omega (arith, length-rowBytes n (a .coefs .now) R i, inside d)),
+          ∙ overwrite-turn (8 * n) p i (rowBytesAt n A) (a .book .now) (omega (arith, rows)) (omega (arith, length-rowBytes n (rowAt n A i), inside d)),
     )
 
 same-length : tie.Need-same-length Inv-loop μ-loop

@@ -1,0 +1,15 @@
+-- The model (01: "A model has n variables .. and m rows").
+use Prim.Native.Nat.{ℕ}
+use lib.IntN.{ℤ}
+use mathlib.Core.List.{List}
+use Rattle.model.specs.Rows.{Rows, rowsOf}
+
+pub record Model : Type 0 where
+  pub n : ℕ
+  pub m : ℕ
+  pub box : List ℤ
+  pub rows : Rows
+
+-- the model that lent buffers hold: the box B, the matrix C and the right sides R
+abbrev pub modelOf : ℕ → ℕ → List ℤ → List ℤ → List ℤ → Model
+modelOf n m B C R = record { n = n; m = m; box = B; rows = rowsOf C R }
