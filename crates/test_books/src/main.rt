@@ -1,0 +1,3 @@
+fn main() {
+    test_support::run();
+}
