@@ -7,55 +7,13 @@ use crate::rooms::coefs_part;
 use crate::rooms::rhs_part;
 use crate::rooms::row_count;
 use crate::rooms::table_part;
-use reducer::calls::ProbeAnswer;
-use reducer::calls::PropagateAnswer;
-use reducer::calls::PropagateRowAnswer;
-use reducer::calls::RemoveAnswer;
-use reducer::calls::TightenAnswer;
-use reducer::calls::probe;
-use reducer::calls::propagate;
-use reducer::calls::propagate_row;
-use reducer::calls::remove_redundant_row;
-use reducer::calls::tighten_coefficient;
 use rounds::RoundsAnswer;
+use test_support::made;
+use test_support::made::DROP;
+use test_support::made::make;
 use test_support::parts::bytes_part_mut;
 
-// Makes a call on the box and says whether it answers None.
-pub fn narrows(
-    n: usize,
-    m: usize,
-    bounds: &mut [i32],
-    coefs: &[i32],
-    rhs: &[i32],
-    table: &mut [u8],
-    call: [u32; 4],
-) -> bool {
-    match call[0] {
-        1 => {
-            let answer = propagate_row(n, m, bounds, coefs, rhs, call[1]);
-            let PropagateRowAnswer::Infeasible = answer else {
-                return false;
-            };
-            true
-        }
-        2 => {
-            let answer = propagate(n, m, bounds, coefs, rhs, call[3]);
-            let PropagateAnswer::Infeasible(_) = answer else {
-                return false;
-            };
-            true
-        }
-        _ => {
-            let answer = probe(n, m, bounds, coefs, rhs, table, call[2], call[3]);
-            let ProbeAnswer::Infeasible(_, _) = answer else {
-                return false;
-            };
-            true
-        }
-    }
-}
-
-// Makes any call, or the rounds of `reduce`, and says whether it answers None.
+// Makes a call, or for a kind beyond them the rounds of `reduce`, and says whether it answers None.
 fn is_none(
     n: usize,
     m: usize,
@@ -65,30 +23,13 @@ fn is_none(
     table: &mut [u8],
     call: [u32; 4],
 ) -> bool {
-    match call[0] {
-        4 => {
-            let answer = tighten_coefficient(n, m, bounds, coefs, rhs, call[1], call[2]);
-            let TightenAnswer::Infeasible = answer else {
-                return false;
-            };
-            true
-        }
-        5 => {
-            let answer = remove_redundant_row(n, m, bounds, coefs, rhs, call[1]);
-            let RemoveAnswer::Infeasible = answer else {
-                return false;
-            };
-            true
-        }
-        6 => {
-            let answer = rounds::run(n, m, bounds, coefs, rhs, table, 8);
-            let RoundsAnswer::Infeasible(_) = answer else {
-                return false;
-            };
-            true
-        }
-        _ => narrows(n, m, bounds, coefs, rhs, table, call),
+    if call[0] <= DROP {
+        return made::is_none(make(n, m, bounds, coefs, rhs, table, call));
     }
+    let RoundsAnswer::Infeasible(_) = rounds::run(n, m, bounds, coefs, rhs, table, 8) else {
+        return false;
+    };
+    true
 }
 
 // Whether the points are those that were marked before, None is said of none, and each recorded implication holds.

@@ -1,7 +1,6 @@
 // Two runs that part with the same model: visits, a settle and probes upwards, and probes, visits and a settle of one pass downwards,
 // until the rest call says yes.
 use crate::attempt::agrees;
-use crate::attempt::narrows;
 use crate::models::put_model;
 use crate::rooms::bounds_part;
 use crate::rooms::coefs_part;
@@ -10,6 +9,7 @@ use crate::rooms::row_count;
 use crate::rooms::table_part;
 use reducer::calls::RestAnswer;
 use reducer::calls::is_probing_fixpoint;
+use test_support::made::make;
 use test_support::parts::same_numbers;
 
 // Call i of a sweep of eight. One whose row or variable is not there, or not free, is refused.
@@ -36,14 +36,14 @@ fn sweep(
     n: usize,
     m: usize,
     bounds: &mut [i32],
-    coefs: &[i32],
-    rhs: &[i32],
+    coefs: &mut [i32],
+    rhs: &mut [i32],
     table: &mut [u8],
     down: bool,
 ) {
     let mut i = 0;
     while i < 8 {
-        narrows(n, m, bounds, coefs, rhs, table, sweep_call(i, down));
+        make(n, m, bounds, coefs, rhs, table, sweep_call(i, down));
         i += 1;
     }
 }
@@ -61,8 +61,8 @@ fn run_to_rest(
     n: usize,
     m: usize,
     bounds: &mut [i32],
-    coefs: &[i32],
-    rhs: &[i32],
+    coefs: &mut [i32],
+    rhs: &mut [i32],
     table: &mut [u8],
     down: bool,
 ) -> bool {

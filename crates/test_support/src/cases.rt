@@ -1,18 +1,19 @@
 // The cases on standard input. A line changes the model (`buffers`), or asks for something:
-//   name NAME, model NAME       writes the name; a model's is a line of its own
-//   head NAME                   writes the name with the bounds, and the rows as `reduce` prints them
-//   write bounds                writes the bounds; coefs, rhs and table likewise; matrix and implications as `reduce` prints them
-//   all ROW VARIABLE BUDGET     the six calls, each on its own copy of the model: the answer and the numbers that changed
-//   1 ROW VARIABLE BUDGET       one of them by the number of its kind, 6 for the rest call
-//   CALL KIND ROW VARIABLE BUDGET  the same on the model itself, its answer behind the record
-//   execute LENGTH X ..         runs the list of as many numbers and writes the four counts
-//   FOUR X ..                   the same with four records, 16 numbers in all
-//   fixpoint                    writes whether the box is at rest
-//   READ                        reads the book into the buffers of the model
-//   TRAILER                     reads the sizes from the bytes, a trailer alone
-//   WRITE                       writes the model into the book
-//   BOTH                        the round trip
-//   SAME LENGTH X ..            whether the book is these bytes
+//   name NAME                      writes the name
+//   model NAME                     the same as a line of its own
+//   head NAME                      writes the name with the bounds, and the rows as `reduce` prints them
+//   write bounds                   writes the bounds; coefs, rhs and table likewise; matrix, implications: as `reduce` prints them
+//   all ROW VARIABLE BUDGET        the six calls, each on its own copy of the model: the answer and the numbers that changed
+//   1 ROW VARIABLE BUDGET          one of them, by the number of its kind; 6 is the rest call
+//   CALL KIND ROW VARIABLE BUDGET  one on the model itself: the record and the answer
+//   execute LENGTH X ..            runs the list of as many numbers and writes the four counts
+//   FOUR X ..                      the same of four records, 16 numbers in all
+//   fixpoint                       writes whether the box is at rest
+//   READ                           reads the book into the buffers of the model
+//   TRAILER                        reads the sizes from the bytes, a trailer alone
+//   WRITE                          writes the model into the book
+//   BOTH                           the round trip
+//   SAME LENGTH X ..               whether the book is these bytes
 // A number that a line lacks is 0. Every other line is a comment.
 use crate::book_cases;
 use crate::buffers;

@@ -1,5 +1,7 @@
 // A call on a copy of the model: its answer, and the numbers that changed, each as place = value. No place behind an answer means that
 // every number stayed.
+use crate::in_words;
+use crate::made;
 use crate::parts::bytes_part_mut;
 use crate::parts::lesser;
 use crate::parts::part_mut;
@@ -7,7 +9,6 @@ use crate::print::count;
 use crate::print::line;
 use crate::print::number;
 use crate::print::text;
-use crate::transcript::answered;
 use crate::transcript::name;
 
 fn copy(from: &[i32], to: &mut [i32]) {
@@ -83,9 +84,9 @@ fn label(kind: u32) {
     text(b"  ");
     name(kind);
     match kind {
-        1 | 3 => text(b"  "),
-        2 => text(b" "),
-        4 => {}
+        made::VISIT | made::PROBE => text(b"  "),
+        made::SETTLE => text(b" "),
+        made::SHARPEN => {}
         _ => text(b"   "),
     }
 }
@@ -125,7 +126,7 @@ pub fn one(
     let new_rhs = copied(rhs, &mut rhs_room);
     let new_table = copied_bytes(table, &mut table_room);
     label(call[0]);
-    answered(n, m, new_bounds, new_coefs, new_rhs, new_table, call);
+    in_words::answer(made::make(n, m, new_bounds, new_coefs, new_rhs, new_table, call));
     all_changes(
         bounds,
         coefs,

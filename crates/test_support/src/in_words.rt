@@ -1,4 +1,5 @@
-// What the open calls answer, in words.
+// What the open calls answer, in words: one function for each type of answer, `answer` for that of any call on a model.
+use crate::made::Made;
 use crate::print::count;
 use crate::print::text;
 use book::SizesAnswer;
@@ -18,11 +19,11 @@ fn item(word: &[u8], number: u32) {
     count(number as usize);
 }
 
-fn refused(number: u32) {
+pub fn refused(number: u32) {
     item(b" refused", number);
 }
 
-pub fn propagated_row(a: PropagateRowAnswer) {
+fn propagated_row(a: PropagateRowAnswer) {
     match a {
         PropagateRowAnswer::Refused(number) => refused(number),
         PropagateRowAnswer::Infeasible => text(b" infeasible"),
@@ -31,7 +32,7 @@ pub fn propagated_row(a: PropagateRowAnswer) {
     }
 }
 
-pub fn propagated(a: PropagateAnswer) {
+fn propagated(a: PropagateAnswer) {
     match a {
         PropagateAnswer::Refused(number) => refused(number),
         PropagateAnswer::Infeasible(passes) => item(b" infeasible", passes),
@@ -53,7 +54,7 @@ fn sides(side0: Side, side1: Side) {
     side(side1);
 }
 
-pub fn probed(a: ProbeAnswer) {
+fn probed(a: ProbeAnswer) {
     match a {
         ProbeAnswer::Refused(number) => refused(number),
         ProbeAnswer::Infeasible(side0, side1) => {
@@ -71,7 +72,7 @@ pub fn probed(a: ProbeAnswer) {
     }
 }
 
-pub fn tightened(a: TightenAnswer) {
+fn tightened(a: TightenAnswer) {
     match a {
         TightenAnswer::Refused(number) => refused(number),
         TightenAnswer::Infeasible => text(b" infeasible"),
@@ -80,7 +81,7 @@ pub fn tightened(a: TightenAnswer) {
     }
 }
 
-pub fn removed(a: RemoveAnswer) {
+fn removed(a: RemoveAnswer) {
     match a {
         RemoveAnswer::Refused(number) => refused(number),
         RemoveAnswer::Infeasible => text(b" infeasible"),
@@ -89,11 +90,22 @@ pub fn removed(a: RemoveAnswer) {
     }
 }
 
-pub fn rest(a: RestAnswer) {
+fn rest(a: RestAnswer) {
     match a {
         RestAnswer::Refused(number) => refused(number),
         RestAnswer::No => text(b" no"),
         RestAnswer::Yes => text(b" yes"),
+    }
+}
+
+pub fn answer(made: Made) {
+    match made {
+        Made::PropagatedRow(a) => propagated_row(a),
+        Made::Propagated(a) => propagated(a),
+        Made::Probed(a) => probed(a),
+        Made::Tightened(a) => tightened(a),
+        Made::Removed(a) => removed(a),
+        Made::Rest(a) => rest(a),
     }
 }
 

@@ -1,7 +1,7 @@
 // Call lists (01's run sheets), as numbers and as records, and what they leave.
 use crate::in_words::ran;
+use crate::in_words::refused;
 use crate::parts::naturals_part;
-use crate::print::count;
 use crate::print::line;
 use crate::print::text;
 use crate::words::fill_naturals;
@@ -71,8 +71,8 @@ pub fn execute_records(
 pub fn rest(answer: RestAnswer) {
     match answer {
         RestAnswer::Refused(number) => {
-            text(b"  refused");
-            count(number as usize);
+            text(b" ");
+            refused(number);
         }
         RestAnswer::No => text(b"  not at rest"),
         RestAnswer::Yes => text(b"  at rest"),

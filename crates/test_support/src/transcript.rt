@@ -1,27 +1,11 @@
-// One call with its answer, and the rows and implications as `reduce` prints them.
+// An example as a transcript: how it starts, each call with its answer, and the rows and implications as `reduce` prints them.
 use crate::in_words;
+use crate::made;
 use crate::print::count;
 use crate::print::line;
 use crate::print::list;
 use crate::print::number;
 use crate::print::text;
-use reducer::calls::is_probing_fixpoint;
-use reducer::calls::probe;
-use reducer::calls::propagate;
-use reducer::calls::propagate_row;
-use reducer::calls::remove_redundant_row;
-use reducer::calls::tighten_coefficient;
-
-// The kinds of a record: 01's five. Every other kind is the rest call here.
-const VISIT: u32 = 1;
-
-const SETTLE: u32 = 2;
-
-const PROBE: u32 = 3;
-
-const SHARPEN: u32 = 4;
-
-const DROP: u32 = 5;
 
 // How the line of row r starts: r, row, b.
 fn row_head(rhs: &[i32], r: usize) {
@@ -89,43 +73,12 @@ pub fn head(name: &[u8], n: usize, bounds: &[i32], coefs: &[i32], rhs: &[i32]) {
 // 01's word for a kind.
 pub fn name(kind: u32) {
     match kind {
-        VISIT => text(b"visit"),
-        SETTLE => text(b"settle"),
-        PROBE => text(b"probe"),
-        SHARPEN => text(b"sharpen"),
-        DROP => text(b"drop"),
+        made::VISIT => text(b"visit"),
+        made::SETTLE => text(b"settle"),
+        made::PROBE => text(b"probe"),
+        made::SHARPEN => text(b"sharpen"),
+        made::DROP => text(b"drop"),
         _ => text(b"rest"),
-    }
-}
-
-// Makes one call and prints its answer.
-pub fn answered(
-    n: usize,
-    m: usize,
-    bounds: &mut [i32],
-    coefs: &mut [i32],
-    rhs: &mut [i32],
-    table: &mut [u8],
-    call: [u32; 4],
-) {
-    let row = call[1];
-    let variable = call[2];
-    let budget = call[3];
-    match call[0] {
-        VISIT => in_words::propagated_row(propagate_row(n, m, bounds, coefs, rhs, row)),
-        SETTLE => in_words::propagated(propagate(n, m, bounds, coefs, rhs, budget)),
-        PROBE => in_words::probed(probe(n, m, bounds, coefs, rhs, table, variable, budget)),
-        SHARPEN => in_words::tightened(tighten_coefficient(
-            n,
-            m,
-            bounds,
-            coefs,
-            rhs,
-            row,
-            variable,
-        )),
-        DROP => in_words::removed(remove_redundant_row(n, m, bounds, coefs, rhs, row)),
-        _ => in_words::rest(is_probing_fixpoint(n, m, bounds, coefs, rhs)),
     }
 }
 
@@ -148,6 +101,6 @@ pub fn step(
     call: [u32; 4],
 ) {
     record(call);
-    answered(n, m, bounds, coefs, rhs, table, call);
+    in_words::answer(made::make(n, m, bounds, coefs, rhs, table, call));
     line();
 }

@@ -8,10 +8,11 @@ use Rattle.test_enumerate.proofs.runs.sweep.Statement.{statement}
 use Rattle.test_enumerate.proofs.runs.sweep.Tie as tie
 
 abbrev Inv-loop : tie.InvT-loop
-Inv-loop n m bounds₀ coefs rhs table₀ down i₀ bounds table i = (i ≤ 8) × (length bounds ≡ length bounds₀) × (length table ≡ length table₀)
+Inv-loop n m bounds₀ coefs₀ rhs₀ table₀ down i₀ bounds coefs rhs table i =
+    (i ≤ 8) × (length bounds ≡ length bounds₀) × (length coefs ≡ length coefs₀) × (length rhs ≡ length rhs₀) × (length table ≡ length table₀)
 
 abbrev μ-loop : tie.MeasureT-loop
-μ-loop n m bounds₀ coefs rhs table₀ down i₀ bounds table i = 8 - i
+μ-loop n m bounds₀ coefs₀ rhs₀ table₀ down i₀ bounds coefs rhs table i = 8 - i
 
 loop-holds : tie.Need-loop-holds Inv-loop μ-loop
 loop-holds c = omega arith
@@ -19,8 +20,8 @@ loop-holds c = omega arith
 sweep-call-requires : tie.Need-sweep-call-requires Inv-loop μ-loop
 sweep-call-requires c κs = search needs
 
-narrows-requires : tie.Need-narrows-requires Inv-loop μ-loop
-narrows-requires c κs = search needs
+make-requires : tie.Need-make-requires Inv-loop μ-loop
+make-requires c κs = search needs
 
 add-i : tie.Need-add-i Inv-loop μ-loop
 add-i c = omega arith
@@ -37,6 +38,12 @@ same-length c = omega arith
 same-length-2 : tie.Need-same-length-2 Inv-loop μ-loop
 same-length-2 c = omega arith
 
+same-length-3 : tie.Need-same-length-3 Inv-loop μ-loop
+same-length-3 c = omega arith
+
+same-length-4 : tie.Need-same-length-4 Inv-loop μ-loop
+same-length-4 c = omega arith
+
 returns : tie.Need-returns Inv-loop μ-loop
 returns c = search needs
 
@@ -48,10 +55,12 @@ sweep-spec =
     μ-loop
     loop-holds
     sweep-call-requires
-    narrows-requires
+    make-requires
     add-i
     loop-less
     loop-again
     same-length
     same-length-2
+    same-length-3
+    same-length-4
     returns)
