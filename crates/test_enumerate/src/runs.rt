@@ -1,0 +1,107 @@
+// Two runs that part with the same model: visits, a settle and probes upwards, and probes, visits and a settle of one pass downwards,
+// until the rest call says yes.
+use crate::attempt::agrees;
+use crate::models::put_model;
+use crate::rooms::bounds_part;
+use crate::rooms::coefs_part;
+use crate::rooms::rhs_part;
+use crate::rooms::row_count;
+use crate::rooms::table_part;
+use reducer::calls::RestAnswer;
+use reducer::calls::is_probing_fixpoint;
+use test_support::made::make;
+use test_support::parts::same_numbers;
+
+// Call i of a sweep of eight. One whose row or variable is not there, or not free, is refused.
+fn sweep_call(i: u32, down: bool) -> [u32; 4] {
+    if down {
+        if i < 4 {
+            return [3, 0, 3 - i, 500];
+        }
+        if i < 7 {
+            return [1, 6 - i, 0, 0];
+        }
+        return [2, 0, 0, 1];
+    }
+    if i < 3 {
+        return [1, i, 0, 0];
+    }
+    if i == 3 {
+        return [2, 0, 0, 1_000];
+    }
+    [3, 0, i - 4, 1_000]
+}
+
+fn sweep(
+    n: usize,
+    m: usize,
+    bounds: &mut [i32],
+    coefs: &mut [i32],
+    rhs: &mut [i32],
+    table: &mut [u8],
+    down: bool,
+) {
+    let mut i = 0;
+    while i < 8 {
+        make(n, m, bounds, coefs, rhs, table, sweep_call(i, down));
+        i += 1;
+    }
+}
+
+fn rests(n: usize, m: usize, bounds: &[i32], coefs: &[i32], rhs: &[i32]) -> bool {
+    let answer = is_probing_fixpoint(n, m, bounds, coefs, rhs);
+    let RestAnswer::Yes = answer else {
+        return false;
+    };
+    true
+}
+
+// Sweeps until the box is at rest. Each sweep of a box that is not narrows it, and no box here is wider than 12 in all.
+fn run_to_rest(
+    n: usize,
+    m: usize,
+    bounds: &mut [i32],
+    coefs: &mut [i32],
+    rhs: &mut [i32],
+    table: &mut [u8],
+    down: bool,
+) -> bool {
+    let mut sweeps: usize = 0;
+    while sweeps < 16 {
+        if rests(n, m, bounds, coefs, rhs) {
+            return true;
+        }
+        sweep(n, m, bounds, coefs, rhs, table, down);
+        sweeps += 1;
+    }
+    false
+}
+
+// A run from model `code`: whether it ends at rest with the points of the start. Its end box is left in `room`.
+fn end(n: usize, code: usize, marks: &[u8], down: bool, room: &mut [i32]) -> bool {
+    let mut coef_room = [0i32; 12];
+    let mut side_room = [0i32; 3];
+    let mut table_room = [0u8; 64];
+    let bounds = bounds_part(room, n);
+    let coefs = coefs_part(&mut coef_room, n);
+    let rhs = rhs_part(&mut side_room, n);
+    let table = table_part(&mut table_room, n);
+    put_model(code, bounds, coefs, rhs);
+    if run_to_rest(n, row_count(n), bounds, coefs, rhs, table, down) {
+        return agrees(n, bounds, coefs, rhs, table, marks, false);
+    }
+    false
+}
+
+// Whether both runs end at rest, in equal boxes and with the points of the start.
+pub fn ends_meet(n: usize, code: usize, marks: &[u8]) -> bool {
+    let mut up = [0i32; 8];
+    let mut down = [0i32; 8];
+    if !end(n, code, marks, false, &mut up) {
+        return false;
+    }
+    if !end(n, code, marks, true, &mut down) {
+        return false;
+    }
+    same_numbers(&up, &down)
+}

@@ -1,0 +1,94 @@
+// What a line asks of a book: the bytes in the table's place.
+use crate::in_words;
+use crate::parts::bytes_part;
+use crate::parts::bytes_part_mut;
+use crate::parts::part_mut;
+use crate::parts::same_numbers;
+use crate::print::line;
+use crate::print::text;
+use crate::words;
+use book::SizesAnswer;
+use book::reading::read;
+use book::trailer;
+use book::writing::WriteAnswer;
+use book::writing::write;
+
+fn sizes(answer: SizesAnswer) {
+    text(b":");
+    in_words::sizes(answer);
+    line();
+}
+
+fn written(answer: WriteAnswer) {
+    text(b":");
+    in_words::written(answer);
+    line();
+}
+
+fn same(is_same: bool) {
+    text(b":");
+    in_words::same(is_same);
+    line();
+}
+
+// Whether the book is the bytes of the line.
+fn compare(words: &[u8], book: &[u8]) {
+    let mut bytes = [0u8; 64];
+    let len = words::number(words, 1);
+    let all = len.magnitude as usize;
+    words::fill_bytes(words, len.next, all, &mut bytes);
+    same(check::same(book, bytes_part(&bytes, all)));
+}
+
+fn compare_numbers(word: &[u8], a: &[i32], b: &[i32]) {
+    text(word);
+    same(same_numbers(a, b));
+}
+
+fn write_again(n: usize, m: usize, bounds: &[i32], coefs: &[i32], rhs: &[i32], book: &[u8]) {
+    let mut room = [0u8; 62_960];
+    let again = bytes_part_mut(&mut room, book.len());
+    write(n, m, bounds, coefs, rhs, again);
+    text(b"round trip, bytes");
+    same(check::same(book, again));
+}
+
+fn read_back(n: usize, m: usize, bounds: &[i32], coefs: &[i32], rhs: &[i32], book: &[u8]) {
+    let mut bounds_room = [0i32; 256];
+    let mut coefs_room = [0i32; 15_360];
+    let mut rhs_room = [0i32; 120];
+    let bounds_read = part_mut(&mut bounds_room, bounds.len());
+    let coefs_read = part_mut(&mut coefs_room, coefs.len());
+    let rhs_read = part_mut(&mut rhs_room, rhs.len());
+    text(b"round trip, read");
+    sizes(read(book, bounds_read, coefs_read, rhs_read));
+    compare_numbers(b"round trip, bounds", bounds, bounds_read);
+    compare_numbers(b"round trip, coefficients", coefs, coefs_read);
+    compare_numbers(b"round trip, right sides", rhs, rhs_read);
+    write_again(n, m, bounds_read, coefs_read, rhs_read, book);
+}
+
+// The round trip: a model is written, the book is read into other buffers, and what was read is written again.
+fn round_trip(n: usize, m: usize, bounds: &[i32], coefs: &[i32], rhs: &[i32], book: &mut [u8]) {
+    text(b"round trip, written");
+    written(write(n, m, bounds, coefs, rhs, book));
+    read_back(n, m, bounds, coefs, rhs, book);
+}
+
+pub fn answer(
+    words: &[u8],
+    n: usize,
+    m: usize,
+    bounds: &mut [i32],
+    coefs: &mut [i32],
+    rhs: &mut [i32],
+    book: &mut [u8],
+) {
+    match words::first(words) {
+        b'R' => sizes(read(book, bounds, coefs, rhs)),
+        b'T' => sizes(trailer(book)),
+        b'W' => written(write(n, m, bounds, coefs, rhs, book)),
+        b'B' => round_trip(n, m, bounds, coefs, rhs, book),
+        _ => compare(words, book),
+    }
+}

@@ -1,0 +1,156 @@
+// The cases on standard input. A line changes the model (`buffers`), or asks for something:
+//   name NAME                      writes the name
+//   model NAME                     the same as a line of its own
+//   head NAME                      writes the name with the bounds, and the rows as `reduce` prints them
+//   write bounds                   writes the bounds; coefs, rhs and table likewise; matrix, implications: as `reduce` prints them
+//   all ROW VARIABLE BUDGET        the six calls, each on its own copy of the model: the answer and the numbers that changed
+//   1 ROW VARIABLE BUDGET          one of them, by the number of its kind; 6 is the rest call
+//   CALL KIND ROW VARIABLE BUDGET  one on the model itself: the record and the answer
+//   execute LENGTH X ..            runs the list of as many numbers and writes the four counts
+//   FOUR X ..                      the same of four records, 16 numbers in all
+//   fixpoint                       writes whether the box is at rest
+//   READ                           reads the book into the buffers of the model
+//   TRAILER                        reads the sizes from the bytes, a trailer alone
+//   WRITE                          writes the model into the book
+//   BOTH                           the round trip
+//   SAME LENGTH X ..               whether the book is these bytes
+// A number that a line lacks is 0. Every other line is a comment.
+use crate::book_cases;
+use crate::buffers;
+use crate::buffers::Sizes;
+use crate::copies;
+use crate::lists;
+use crate::parts::bytes_part_mut;
+use crate::parts::part_mut;
+use crate::print;
+use crate::transcript;
+use crate::words;
+use crate::words::natural;
+use crate::words::number;
+use reducer::calls::is_probing_fixpoint;
+
+// What stands behind the first word of a line.
+fn name(line: &[u8]) -> &[u8] {
+    let at = number(line, 0).next;
+    if at < line.len() {
+        return &line[at..];
+    }
+    &line[..0]
+}
+
+fn model_name(line: &[u8]) {
+    print::text(name(line));
+    print::line();
+}
+
+// The record that four words are.
+fn record(words: &[u8]) -> [u32; 4] {
+    [
+        natural(number(words, 0)),
+        natural(number(words, 1)),
+        natural(number(words, 2)),
+        natural(number(words, 3)),
+    ]
+}
+
+fn write(line: &[u8], n: usize, bounds: &[i32], coefs: &[i32], rhs: &[i32], table: &[u8]) {
+    match words::second(line) {
+        b'b' => print::list(b"  bounds", bounds),
+        b'c' => print::list(b"  coefs", coefs),
+        b'r' => print::list(b"  rhs", rhs),
+        b'm' => transcript::rows(n, coefs, rhs),
+        b'i' => transcript::implications(bounds.len(), table),
+        _ => print::ones(b"  table", table),
+    }
+}
+
+// What a line asks of a model that stays as it is.
+fn look(line: &[u8], n: usize, m: usize, bounds: &[i32], coefs: &[i32], rhs: &[i32], table: &[u8]) {
+    match words::first(line) {
+        b'n' => print::text(name(line)),
+        b'm' => model_name(line),
+        b'h' => transcript::head(name(line), n, bounds, coefs, rhs),
+        b'w' => write(line, n, bounds, coefs, rhs, table),
+        b'f' => lists::rest(is_probing_fixpoint(n, m, bounds, coefs, rhs)),
+        b'a' => copies::all(n, m, bounds, coefs, rhs, table, record(line)),
+        b'1'..=b'6' => copies::one(n, m, bounds, coefs, rhs, table, record(line)),
+        _ => {}
+    }
+}
+
+// What a line asks of the model or the book.
+fn answer(
+    line: &[u8],
+    n: usize,
+    m: usize,
+    bounds: &mut [i32],
+    coefs: &mut [i32],
+    rhs: &mut [i32],
+    table: &mut [u8],
+) {
+    match words::first(line) {
+        b'C' => transcript::step(n, m, bounds, coefs, rhs, table, record(name(line))),
+        b'e' => lists::execute(line, n, m, bounds, coefs, rhs, table),
+        b'F' => lists::execute_records(line, n, m, bounds, coefs, rhs, table),
+        b'R' | b'T' | b'W' | b'B' | b'S' => {
+            book_cases::answer(line, n, m, bounds, coefs, rhs, table)
+        }
+        _ => look(line, n, m, bounds, coefs, rhs, table),
+    }
+}
+
+// The same of as much of each buffer as the model has.
+fn lent(
+    line: &[u8],
+    sizes: Sizes,
+    bounds: &mut [i32],
+    coefs: &mut [i32],
+    rhs: &mut [i32],
+    table: &mut [u8],
+) {
+    answer(
+        line,
+        sizes.n,
+        sizes.m,
+        part_mut(bounds, sizes.bounds),
+        part_mut(coefs, sizes.coefs),
+        part_mut(rhs, sizes.rhs),
+        bytes_part_mut(table, sizes.table),
+    );
+}
+
+// One line: the model as it changes it, and what it asks of that.
+fn turn(
+    line: &[u8],
+    sizes: Sizes,
+    bounds: &mut [i32; 256],
+    coefs: &mut [i32; 15_360],
+    rhs: &mut [i32; 120],
+    table: &mut [u8; 65_536],
+) -> Sizes {
+    let sizes = buffers::change(line, sizes, bounds, coefs, rhs, table);
+    lent(line, sizes, bounds, coefs, rhs, table);
+    sizes
+}
+
+// One line after another.
+fn each_line(text: &[u8]) {
+    let mut bounds = [0i32; 256];
+    let mut coefs = [0i32; 15_360];
+    let mut rhs = [0i32; 120];
+    let mut table = [0u8; 65_536];
+    let mut sizes = buffers::nothing();
+    let mut at = 0;
+    while at < text.len() {
+        let line = words::line(text, at);
+        sizes = turn(line, sizes, &mut bounds, &mut coefs, &mut rhs, &mut table);
+        at = words::next_line(text, at);
+    }
+}
+
+// Runs the cases on standard input.
+pub fn run() {
+    let mut text = io::large_buffer();
+    let len = io::read_full(0, &mut text);
+    each_line(&text[..len]);
+}

@@ -1,0 +1,169 @@
+// A call on a copy of the model: its answer, and the numbers that changed, each as place = value. No place behind an answer means that
+// every number stayed.
+use crate::in_words;
+use crate::made;
+use crate::parts::bytes_part_mut;
+use crate::parts::lesser;
+use crate::parts::part_mut;
+use crate::print::count;
+use crate::print::line;
+use crate::print::number;
+use crate::print::text;
+use crate::transcript::name;
+
+fn copy(from: &[i32], to: &mut [i32]) {
+    let len = lesser(from.len(), to.len());
+    let mut i = 0;
+    while i < len {
+        to[i] = from[i];
+        i += 1;
+    }
+}
+
+fn copy_bytes(from: &[u8], to: &mut [u8]) {
+    let len = lesser(from.len(), to.len());
+    let mut i = 0;
+    while i < len {
+        to[i] = from[i];
+        i += 1;
+    }
+}
+
+// A copy, in room that is lent for it.
+fn copied<'a>(from: &[i32], room: &'a mut [i32]) -> &'a mut [i32] {
+    copy(from, room);
+    part_mut(room, from.len())
+}
+
+fn copied_bytes<'a>(from: &[u8], room: &'a mut [u8]) -> &'a mut [u8] {
+    copy_bytes(from, room);
+    bytes_part_mut(room, from.len())
+}
+
+fn change(word: &[u8], place: usize, value: i32) {
+    text(word);
+    count(place);
+    text(b" =");
+    number(value);
+}
+
+fn byte_change(word: &[u8], place: usize, value: u8) {
+    text(word);
+    count(place);
+    text(b" =");
+    count(value as usize);
+}
+
+// The places where a list differs from what it was.
+fn changes(word: &[u8], before: &[i32], after: &[i32]) {
+    let len = lesser(before.len(), after.len());
+    let mut i = 0;
+    while i < len {
+        let x = after[i];
+        if x != before[i] {
+            change(word, i, x);
+        }
+        i += 1;
+    }
+}
+
+fn byte_changes(word: &[u8], before: &[u8], after: &[u8]) {
+    let len = lesser(before.len(), after.len());
+    let mut i = 0;
+    while i < len {
+        let x = after[i];
+        if x != before[i] {
+            byte_change(word, i, x);
+        }
+        i += 1;
+    }
+}
+
+// 01's word for a kind, as wide as the longest.
+fn label(kind: u32) {
+    text(b"  ");
+    name(kind);
+    match kind {
+        made::VISIT | made::PROBE => text(b"  "),
+        made::SETTLE => text(b" "),
+        made::SHARPEN => {}
+        _ => text(b"   "),
+    }
+}
+
+// The places where any buffer differs from what it was.
+fn all_changes(
+    bounds: &[i32],
+    coefs: &[i32],
+    rhs: &[i32],
+    table: &[u8],
+    new_bounds: &[i32],
+    new_coefs: &[i32],
+    new_rhs: &[i32],
+    new_table: &[u8],
+) {
+    changes(b", bounds", bounds, new_bounds);
+    changes(b", coefs", coefs, new_coefs);
+    changes(b", rhs", rhs, new_rhs);
+    byte_changes(b", table", table, new_table);
+}
+
+pub fn one(
+    n: usize,
+    m: usize,
+    bounds: &[i32],
+    coefs: &[i32],
+    rhs: &[i32],
+    table: &[u8],
+    call: [u32; 4],
+) {
+    let mut bounds_room = [0i32; 256];
+    let mut coefs_room = [0i32; 15_360];
+    let mut rhs_room = [0i32; 120];
+    let mut table_room = [0u8; 65_536];
+    let new_bounds = copied(bounds, &mut bounds_room);
+    let new_coefs = copied(coefs, &mut coefs_room);
+    let new_rhs = copied(rhs, &mut rhs_room);
+    let new_table = copied_bytes(table, &mut table_room);
+    label(call[0]);
+    in_words::answer(made::make(n, m, new_bounds, new_coefs, new_rhs, new_table, call));
+    all_changes(
+        bounds,
+        coefs,
+        rhs,
+        table,
+        new_bounds,
+        new_coefs,
+        new_rhs,
+        new_table,
+    );
+    line();
+}
+
+// All six, each on its own copy; the record's kind is not looked at.
+pub fn all(
+    n: usize,
+    m: usize,
+    bounds: &[i32],
+    coefs: &[i32],
+    rhs: &[i32],
+    table: &[u8],
+    call: [u32; 4],
+) {
+    let row = call[1];
+    let variable = call[2];
+    let budget = call[3];
+    let mut kind = 1;
+    while kind <= 6 {
+        one(
+            n,
+            m,
+            bounds,
+            coefs,
+            rhs,
+            table,
+            [kind, row, variable, budget],
+        );
+        kind += 1;
+    }
+}

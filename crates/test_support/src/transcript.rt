@@ -1,0 +1,106 @@
+// An example as a transcript: how it starts, each call with its answer, and the rows and implications as `reduce` prints them.
+use crate::in_words;
+use crate::made;
+use crate::print::count;
+use crate::print::line;
+use crate::print::list;
+use crate::print::number;
+use crate::print::text;
+
+// How the line of row r starts: r, row, b.
+fn row_head(rhs: &[i32], r: usize) {
+    text(b"  r");
+    count(r);
+    if r < rhs.len() {
+        number(rhs[r]);
+    }
+}
+
+// Each row: r, row, b, coefficients.
+pub fn rows(n: usize, coefs: &[i32], rhs: &[i32]) {
+    let mut i = 0;
+    let mut r = 0;
+    let mut column = 0;
+    while i < coefs.len() {
+        if column == 0 {
+            row_head(rhs, r);
+        }
+        number(coefs[i]);
+        i += 1;
+        column += 1;
+        if column == n {
+            line();
+            r += 1;
+            column = 0;
+        }
+    }
+}
+
+// Literal p implies literal q: i, k, v, j, w.
+fn implication(p: usize, q: usize) {
+    text(b"  i");
+    count(p / 2);
+    count(p % 2);
+    count(q / 2);
+    count(q % 2);
+    line();
+}
+
+// Each recorded implication.
+pub fn implications(literals: usize, table: &[u8]) {
+    let mut i = 0;
+    let mut p = 0;
+    let mut q = 0;
+    while i < table.len() {
+        if table[i] != 0 {
+            implication(p, q);
+        }
+        i += 1;
+        q += 1;
+        if q == literals {
+            p += 1;
+            q = 0;
+        }
+    }
+}
+
+// How an example starts: its name with the bounds, then its rows.
+pub fn head(name: &[u8], n: usize, bounds: &[i32], coefs: &[i32], rhs: &[i32]) {
+    list(name, bounds);
+    rows(n, coefs, rhs);
+}
+
+// 01's word for a kind.
+pub fn name(kind: u32) {
+    match kind {
+        made::VISIT => text(b"visit"),
+        made::SETTLE => text(b"settle"),
+        made::PROBE => text(b"probe"),
+        made::SHARPEN => text(b"sharpen"),
+        made::DROP => text(b"drop"),
+        _ => text(b"rest"),
+    }
+}
+
+// A record as 01 has it: kind, row, variable, budget.
+fn record(call: [u32; 4]) {
+    name(call[0]);
+    count(call[1] as usize);
+    count(call[2] as usize);
+    count(call[3] as usize);
+}
+
+// One call as a line.
+pub fn step(
+    n: usize,
+    m: usize,
+    bounds: &mut [i32],
+    coefs: &mut [i32],
+    rhs: &mut [i32],
+    table: &mut [u8],
+    call: [u32; 4],
+) {
+    record(call);
+    in_words::answer(made::make(n, m, bounds, coefs, rhs, table, call));
+    line();
+}
