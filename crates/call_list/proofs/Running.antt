@@ -6,7 +6,8 @@ use mathlib.Core.Path.{_∙_, _≡_, refl, sym}
 use native.Mathlib.Omega.{arith}
 use Rattle.semantics.specs.CallList.{ListAnswer, ListRun, listChecks, listFault, ran, recordAt, recordsFrom, recordsOf, refusedList, runList}
 use Rattle.semantics.specs.Run.{run, tally}
-use Rattle.semantics.specs.State.{State, callOf}
+use Rattle.model.specs.State.{State}
+use Rattle.semantics.specs.Call.{callOf}
 use Rattle.semantics.proofs.CallLists.{Along, along-end, along-more, along-start, list-accepted, list-ind, list-refused}
 use Rattle.call_list.specs.Records.{Runs, RunsAt, callOn, nextOf, noCall, numbersOf, runNext}
 use Rattle.call_list.specs.declared.Call.{Call}

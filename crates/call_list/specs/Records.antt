@@ -2,10 +2,11 @@
 use Prim.Native.Nat.{_+_, _<_, _^_, ℕ}
 use mathlib.Core.List.{List, [], _∷_}
 use Rattle.semantics.specs.CallList.{ListAnswer, ListRun, ran, refusedList}
-use Rattle.semantics.specs.Points.{ValidState}
+use Rattle.model.specs.Valid.{ValidState}
 use Rattle.semantics.specs.Run.{Counts, classOf, countCall, step}
-use Rattle.semantics.specs.State.{State, callOf}
-use Rattle.semantics.specs.State as semantics
+use Rattle.model.specs.State.{State}
+use Rattle.semantics.specs.Call.{callOf}
+use Rattle.semantics.specs.Call as semantics
 use Rattle.call_list.specs.declared.Call.{Call}
 
 abbrev pub noCall : Call

@@ -8,7 +8,7 @@ ghost use mathlib.Core.Path.{_≡_};
 ghost use Prim.Native.Nat.{_<_};
 ghost use lib.ListN.{length, getD};
 ghost use Rattle.semantics.specs.CallList.{runList};
-ghost use Rattle.semantics.specs.State.{stateOf};
+ghost use Rattle.model.specs.State.{stateOf};
 ghost use Rattle.semantics.specs.TwoLists.{CountsAddUp, Demand3Lists, ListMeans};
 ghost use Rattle.semantics.specs.TwoRuns.{EveryModelHandedIn};
 ghost use Rattle.reducer.specs.CallLists.{listRun};

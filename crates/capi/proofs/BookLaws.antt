@@ -15,6 +15,7 @@ use Rattle.book.specs.BookChecks.{headChecks, modelNumberChecks, readChecks}
 use Rattle.book.proofs.AcceptLaws.{decoded-sizes, head-numbered, head-test, size-passed}
 use Rattle.model.specs.Checks.{Check, first, lengthChecks, must}
 use Rattle.model.proofs.CheckLaws.{fails, first-go, first-stop, first-zero-append, numbered}
+use Rattle.model.specs.Model.{modelOf}
 use Rattle.capi.specs.Exports.{bookAnswered, bookExported, lentTo, wrongLength}
 use Rattle.capi.specs.Replies.{returned, written}
 use Rattle.capi.specs.declared.reply.Reply.{Reply}
@@ -48,7 +49,7 @@ unfolding wrongLength first
 wrong-length-refused before t e = let five = first-zero-append before (must false 5 ∷ []) t .0 e .1 in omega (arith, five)
 
 -- buffers of length 0 fit no book: a book has a variable
-no-bounds : (bs : List ℕ) → first (headChecks bs) ≡ 0 → 5 ≡ first (lengthChecks (decode bs .n) (decode bs .m) [] [] [] ++ modelNumberChecks (decode bs))
+no-bounds : (bs : List ℕ) → first (headChecks bs) ≡ 0 → 5 ≡ first (lengthChecks (modelOf (decode bs .n) (decode bs .m) [] [] []) ++ modelNumberChecks (decode bs))
 unfolding lengthChecks
 no-bounds bs e =
     let n = decode bs .n in

@@ -15,7 +15,8 @@ use Rattle.rounds.specs.Rounds.{RoundsAnswer, runRounds}
 use Rattle.semantics.specs.CallList.{ListRun, runList}
 use Rattle.semantics.specs.Perform.{Answer, Performed, perform}
 use Rattle.semantics.specs.Run.{run}
-use Rattle.semantics.specs.State.{State, callOf}
+use Rattle.model.specs.State.{State}
+use Rattle.semantics.specs.Call.{callOf}
 use Rattle.capi.specs.Exports.{answered, callExport, exported, listExport, restExport, roundsExport, wrongLength}
 use Rattle.capi.specs.Replies.{callReply, listReply, restReply, returned, roundsReply, written}
 use Rattle.capi.specs.declared.reply.Reply.{Reply}
@@ -32,12 +33,12 @@ six-stored (u ∷ v ∷ w ∷ x ∷ y ∷ z ∷ []) a b c d e f h = refl
 six-stored (u ∷ v ∷ w ∷ x ∷ y ∷ z ∷ t ∷ ts) a b c d e f h = absurd (let k : ⊥ = omega (arith, h) in k)
 
 -- the answer's length is wrong: refused by 3 or 5, and everything stays
-pub length-refused : (A : List ℕ) (s : State) (q : Reply) (r : State) {number : ℕ} → (length A ≡ 6 → ⊥) → number ≡ wrongLength (sizeChecks (s .n) (s .m))
+pub length-refused : (A : List ℕ) (s : State) (q : Reply) (r : State) {number : ℕ} → (length A ≡ 6 → ⊥) → number ≡ wrongLength (sizeChecks (s .model .n) (s .model .m))
     → exported number A s ≡ answered A s q r
 unfolding answered
 length-refused A s q r wrong e =
     ap (λ (k : ℕ). exported k A s) e
-    ∙ sym (ap (λ (t : Bool). cond t (exported (returned q) (written q A) r) (exported (wrongLength (sizeChecks (s .n) (s .m))) A s)) (ne-eqb (length A) 6 wrong))
+    ∙ sym (ap (λ (t : Bool). cond t (exported (returned q) (written q A) r) (exported (wrongLength (sizeChecks (s .model .n) (s .model .m))) A s)) (ne-eqb (length A) 6 wrong))
 
 -- the answer's length is right: the reply q that was written is the call's, p, and so is the state that was left
 pub replied : (A : List ℕ) (s : State) {q p : Reply} {r t : State} {number : ℕ} {places : List ℕ} → length A ≡ 6
@@ -45,12 +46,12 @@ pub replied : (A : List ℕ) (s : State) {q p : Reply} {r t : State} {number : �
 unfolding answered
 replied A s {q} {p} {r} {t} right put e f =
     ap₂ (λ (k : ℕ) (xs : List ℕ). exported k xs r) (put .0) (put .1)
-    ∙ sym (ap (λ (b : Bool). cond b (exported (returned q) (written q A) r) (exported (wrongLength (sizeChecks (s .n) (s .m))) A s)) (eq-eqb (length A) 6 right))
+    ∙ sym (ap (λ (b : Bool). cond b (exported (returned q) (written q A) r) (exported (wrongLength (sizeChecks (s .model .n) (s .model .m))) A s)) (eq-eqb (length A) 6 right))
     ∙ ap₂ (answered A s) e f
 
 -- the same of each call: that it is given an answer of a wrong length, or that it answered x and left r
 module _ (A : List ℕ) (s : State) where
-  pub call-refused : (kind row variable budget : ℕ) {number : ℕ} → (length A ≡ 6 → ⊥) → number ≡ wrongLength (sizeChecks (s .n) (s .m))
+  pub call-refused : (kind row variable budget : ℕ) {number : ℕ} → (length A ≡ 6 → ⊥) → number ≡ wrongLength (sizeChecks (s .model .n) (s .model .m))
       → exported number A s ≡ callExport A s kind row variable budget
   unfolding callExport
   call-refused kind row variable budget wrong e = length-refused A s _ _ wrong e
@@ -62,7 +63,7 @@ module _ (A : List ℕ) (s : State) where
   call-replied r kind row variable budget x right put e done =
       replied A s right put (e ∙ ap (λ (p : Performed). callReply (p .answer)) done) (ap (λ (p : Performed). p .state) done)
 
-  pub rest-refused : {number : ℕ} → (length A ≡ 6 → ⊥) → number ≡ wrongLength (sizeChecks (s .n) (s .m)) → exported number A s ≡ restExport A s
+  pub rest-refused : {number : ℕ} → (length A ≡ 6 → ⊥) → number ≡ wrongLength (sizeChecks (s .model .n) (s .model .m)) → exported number A s ≡ restExport A s
   unfolding restExport
   rest-refused wrong e = length-refused A s _ _ wrong e
 
@@ -71,7 +72,7 @@ module _ (A : List ℕ) (s : State) where
   unfolding restExport
   rest-replied x right put e done = replied A s right put (e ∙ ap restReply done) refl
 
-  pub list-refused : (calls : List ℕ) {number : ℕ} → (length A ≡ 6 → ⊥) → number ≡ wrongLength (sizeChecks (s .n) (s .m))
+  pub list-refused : (calls : List ℕ) {number : ℕ} → (length A ≡ 6 → ⊥) → number ≡ wrongLength (sizeChecks (s .model .n) (s .model .m))
       → exported number A s ≡ listExport A s calls
   unfolding listExport
   list-refused calls wrong e = length-refused A s _ _ wrong e
@@ -83,7 +84,7 @@ module _ (A : List ℕ) (s : State) where
   list-replied r calls x right put e done =
       replied A s right put (e ∙ ap (λ (p : ListRun). listReply (p .answer)) done) (ap (λ (p : ListRun). p .state) done)
 
-  pub rounds-refused : (limit : ℕ) {number : ℕ} → (length A ≡ 6 → ⊥) → number ≡ wrongLength (sizeChecks (s .n) (s .m))
+  pub rounds-refused : (limit : ℕ) {number : ℕ} → (length A ≡ 6 → ⊥) → number ≡ wrongLength (sizeChecks (s .model .n) (s .model .m))
       → exported number A s ≡ roundsExport A s limit
   unfolding roundsExport
   rounds-refused limit wrong e = length-refused A s _ _ wrong e

@@ -15,7 +15,8 @@ use Rattle.rounds.specs.Rounds.{runRounds}
 use Rattle.semantics.specs.CallList.{runList}
 use Rattle.semantics.specs.Perform.{perform}
 use Rattle.semantics.specs.Run.{run}
-use Rattle.semantics.specs.State.{State, callOf}
+use Rattle.model.specs.State.{State}
+use Rattle.semantics.specs.Call.{callOf}
 use Rattle.capi.specs.Replies.{bookReply, callReply, listReply, restReply, returned, roundsReply, written}
 use Rattle.capi.specs.declared.reply.Reply.{Reply}
 

@@ -9,7 +9,7 @@ use book::writing::WriteAnswer;
 use book::writing::write;
 ghost use mathlib.Core.Path.{_≡_};
 ghost use Rattle.book.specs.Answers.{bookWritten, boundsRead, coefsRead, rhsRead, writeAnswer, writeCall};
-ghost use Rattle.book.specs.Book.{model};
+ghost use Rattle.model.specs.Model.{modelOf};
 ghost use Rattle.book.specs.BookChecks.{headChecks};
 ghost use Rattle.capi.specs.Exports.{bookExported, lentTo, readExport, trailerExport, wrongLength};
 ghost use Rattle.capi.specs.Replies.{bookReply, returned};
@@ -81,8 +81,8 @@ pub extern "C" fn astrolabe_book_write(
     rhs: &[i32],
     book: &mut [u8],
 ) -> u32
-    ensures number { λ r. ⌜ r ≡ returned (bookReply (writeCall (model n m (now (bounds .entry)) (now (coefs .entry)) (now (rhs .entry))) (now (book .entry)))) ⌝ }
-    ensures book_written { λ r. ⌜ now (book .exit) ≡ bookWritten (model n m (now (bounds .entry)) (now (coefs .entry)) (now (rhs .entry))) (now (book .entry)) ⌝ }
+    ensures number { λ r. ⌜ r ≡ returned (bookReply (writeCall (modelOf n m (now (bounds .entry)) (now (coefs .entry)) (now (rhs .entry))) (now (book .entry)))) ⌝ }
+    ensures book_written { λ r. ⌜ now (book .exit) ≡ bookWritten (modelOf n m (now (bounds .entry)) (now (coefs .entry)) (now (rhs .entry))) (now (book .entry)) ⌝ }
 {
     write_number(write(n, m, bounds, coefs, rhs, book))
 }

@@ -18,7 +18,7 @@ use reducer::calls::remove_redundant_row;
 use reducer::calls::tighten_coefficient;
 ghost use mathlib.Core.List.{[]};
 ghost use mathlib.Core.Path.{_≡_};
-ghost use Rattle.semantics.specs.State.{stateOf};
+ghost use Rattle.model.specs.State.{stateOf};
 ghost use Rattle.capi.specs.Exports.{callExport, exported, listExport, restExport, roundsExport};
 
 // 01's visit: {0 None | 1 Narrowed | 2 Same}. Refused by 3, 5 to 9, 12.

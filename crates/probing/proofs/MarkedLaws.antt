@@ -11,6 +11,8 @@ use native.Mathlib.Omega.{arith}
 use Rattle.model.specs.Box.{NonEmpty, at, isEmpty, isFree, lower, upper, withBounds}
 use Rattle.model.specs.Valid.{ValidModel}
 use Rattle.model.proofs.BoxLoops.{lower-withBounds, upper-withBounds}
+use Rattle.model.specs.Rows.{rowsOf}
+use Rattle.model.specs.Model.{modelOf}
 use Rattle.semantics.specs.Probe.{Probed, fix, probe}
 use Rattle.semantics.proofs.ProbeLaws.{fix-inside, probe-narrower}
 use Rattle.propagation.specs.Index.{ColumnSigns, Index}
@@ -45,7 +47,7 @@ module _ {n m : ℕ} {B C R : List ℤ} {k : ℕ} {across signs : List ℕ} {see
         (λ r h t. let w = (rw p at f) r h t in (w .0, λ j _. unread-side (w .1) j));
   }
 
-module _ {n m : ℕ} {B C R : List ℤ} {across signs clean : List ℕ} (p : ValidModel n m B C R) (k w : ℕ) (f : T (isFree B k)) (h : k < n) (b : w < 2)
+module _ {n m : ℕ} {B C R : List ℤ} {across signs clean : List ℕ} (p : ValidModel (modelOf n m B C R)) (k w : ℕ) (f : T (isFree B k)) (h : k < n) (b : w < 2)
     (x : Marked n m B C R across signs clean) where
   fix-low : lower (fix n B k w) k ≡ pos w
   fix-low = rw (← fix-stores n B k w (p .box .len) h) (lower-withBounds B k (pos w) (pos w) (omega (arith, p .box .len)))
@@ -81,15 +83,15 @@ pub marks-from : {n m : ℕ} {C X B Q : List ℤ} (marks marks′ : List ℕ) �
 marks-from marks marks′ e f = rw e at f
 
 -- nothing is known yet
-pub marked-none : {n m : ℕ} {B C R : List ℤ} → ValidModel n m B C R → Marked n m B C R (replicate 15360 0) (replicate 15360 0) (replicate 120 0)
+pub marked-none : {n m : ℕ} {B C R : List ℤ} → ValidModel (modelOf n m B C R) → Marked n m B C R (replicate 15360 0) (replicate 15360 0) (replicate 120 0)
 marked-none v = record { index = index-none v; clean = clean-none 120; len = length-replicate {A = ℕ} 120 0 }
 
 -- every row of a propagation fixpoint is clean
-pub marked-all : {n m : ℕ} {B C R : List ℤ} → ValidModel n m B C R → NonEmpty n B → T (isFixpoint n m C R B)
+pub marked-all : {n m : ℕ} {B C R : List ℤ} → ValidModel (modelOf n m B C R) → NonEmpty n B → T (isFixpoint n m (rowsOf C R) B)
     → Marked n m B C R (replicate 15360 0) (replicate 15360 0) (replicate 120 1)
 marked-all {n} {m} {B} {C} {R} v p t = record {
   index = index-none v;
-  clean = record { same = λ _ r h _. stable→same (v .some) p (box→stable (v .some) p (fixpoint-test n m C R B p .0 t .same r h)) };
+  clean = record { same = λ _ r h _. stable→same (v .some) p (box→stable (v .some) p (fixpoint-test n m (rowsOf C R) B p .0 t .same r h)) };
   len = length-replicate {A = ℕ} 120 1;
 }
 
@@ -102,12 +104,12 @@ probing-box (probing.Fixed v s0 s1) Q t = refl
 probing-box (probing.BothFeasible a s0 s1) Q t = refl
 
 pub marked-probed : {n m : ℕ} {B C R : List ℤ} {across signs marks : List ℕ} (k budget : ℕ) (t t′ : List ℕ) (r : Probing) {Q : List ℤ} {marks′ : List ℕ}
-    → ValidModel n m B C R → NonEmpty n B → T (isEmpty n B || isFree B k) → Marked n m B C R across signs marks
-    → {across′ signs′ : List ℕ} → Index n m C across′ signs′ → probingOf r Q t′ ≡ probe k budget n m C R B t
+    → ValidModel (modelOf n m B C R) → NonEmpty n B → T (isEmpty n B || isFree B k) → Marked n m B C R across signs marks
+    → {across′ signs′ : List ℕ} → Index n m C across′ signs′ → probingOf r Q t′ ≡ probe k budget n m (rowsOf C R) B t
     → ((i : ℕ) → i < m → getD marks′ i 0 ≡ 1 → (getD marks i 0 ≡ 1) × ((j : ℕ) → j < n → Unread n C i B Q j))
     → length marks′ ≡ length marks → Marked n m Q C R across′ signs′ marks′
 marked-probed {n} {m} {B} {C} {R} {across} {signs} {marks} k budget t t′ r {Q} {marks′} v p f x y e u l =
-    let q : Q ≡ probe k budget n m C R B t .box = sym (probing-box r Q t′) ∙ ap (λ (w : Probed). w .box) e in
+    let q : Q ≡ probe k budget n m (rowsOf C R) B t .box = sym (probing-box r Q t′) ∙ ap (λ (w : Probed). w .box) e in
     record {
       index = y;
       clean = clean-narrower (v .some) p (rw q (probe-narrower k budget m C R t f p)) (x .clean) u;

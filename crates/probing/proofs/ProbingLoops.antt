@@ -25,6 +25,8 @@ use Rattle.model.specs.Box.{NonEmpty, emptyBox, isEmpty, isFree, lower, upper, 
 use Rattle.model.specs.Valid.{ValidBox, ValidModel}
 use Rattle.model.proofs.BoxLaws.{box-ext, empty-is, free-lower, isEmpty→eq, length-boxOf, lower-boxOf, upper-boxOf}
 use Rattle.model.proofs.BoxLoops.{length-withBounds, lower-withBounds, upper-withBounds, withBounds-other}
+use Rattle.model.specs.Rows.{rowsOf}
+use Rattle.model.specs.Model.{modelOf}
 use Rattle.row.proofs.RowLoops.{eqZ-no, eqZ-yes}
 use Rattle.semantics.specs.Probe as semantic
 use Rattle.semantics.specs.Probe.{fix, hull, joinSides, recordTo, sideOf}
@@ -80,7 +82,7 @@ free-nonEmpty k {n} {B} h f (inl e) =
     let z : ⊥ = omega (zarith, l, free-lower B k f) in absurd z
 free-nonEmpty k h f (inr p) = p
 
-pub fix-model : (k v : ℕ) {n m : ℕ} {B C R : List ℤ} → ValidModel n m B C R → T (isFree B k) → k < n → v < 2 → ValidModel n m (fix n B k v) C R
+pub fix-model : (k v : ℕ) {n m : ℕ} {B C R : List ℤ} → ValidModel (modelOf n m B C R) → T (isFree B k) → k < n → v < 2 → ValidModel (modelOf n m (fix n B k v) C R)
 fix-model k v p f h b = record {
   some = p .some;
   few = p .few;
@@ -120,18 +122,18 @@ is-some (BudgetSpent p) S h = refl
 
 -- a side that was propagated: its box is valid, and empty exactly if the answer is infeasible
 module _ (budget m : ℕ) (C R : List ℤ) {n : ℕ} {B : List ℤ} (h : 0 < n) (v : ValidBox n B) (s : Propagation) (S : List ℤ)
-    (e : propagationOf s S ≡ propagate budget n m C R B) where
-  side-box : S ≡ propagate budget n m C R B .box
+    (e : propagationOf s S ≡ propagate budget n m (rowsOf C R) B) where
+  side-box : S ≡ propagate budget n m (rowsOf C R) B .box
   side-box = sym (box-is s S) ∙ ap (λ r. r .box) e
 
   pub side-valid : ValidBox n S
-  side-valid = subst⁻¹ (ValidBox n) side-box (propagate-valid m C R budget v)
+  side-valid = subst⁻¹ (ValidBox n) side-box (propagate-valid m (rowsOf C R) budget v)
 
   pub side-none : isNone (propagationOf s S .ending) ≡ isEmpty n S
   side-none =
-      let i = propagate-infeasible-iff budget m C R h v in
+      let i = propagate-infeasible-iff budget m (rowsOf C R) h v in
       rw (e, side-box)
-      (bool-ext (isNone (propagate budget n m C R B .ending)) (isEmpty n (propagate budget n m C R B .box))
+      (bool-ext (isNone (propagate budget n m (rowsOf C R) B .ending)) (isEmpty n (propagate budget n m (rowsOf C R) B .box))
       (λ t. true→T _ (empty-is n _ (i .0 t))) (λ t. i .1 (isEmpty→eq n _ t)))
 
 -- ---- what two sides come to, by which are infeasible

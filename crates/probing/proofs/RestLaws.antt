@@ -16,7 +16,7 @@ use Rattle.row.specs.Propagation.{propagateRow, rowMoves}
 use Rattle.row.proofs.PropagationLaws.{box→stable, stable→same}
 use Rattle.row.proofs.ReachLaws.{moves-not}
 use Rattle.semantics.specs.Probe.{hull}
-use Rattle.semantics.specs.Propagate.{Propagation, isNone}
+use Rattle.semantics.specs.Propagate.{Propagated, isNone}
 use Rattle.propagation.specs.Results.{propagationOf}
 use Rattle.propagation.specs.declared.Propagation as code
 use Rattle.propagation.specs.declared.Propagation.the-variants.{BudgetSpent, Converged, Infeasible}
@@ -24,12 +24,12 @@ use Rattle.propagation.specs.declared.Propagation.the-variants.{BudgetSpent, Co
 -- ---- what an answer says
 
 -- what an answer with its box is, told by their parts
-pub answered : (p : code.Propagation) (B : List ℤ) {W : Propagation} → propagationOf p B ≡ W
+pub answered : (p : code.Propagation) (B : List ℤ) {W : Propagated} → propagationOf p B ≡ W
     → (isNone (propagationOf p [] .ending) ≡ isNone (W .ending)) × (B ≡ W .box)
 unfolding propagationOf
-answered (Infeasible p) B e = (ap (λ (w : Propagation). isNone (w .ending)) e, ap (λ (w : Propagation). w .box) e)
-answered (Converged p) B e = (ap (λ (w : Propagation). isNone (w .ending)) e, ap (λ (w : Propagation). w .box) e)
-answered (BudgetSpent p) B e = (ap (λ (w : Propagation). isNone (w .ending)) e, ap (λ (w : Propagation). w .box) e)
+answered (Infeasible p) B e = (ap (λ (w : Propagated). isNone (w .ending)) e, ap (λ (w : Propagated). w .box) e)
+answered (Converged p) B e = (ap (λ (w : Propagated). isNone (w .ending)) e, ap (λ (w : Propagated). w .box) e)
+answered (BudgetSpent p) B e = (ap (λ (w : Propagated). isNone (w .ending)) e, ap (λ (w : Propagated). w .box) e)
 
 -- ---- the hull
 

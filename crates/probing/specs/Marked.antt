@@ -6,6 +6,7 @@ use mathlib.Core.List.{List}
 use mathlib.Core.Path.{_≡_}
 use Rattle.model.specs.Box.{Inside, NonEmpty, lower, upper, withBounds}
 use Rattle.model.specs.Valid.{ValidModel}
+use Rattle.model.specs.Model.{modelOf}
 use Rattle.propagation.specs.Index.{Index}
 use Rattle.propagation.specs.Marks.{Clean}
 
@@ -16,7 +17,7 @@ pub record Marked (n m : ℕ) (B C R : List ℤ) (across signs marks : List ℕ)
 
 -- a side of k of the box B, fixed, and the marks of B
 pub record SideReady (n m : ℕ) (B C R : List ℤ) (k : ℕ) (across signs : List ℕ) (seen : List ℤ) (marks : List ℕ) (side : List ℤ) : Type 0 where
-  pub valid : ValidModel n m side C R
+  pub valid : ValidModel (modelOf n m side C R)
   pub nonEmpty : NonEmpty n B
   pub variable : k < n
   pub inside : Inside n side B

@@ -15,6 +15,8 @@ ghost use lib.Dec.{T};
 ghost use lib.ListN.{length};
 ghost use Rattle.model.specs.Box.{NonEmpty, isFree, sameList};
 ghost use Rattle.model.specs.Valid.{ValidModel};
+ghost use Rattle.model.specs.Rows.{rowsOf};
+ghost use Rattle.model.specs.Model.{modelOf};
 ghost use Rattle.semantics.specs.Probe.{hull as hulled};
 ghost use mathlib.Core.List.{[]};
 ghost use Rattle.semantics.specs.Propagate.{isNone};
@@ -24,9 +26,9 @@ ghost use Rattle.semantics.specs.RestTest.{isFixpoint, isProbingFixpoint, sides
 
 // Whether no row moves a bound: the first that would ends it.
 fn is_fixpoint(n: usize, m: usize, bounds: &[i32], coefs: &[i32], rhs: &[i32]) -> bool
-    requires { ⌜ ValidModel n m (now bounds) (now coefs) (now rhs) ⌝ }
+    requires { ⌜ ValidModel (modelOf n m (now bounds) (now coefs) (now rhs)) ⌝ }
     requires { ⌜ NonEmpty n (now bounds) ⌝ }
-    ensures { λ r. ⌜ r ≡ isFixpoint n m (now (coefs .entry)) (now (rhs .entry)) (now (bounds .entry)) ⌝ }
+    ensures { λ r. ⌜ r ≡ isFixpoint n m (rowsOf (now (coefs .entry)) (now (rhs .entry))) (now (bounds .entry)) ⌝ }
 {
     let mut r = 0;
     while r < m {
@@ -79,11 +81,11 @@ fn sides_span(
     signs: &mut [u8],
     marks: &[u8],
 ) -> bool
-    requires { ⌜ ValidModel n m (now bounds) (now coefs) (now rhs) ⌝ }
+    requires { ⌜ ValidModel (modelOf n m (now bounds) (now coefs) (now rhs)) ⌝ }
     requires { ⌜ T (isFree (now bounds) k) ⌝ }
     requires { ⌜ k < n ⌝ }
     requires { ⌜ Marked n m (now bounds) (now coefs) (now rhs) (now across) (now signs) (now marks) ⌝ }
-    ensures answer { λ r. ⌜ r ≡ sidesSpan n m (now (coefs .entry)) (now (rhs .entry)) (now (bounds .entry)) k ⌝ }
+    ensures answer { λ r. ⌜ r ≡ sidesSpan n m (rowsOf (now (coefs .entry)) (now (rhs .entry))) (now (bounds .entry)) k ⌝ }
     ensures index { λ r. ⌜ Index n m (now (coefs .entry)) (now (across .exit)) (now (signs .exit)) ⌝ }
 {
     let len = bounds.len();
@@ -138,10 +140,10 @@ fn spans_at(
     signs: &mut [u8],
     marks: &[u8],
 ) -> bool
-    requires { ⌜ ValidModel n m (now bounds) (now coefs) (now rhs) ⌝ }
+    requires { ⌜ ValidModel (modelOf n m (now bounds) (now coefs) (now rhs)) ⌝ }
     requires { ⌜ k < n ⌝ }
     requires { ⌜ Marked n m (now bounds) (now coefs) (now rhs) (now across) (now signs) (now marks) ⌝ }
-    ensures answer { λ r. ⌜ r ≡ (not (isFree (now (bounds .entry)) k) || sidesSpan n m (now (coefs .entry)) (now (rhs .entry)) (now (bounds .entry)) k) ⌝ }
+    ensures answer { λ r. ⌜ r ≡ (not (isFree (now (bounds .entry)) k) || sidesSpan n m (rowsOf (now (coefs .entry)) (now (rhs .entry))) (now (bounds .entry)) k) ⌝ }
     ensures index { λ r. ⌜ Index n m (now (coefs .entry)) (now (across .exit)) (now (signs .exit)) ⌝ }
 {
     if !is_free(bounds, k) {
@@ -161,9 +163,9 @@ fn all_span(
     signs: &mut [u8],
     marks: &[u8],
 ) -> bool
-    requires { ⌜ ValidModel n m (now bounds) (now coefs) (now rhs) ⌝ }
+    requires { ⌜ ValidModel (modelOf n m (now bounds) (now coefs) (now rhs)) ⌝ }
     requires { ⌜ Marked n m (now bounds) (now coefs) (now rhs) (now across) (now signs) (now marks) ⌝ }
-    ensures { λ r. ⌜ r ≡ all n (λ k. not (isFree (now (bounds .entry)) k) || sidesSpan n m (now (coefs .entry)) (now (rhs .entry)) (now (bounds .entry)) k) ⌝ }
+    ensures { λ r. ⌜ r ≡ all n (λ k. not (isFree (now (bounds .entry)) k) || sidesSpan n m (rowsOf (now (coefs .entry)) (now (rhs .entry))) (now (bounds .entry)) k) ⌝ }
 {
     let mut k = 0;
     while k < n {
@@ -177,9 +179,9 @@ fn all_span(
 
 // The same of a propagation fixpoint: each row is clean.
 fn every_side_spans(n: usize, m: usize, bounds: &[i32], coefs: &[i32], rhs: &[i32]) -> bool
-    requires { ⌜ ValidModel n m (now bounds) (now coefs) (now rhs) ⌝ }
-    requires { ⌜ NonEmpty n (now bounds) × T (isFixpoint n m (now coefs) (now rhs) (now bounds)) ⌝ }
-    ensures { λ r. ⌜ r ≡ all n (λ k. not (isFree (now (bounds .entry)) k) || sidesSpan n m (now (coefs .entry)) (now (rhs .entry)) (now (bounds .entry)) k) ⌝ }
+    requires { ⌜ ValidModel (modelOf n m (now bounds) (now coefs) (now rhs)) ⌝ }
+    requires { ⌜ NonEmpty n (now bounds) × T (isFixpoint n m (rowsOf (now coefs) (now rhs)) (now bounds)) ⌝ }
+    ensures { λ r. ⌜ r ≡ all n (λ k. not (isFree (now (bounds .entry)) k) || sidesSpan n m (rowsOf (now (coefs .entry)) (now (rhs .entry))) (now (bounds .entry)) k) ⌝ }
 {
     let mut across = [0u8; 15360];
     let mut signs = [0u8; 15360];
@@ -189,8 +191,8 @@ fn every_side_spans(n: usize, m: usize, bounds: &[i32], coefs: &[i32], rhs: &[i3
 
 // Whether the box of a model that passed the checks is a probing fixpoint.
 pub fn is_probing_fixpoint(n: usize, m: usize, bounds: &[i32], coefs: &[i32], rhs: &[i32]) -> bool
-    requires { ⌜ ValidModel n m (now bounds) (now coefs) (now rhs) ⌝ }
-    ensures { λ r. ⌜ r ≡ isProbingFixpoint n m (now (coefs .entry)) (now (rhs .entry)) (now (bounds .entry)) ⌝ }
+    requires { ⌜ ValidModel (modelOf n m (now bounds) (now coefs) (now rhs)) ⌝ }
+    ensures { λ r. ⌜ r ≡ isProbingFixpoint n m (rowsOf (now (coefs .entry)) (now (rhs .entry))) (now (bounds .entry)) ⌝ }
 {
     if model::is_empty(bounds) {
         return true;

@@ -18,6 +18,8 @@ ghost use lib.ListN.{getD, length, take};
 ghost use Rattle.integer.specs.Order.{maxZ, minZ};
 ghost use Rattle.model.specs.Box.{isEmpty, isFree};
 ghost use Rattle.model.specs.Valid.{ValidBox, ValidModel, ValidTable};
+ghost use Rattle.model.specs.Rows.{rowsOf};
+ghost use Rattle.model.specs.Model.{modelOf};
 ghost use Rattle.semantics.specs.Propagate.{propagate as propagated};
 ghost use Rattle.semantics.specs.Probe.{fix, hull as hulled, joinSides, probe as probed, sideOf};
 ghost use Rattle.propagation.specs.Results.{propagationOf};
@@ -103,7 +105,7 @@ fn propagate_side(
     side: &mut [i32],
 ) -> Propagation
     requires { ⌜ SideReady n m (now bounds) (now coefs) (now rhs) k (now across) (now signs) (now seen) (now marks) (now side) ⌝ }
-    ensures answer { λ r. ⌜ propagationOf r (now (side .exit)) ≡ propagated budget n m (now (coefs .entry)) (now (rhs .entry)) (now (side .entry)) ⌝ }
+    ensures answer { λ r. ⌜ propagationOf r (now (side .exit)) ≡ propagated budget n m (rowsOf (now (coefs .entry)) (now (rhs .entry))) (now (side .entry)) ⌝ }
     ensures index { λ r. ⌜ Index n m (now (coefs .entry)) (now (across .exit)) (now (signs .exit)) ⌝ }
 {
     copy_box(bounds, seen);
@@ -126,13 +128,13 @@ pub fn try_side(
     clean: &[u8],
     side: &mut [i32],
 ) -> Propagation
-    requires { ⌜ ValidModel n m (now bounds) (now coefs) (now rhs) ⌝ }
+    requires { ⌜ ValidModel (modelOf n m (now bounds) (now coefs) (now rhs)) ⌝ }
     requires { ⌜ T (isFree (now bounds) k) ⌝ }
     requires { ⌜ k < n ⌝ }
     requires { ⌜ (v ≡ pos 0) ⊎ (v ≡ pos 1) ⌝ }
     requires { ⌜ length (now side) ≡ length (now bounds) ⌝ }
     requires { ⌜ Marked n m (now bounds) (now coefs) (now rhs) (now across) (now signs) (now clean) ⌝ }
-    ensures answer { λ r. ⌜ ((w : ℕ) → v ≡ pos w → propagationOf r (now (side .exit)) ≡ propagated budget n m (now (coefs .entry)) (now (rhs .entry)) (fix n (now (bounds .entry)) k w)) ⌝ }
+    ensures answer { λ r. ⌜ ((w : ℕ) → v ≡ pos w → propagationOf r (now (side .exit)) ≡ propagated budget n m (rowsOf (now (coefs .entry)) (now (rhs .entry))) (fix n (now (bounds .entry)) k w)) ⌝ }
     ensures index { λ r. ⌜ Index n m (now (coefs .entry)) (now (across .exit)) (now (signs .exit)) ⌝ }
 {
     copy_box(bounds, side);
@@ -247,12 +249,12 @@ pub fn probe_marked(
     signs: &mut [u8],
     marks: &mut [u8],
 ) -> Probing
-    requires { ⌜ ValidModel n m (now bounds) (now coefs) (now rhs) ⌝ }
+    requires { ⌜ ValidModel (modelOf n m (now bounds) (now coefs) (now rhs)) ⌝ }
     requires { ⌜ ValidTable n (now table) ⌝ }
     requires { ⌜ T (isEmpty n (now bounds) || isFree (now bounds) k) ⌝ }
     requires { ⌜ k < n ⌝ }
     requires { ⌜ Marked n m (now bounds) (now coefs) (now rhs) (now across) (now signs) (now marks) ⌝ }
-    ensures answer { λ r. ⌜ probingOf r (now (bounds .exit)) (now (table .exit)) ≡ probed k budget n m (now (coefs .entry)) (now (rhs .entry)) (now (bounds .entry)) (now (table .entry)) ⌝ }
+    ensures answer { λ r. ⌜ probingOf r (now (bounds .exit)) (now (table .exit)) ≡ probed k budget n m (rowsOf (now (coefs .entry)) (now (rhs .entry))) (now (bounds .entry)) (now (table .entry)) ⌝ }
     ensures marks { λ r. ⌜ Marked n m (now (bounds .exit)) (now (coefs .entry)) (now (rhs .entry)) (now (across .exit)) (now (signs .exit)) (now (marks .exit)) ⌝ }
 {
     if model::is_empty(bounds) {
@@ -326,11 +328,11 @@ pub fn probe(
     k: usize,
     budget: u32,
 ) -> Probing
-    requires { ⌜ ValidModel n m (now bounds) (now coefs) (now rhs) ⌝ }
+    requires { ⌜ ValidModel (modelOf n m (now bounds) (now coefs) (now rhs)) ⌝ }
     requires { ⌜ ValidTable n (now table) ⌝ }
     requires { ⌜ T (isEmpty n (now bounds) || isFree (now bounds) k) ⌝ }
     requires { ⌜ k < n ⌝ }
-    ensures { λ r. ⌜ probingOf r (now (bounds .exit)) (now (table .exit)) ≡ probed k budget n m (now (coefs .entry)) (now (rhs .entry)) (now (bounds .entry)) (now (table .entry)) ⌝ }
+    ensures { λ r. ⌜ probingOf r (now (bounds .exit)) (now (table .exit)) ≡ probed k budget n m (rowsOf (now (coefs .entry)) (now (rhs .entry))) (now (bounds .entry)) (now (table .entry)) ⌝ }
 {
     let mut across = [0u8; 15360];
     let mut signs = [0u8; 15360];

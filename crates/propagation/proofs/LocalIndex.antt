@@ -1,5 +1,5 @@
 -- The index and the marks in local arrays of 15,360 and 120 bytes: there is room for them, and of zeros nothing is known.
-use Prim.Native.Nat.{_*_, _+_, _<_, _≤_, ℕ}
+use Prim.Native.Nat.{_*_, _<_, _≤_, ℕ}
 use lib.IntN.{ℤ}
 use lib.ListN.{List·getD-eq-default, getD, getD-replicate, length, length-replicate, replicate}
 use mathlib.Core.List.{List}
@@ -8,6 +8,7 @@ use native.Mathlib.Decide.{decLt}
 use native.Mathlib.Nat.{mul-le-mul-right}
 use native.Mathlib.Omega.{arith}
 use Rattle.model.specs.Valid.{ValidModel}
+use Rattle.model.specs.Model.{modelOf}
 use Rattle.propagation.specs.Index.{Index}
 use Rattle.propagation.specs.Marks.{Clean, Watched}
 
@@ -21,7 +22,7 @@ all-zero k i = go (decLt i k)
 pub clean-none : {n m : ℕ} {C R B : List ℤ} (k : ℕ) → Clean n m C R B (replicate k 0)
 clean-none k = record { same = λ _ r _ e. absurd (let z : _≡_ {A = ℕ} 0 1 = sym (all-zero k r) ∙ e in let w : ⊥ = omega arith in w) }
 
-module _ {n m : ℕ} {B C R : List ℤ} (v : ValidModel n m B C R) where
+module _ {n m : ℕ} {B C R : List ℤ} (v : ValidModel (modelOf n m B C R)) where
   cells : m * n ≤ 15360
   cells = omega (arith, mul-le-mul-right n (v .fewRows), v .few)
 

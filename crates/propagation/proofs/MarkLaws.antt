@@ -8,7 +8,7 @@ use lib.Signed.{_<ℤ_, _≤ℤ_, ≤ℤ-refl}
 use mathlib.Core.Bool.{not}
 use mathlib.Core.List.{List}
 use mathlib.Core.Logic.{_⊎_, inl, inr}
-use mathlib.Core.Path.{_∙_, _≡_, ap, refl, sym}
+use mathlib.Core.Path.{_∙_, _≡_, refl, sym}
 use native.Mathlib.Decide.{decLt, ℕ-discrete}
 use native.Mathlib.Omega.{arith}
 use Rattle.integer.proofs.Parts.{lt-is, lt-isn't, zarith}
@@ -24,11 +24,12 @@ use Rattle.row.specs.declared.propagation.RowPropagation.the-variants.{Infeasib
 use Rattle.row.specs.Propagation.{propagateRow}
 use Rattle.row.proofs.BoundLaws.{newLower-nonneg, newUpper-nonpos}
 use Rattle.row.proofs.ImpliedBoxLaws.{lower-implied, upper-implied}
-use Rattle.row.proofs.PropagationLaws.{box→stable, propagate-row-feasible-ind, propagate-row-infeasible-box, propagate-row-nonEmpty, propagate-row-shrinks, propagate-row-unchanged, propagate-row-valid, stable→same}
+use Rattle.row.proofs.PropagationLaws.{propagate-row-feasible-ind, propagate-row-infeasible-box, propagate-row-nonEmpty, propagate-row-shrinks, propagate-row-unchanged, propagate-row-valid}
 use Rattle.sweep.specs.Steps.{Steps}
-use Rattle.model.specs.Point.{rowOf}
+use Rattle.model.specs.Rows.{rowOf}
+use Rattle.model.specs.Model.{modelOf}
 use Rattle.sweep.proofs.StableLaws.{SameReads, same-after, same-kept}
-use Rattle.propagation.specs.Index.{ColumnSigns, GoodStep, Index, signOf}
+use Rattle.propagation.specs.Index.{ColumnSigns, GoodStep, signOf}
 use Rattle.propagation.proofs.IndexLoops.{row-end}
 use Rattle.propagation.specs.Marks.{Clean, Remarks, Unread, Visitable, Watched}
 
@@ -305,7 +306,7 @@ ready-trans a b = record {
 }
 
 -- a model whose box is another valid one
-pub model-at : {n m : ℕ} {B C R Q : List ℤ} → ValidModel n m B C R → ValidBox n Q → ValidModel n m Q C R
+pub model-at : {n m : ℕ} {B C R Q : List ℤ} → ValidModel (modelOf n m B C R) → ValidBox n Q → ValidModel (modelOf n m Q C R)
 model-at v q = record { some = v .some; few = v .few; fewRows = v .fewRows; box = q; coefsLen = v .coefsLen; coefs = v .coefs; rhsLen = v .rhsLen; rhs = v .rhs }
 
 -- one row more

@@ -18,8 +18,9 @@ use Rattle.integer.proofs.Parts.{zarith}
 use Rattle.integer.proofs.RangeLaws.{within-fits}
 use Rattle.model.specs.Box.{at}
 use Rattle.model.specs.Limits.{maxCoef, minCoef}
-use Rattle.model.specs.Point.{rowOf}
+use Rattle.model.specs.Rows.{rowOf, rowsOf}
 use Rattle.model.specs.Valid.{Between, ValidBox, ValidModel}
+use Rattle.model.specs.Model.{modelOf}
 use Rattle.row.specs.Answers.{propagationOutcome}
 use Rattle.row.specs.Outcome.{isChanged, isInfeasible}
 use Rattle.row.specs.Propagation.{propagateRow}
@@ -28,7 +29,7 @@ use Rattle.row.specs.declared.propagation.RowPropagation.{RowPropagation}
 use Rattle.row.specs.declared.propagation.RowPropagation.the-variants.{Infeasible, Tightened, Unchanged}
 use Rattle.row_view.specs.RowIn.{RowIn}
 use Rattle.row.proofs.RowLoops.{rhs-within}
-use Rattle.semantics.specs.Propagate.{Propagation, budgetSpent, converged, infeasible, passTo, propagateFrom}
+use Rattle.semantics.specs.Propagate.{Propagated, budgetSpent, converged, infeasible, passTo, propagateFrom}
 use Rattle.semantics.proofs.PropagateLaws.{pass-ended, pass-next, propagate-again, propagate-converged, propagate-none-now, propagate-spent}
 
 -- ---- row r of the matrix
@@ -40,7 +41,7 @@ pub part-is : (r n : ℕ) (C : List ℤ) → take (r * n + n - r * n) (drop (r *
 unfolding rowOf
 part-is r n C = let d : r * n + n - r * n ≡ n = omega arith in rw d
 
-module _ {n m : ℕ} {B₀ C R : List ℤ} (v : ValidModel n m B₀ C R) (r : ℕ) (h : r < m) where
+module _ {n m : ℕ} {B₀ C R : List ℤ} (v : ValidModel (modelOf n m B₀ C R)) (r : ℕ) (h : r < m) where
   pub row-fits : r * n + n ≤ length C
   row-fits = rw (v .coefsLen) (row-end r m n h)
 
@@ -75,46 +76,46 @@ or-true false = refl
 
 -- rows 0 to r − 1 left the box P, and on it row r answered v and left Q
 module _ (n r : ℕ) (C R B : List ℤ) (v : RowPropagation) {moved : Bool} {P Q : List ℤ}
-    (e : passTo n r C R B ≡ record { ended = false; moved = moved; box = P })
+    (e : passTo n r (rowsOf C R) B ≡ record { ended = false; moved = moved; box = P })
     (a : propagationOutcome v ≡ propagateRow n (rowOf n C r) (at R r) P .outcome)
     (q : Q ≡ propagateRow n (rowOf n C r) (at R r) P .box) where
-  row-more : passTo n (r + 1) C R B ≡ record { ended = isInfeasible (propagationOutcome v); moved = moved || isChanged (propagationOutcome v); box = Q }
-  row-more = (rw e at (pass-next n r C R B)) tt ∙ rw (a, q)
+  row-more : passTo n (r + 1) (rowsOf C R) B ≡ record { ended = isInfeasible (propagationOutcome v); moved = moved || isChanged (propagationOutcome v); box = Q }
+  row-more = (rw e at (pass-next n r (rowsOf C R) B)) tt ∙ rw (a, q)
 
   pub row-feasible : {now : Bool} → ((v ≡ Tightened) × (now ≡ true)) ⊎ ((v ≡ Unchanged) × (now ≡ moved))
-      → passTo n (r + 1) C R B ≡ record { ended = false; moved = now; box = Q }
+      → passTo n (r + 1) (rowsOf C R) B ≡ record { ended = false; moved = now; box = Q }
   unfolding propagationOutcome isInfeasible isChanged
   row-feasible (inl w) = row-more ∙ rw (w .0, w .1, or-true moved)
   row-feasible (inr w) = row-more ∙ rw (w .0, w .1, or-false moved)
 
   -- no later row changes what an infeasible one left
-  pub row-infeasible : (m : ℕ) → r < m → v ≡ Infeasible → passTo n m C R B ≡ record { ended = true; moved = moved; box = Q }
+  pub row-infeasible : (m : ℕ) → r < m → v ≡ Infeasible → passTo n m (rowsOf C R) B ≡ record { ended = true; moved = moved; box = Q }
   unfolding propagationOutcome isInfeasible isChanged
   row-infeasible m h w =
-      let f : passTo n (r + 1) C R B ≡ record { ended = true; moved = moved; box = Q } = row-more ∙ rw (w, or-false moved) in
-      pass-ended n (r + 1) C R B m (omega arith) (rw f tt) ∙ f
+      let f : passTo n (r + 1) (rowsOf C R) B ≡ record { ended = true; moved = moved; box = Q } = row-more ∙ rw (w, or-false moved) in
+      pass-ended n (r + 1) (rowsOf C R) B m (omega arith) (rw f tt) ∙ f
 
 -- ---- one pass more, after `made` of `budget`; W is what the whole comes to
 
-module _ (budget made n m : ℕ) (C R B : List ℤ) {W : Propagation} (h : made < budget)
-    (w : propagateFrom (budget - made) made n m C R B ≡ W) where
-  left-one : propagateFrom (suc (budget - (made + 1))) made n m C R B ≡ W
+module _ (budget made n m : ℕ) (C R B : List ℤ) {W : Propagated} (h : made < budget)
+    (w : propagateFrom (budget - made) made n m (rowsOf C R) B ≡ W) where
+  left-one : propagateFrom (suc (budget - (made + 1))) made n m (rowsOf C R) B ≡ W
   left-one = let k : suc (budget - (made + 1)) ≡ budget - made = omega arith in rw k w
 
-  pub pass-infeasible : {moved : Bool} {Q : List ℤ} → passTo n m C R B ≡ record { ended = true; moved = moved; box = Q }
+  pub pass-infeasible : {moved : Bool} {Q : List ℤ} → passTo n m (rowsOf C R) B ≡ record { ended = true; moved = moved; box = Q }
       → W ≡ record { ending = infeasible; passes = made + 1; box = Q }
-  pass-infeasible e = sym left-one ∙ propagate-none-now (budget - (made + 1)) made n m C R B (rw e tt) ∙ rw (e, add-one)
+  pass-infeasible e = sym left-one ∙ propagate-none-now (budget - (made + 1)) made n m (rowsOf C R) B (rw e tt) ∙ rw (e, add-one)
 
-  pub pass-converged : {Q : List ℤ} → passTo n m C R B ≡ record { ended = false; moved = false; box = Q }
+  pub pass-converged : {Q : List ℤ} → passTo n m (rowsOf C R) B ≡ record { ended = false; moved = false; box = Q }
       → W ≡ record { ending = converged; passes = made + 1; box = Q }
-  pass-converged e = sym left-one ∙ propagate-converged (budget - (made + 1)) made n m C R B (rw e tt) (rw e tt) ∙ rw (e, add-one)
+  pass-converged e = sym left-one ∙ propagate-converged (budget - (made + 1)) made n m (rowsOf C R) B (rw e tt) (rw e tt) ∙ rw (e, add-one)
 
-  pub pass-moved : {Q : List ℤ} → passTo n m C R B ≡ record { ended = false; moved = true; box = Q }
-      → propagateFrom (budget - (made + 1)) (made + 1) n m C R Q ≡ W
-  pass-moved e = sym (sym left-one ∙ propagate-again (budget - (made + 1)) made n m C R B (rw e tt) (rw e tt) ∙ rw (e, add-one made))
+  pub pass-moved : {Q : List ℤ} → passTo n m (rowsOf C R) B ≡ record { ended = false; moved = true; box = Q }
+      → propagateFrom (budget - (made + 1)) (made + 1) n m (rowsOf C R) Q ≡ W
+  pass-moved e = sym (sym left-one ∙ propagate-again (budget - (made + 1)) made n m (rowsOf C R) B (rw e tt) (rw e tt) ∙ rw (e, add-one made))
 
-pub budget-spent : (budget made n m : ℕ) (C R B : List ℤ) {W : Propagation} → budget ≤ made
-    → propagateFrom (budget - made) made n m C R B ≡ W → W ≡ record { ending = budgetSpent; passes = made; box = B }
+pub budget-spent : (budget made n m : ℕ) (C R B : List ℤ) {W : Propagated} → budget ≤ made
+    → propagateFrom (budget - made) made n m (rowsOf C R) B ≡ W → W ≡ record { ending = budgetSpent; passes = made; box = B }
 budget-spent budget made n m C R B h w =
     let k : budget - made ≡ 0 = omega arith in
-    sym w ∙ rw (k, propagate-spent made n m C R B)
+    sym w ∙ rw (k, propagate-spent made n m (rowsOf C R) B)

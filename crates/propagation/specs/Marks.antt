@@ -6,8 +6,9 @@ use lib.ListN.{getD, length}
 use mathlib.Core.List.{List}
 use mathlib.Core.Path.{_≡_}
 use Rattle.model.specs.Box.{NonEmpty, at, lower, upper}
-use Rattle.model.specs.Point.{rowOf}
+use Rattle.model.specs.Rows.{rowOf}
 use Rattle.model.specs.Valid.{ValidModel}
+use Rattle.model.specs.Model.{modelOf}
 use Rattle.row.specs.Outcome.{unchanged}
 use Rattle.row.specs.Propagation.{propagateRow}
 use Rattle.propagation.specs.Index.{ColumnSigns, Index, RowSteps, signOf}
@@ -43,7 +44,7 @@ pub record Remarks (n m : ℕ) (C : List ℤ) (signs steps : List ℕ) (start : 
 -- ---- a row is propagated
 
 pub record Visitable (n m : ℕ) (B C R : List ℤ) (across signs : List ℕ) (seen : List ℤ) (marks : List ℕ) : Type 0 where
-  pub valid : ValidModel n m B C R
+  pub valid : ValidModel (modelOf n m B C R)
   pub nonEmpty : NonEmpty n B
   pub watched : Watched n m C R B across signs seen marks
   pub room : m ≤ length marks
@@ -51,7 +52,7 @@ pub record Visitable (n m : ℕ) (B C R : List ℤ) (across signs : List ℕ) (s
 -- ---- the rows of a box are tested
 
 pub record Testable (n m : ℕ) (B C R : List ℤ) (across marks : List ℕ) : Type 0 where
-  pub valid : ValidModel n m B C R
+  pub valid : ValidModel (modelOf n m B C R)
   pub steps : RowSteps n m C across
   pub clean : Clean n m C R B marks
   pub room : m ≤ length marks

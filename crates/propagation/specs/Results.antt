@@ -6,7 +6,7 @@ use Rattle.propagation.specs.declared.Propagation.{Propagation}
 use Rattle.propagation.specs.declared.Propagation.the-variants.{Infeasible, Converged, BudgetSpent}
 
 -- 01's None, Settled, Spent with the passes, and the box that is left
-unfoldable pub propagationOf : Propagation → List ℤ → ended.Propagation
+unfoldable pub propagationOf : Propagation → List ℤ → ended.Propagated
 propagationOf (Infeasible p) B = record { ending = ended.infeasible; passes = p; box = B }
 propagationOf (Converged p) B = record { ending = ended.converged; passes = p; box = B }
 propagationOf (BudgetSpent p) B = record { ending = ended.budgetSpent; passes = p; box = B }

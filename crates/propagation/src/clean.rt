@@ -6,7 +6,7 @@ ghost use mathlib.Core.Path.{_≡_};
 ghost use Prim.Native.Nat.{ℕ, _*_, _+_, _<_, _≤_};
 ghost use lib.ListN.{length};
 ghost use Rattle.model.specs.Box.{at};
-ghost use Rattle.model.specs.Point.{rowOf};
+ghost use Rattle.model.specs.Rows.{rowOf};
 ghost use Rattle.row.specs.Propagation.{rowMoves};
 ghost use Rattle.row.specs.ValidRow.{ValidRow};
 ghost use Rattle.row_view.specs.RowIn.{RowIn};

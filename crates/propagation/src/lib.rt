@@ -10,6 +10,8 @@ use crate::marks::propagate_row_marked;
 use row::propagation::RowPropagation;
 ghost use mathlib.Core.Path.{_≡_};
 ghost use Rattle.model.specs.Valid.{ValidModel};
+ghost use Rattle.model.specs.Rows.{rowsOf};
+ghost use Rattle.model.specs.Model.{modelOf};
 ghost use Rattle.semantics.specs.Propagate.{propagate as propagated};
 ghost use Prim.Native.Nat.{_≤_};
 ghost use lib.ListN.{length};
@@ -40,10 +42,10 @@ pub fn propagate_marked(
     seen: &mut [i32],
     marks: &mut [u8],
 ) -> Propagation
-    requires { ⌜ ValidModel n m (now bounds) (now coefs) (now rhs) ⌝ }
+    requires { ⌜ ValidModel (modelOf n m (now bounds) (now coefs) (now rhs)) ⌝ }
     requires { ⌜ Watched n m (now coefs) (now rhs) (now bounds) (now across) (now signs) (now seen) (now marks) ⌝ }
     requires { ⌜ m ≤ length (now marks) ⌝ }
-    ensures answer { λ r. ⌜ propagationOf r (now (bounds .exit)) ≡ propagated budget n m (now (coefs .entry)) (now (rhs .entry)) (now (bounds .entry)) ⌝ }
+    ensures answer { λ r. ⌜ propagationOf r (now (bounds .exit)) ≡ propagated budget n m (rowsOf (now (coefs .entry)) (now (rhs .entry))) (now (bounds .entry)) ⌝ }
     ensures watched { λ r. ⌜ Watched n m (now (coefs .entry)) (now (rhs .entry)) (now (bounds .exit)) (now (across .exit)) (now (signs .exit)) (now (seen .exit)) (now (marks .exit)) ⌝ }
 {
     if model::is_empty(bounds) {
@@ -87,8 +89,8 @@ pub fn propagate(
     rhs: &[i32],
     budget: u32,
 ) -> Propagation
-    requires { ⌜ ValidModel n m (now bounds) (now coefs) (now rhs) ⌝ }
-    ensures { λ r. ⌜ propagationOf r (now (bounds .exit)) ≡ propagated budget n m (now (coefs .entry)) (now (rhs .entry)) (now (bounds .entry)) ⌝ }
+    requires { ⌜ ValidModel (modelOf n m (now bounds) (now coefs) (now rhs)) ⌝ }
+    ensures { λ r. ⌜ propagationOf r (now (bounds .exit)) ≡ propagated budget n m (rowsOf (now (coefs .entry)) (now (rhs .entry))) (now (bounds .entry)) ⌝ }
 {
     let len = bounds.len();
     let mut across = [0u8; 15360];

@@ -11,7 +11,7 @@ ghost use mathlib.Core.Path.{_≡_};
 ghost use Prim.Native.Nat.{ℕ, _*_, _+_, _<_, _≤_};
 ghost use lib.ListN.{length, getD, set};
 ghost use Rattle.model.specs.Box.{at, lower, upper, withBounds};
-ghost use Rattle.model.specs.Point.{rowOf};
+ghost use Rattle.model.specs.Rows.{rowOf};
 ghost use Rattle.row.specs.Answers.{propagationOutcome};
 ghost use Rattle.row.specs.Propagation.{propagateRow};
 ghost use Rattle.propagation.specs.Index.{ColumnSigns, GoodStep, signOf};

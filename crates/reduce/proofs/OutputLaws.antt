@@ -7,7 +7,7 @@ use lib.IntN.{ℤ}
 use lib.ListN.{getD}
 use mathlib.Core.List.{List, []}
 use mathlib.Core.Logic.{_⊎_, inl, inr, ⊎-elim}
-use mathlib.Core.Path.{_∙_, _≡_, refl, subst, sym}
+use mathlib.Core.Path.{_≡_, refl, subst, sym}
 use native.Mathlib.Nat.{div-add-mod', div-lt-iff-lt-mul, mod-lt}
 use native.Mathlib.Decide.{ℕ-discrete}
 use native.Mathlib.Omega.{arith}
@@ -17,12 +17,13 @@ use Rattle.book.specs.Book.{decode}
 use Rattle.book.specs.BookChecks.{bookFault}
 use Rattle.book.proofs.AcceptLaws.{book-test}
 use Rattle.report.specs.Report.{byteLine, implicationAt}
-use Rattle.rounds.specs.Rounds.{RoundsAnswer, SamePoints, atLimit, ended, infeasible, nothingChanged, refusedRounds, roundsFault, roundsFrom, runRounds}
+use Rattle.rounds.specs.Rounds.{RoundsAnswer, SamePoints, atLimit, ended, infeasible, nothingChanged, refusedRounds, roundsFault, runRounds}
 use Rattle.rounds.proofs.RoundsLaws.{rounds-mean}
 use Rattle.semantics.specs.Points.{PointOf, Recorded, TableHolds}
 use Rattle.semantics.specs.Probe.{byteOf, literal}
 use Rattle.semantics.specs.Run.{run}
-use Rattle.semantics.specs.State.{State, stateOf}
+use Rattle.model.specs.State.{State}
+use Rattle.model.specs.Model.{modelOf}
 use Rattle.semantics.specs.TwoRuns.{Demand3, EveryModelHandedIn, HandedIn, Narrows, TwoRuns}
 use Rattle.semantics.proofs.Demand3.{demand-3, handed-in}
 use Rattle.semantics.proofs.Preserved.{run-preserves}
@@ -34,7 +35,7 @@ book-handed-in : (bs : List ℕ) → bookFault bs ≡ 0 → HandedIn (stateRead 
 unfolding stateRead zeros EveryModelHandedIn
 book-handed-in bs e =
     let M = decode bs in
-    handed-in (M .n) (M .m) (M .bounds) (M .coefs) (M .rhs) (fault-none (M .n) (M .m) (M .bounds) (M .coefs) (M .rhs) .1 (book-test bs .0 e .1))
+    handed-in (M .n) (M .m) (M .bounds) (M .coefs) (M .rhs) (fault-none (modelOf (M .n) (M .m) (M .bounds) (M .coefs) (M .rhs)) .1 (book-test bs .0 e .1))
 
 -- ---- the `i` lines
 

@@ -14,7 +14,7 @@ use Rattle.model.specs.Checks.{first, lengthChecks}
 use Rattle.model.specs.Limits.{maxRows, maxVariables}
 use Rattle.model.proofs.CheckLaws.{first-go, first-none, first-stop, length-test}
 use Rattle.book.specs.Answers.{boundsRead, coefsRead, readCall, readFault, refused, rhsRead, sizesAre, unless}
-use Rattle.book.specs.Book.{decode, modelOf, rows, trailerOf, variables}
+use Rattle.book.specs.Book.{decode, modelIn, rows, trailerOf, variables}
 use Rattle.book.specs.BookChecks.{bookChecks, bookFault, headChecks, modelNumberChecks, readChecks}
 use Rattle.book.proofs.AcceptLaws.{head-numbered}
 use Rattle.book.proofs.AnswerLaws.{accepted-by, becomes, refused-by}
@@ -22,7 +22,8 @@ use Rattle.intake.specs.Checks.{TooLong, headCall}
 use Rattle.intake.specs.Intake.{Held}
 use Rattle.intake.proofs.CheckLaws.{accepted}
 use Rattle.report.specs.Report.{refusedLine}
-use Rattle.semantics.specs.State.{stateOf}
+use Rattle.model.specs.State.{stateOf}
+use Rattle.model.specs.Model.{modelOf}
 use Rattle.reduce.specs.Answers.{Ready, RefusedSoFar, Sized}
 use Rattle.reduce.specs.Output.{output, roundsText, stateRead, zeros}
 
@@ -38,23 +39,23 @@ refused-fault fault number p q e = go (ℕ-discrete fault 0)
     go (no n) = let h : refused number ≡ refused fault = e ∙ sym (refused-by refl n (sizesAre p q)) in ((cc), n)
 
 sized-head : (bs : List ℕ) {n m : ℕ} → first (headChecks bs) ≡ 0 → variables (trailerOf bs) ≡ n → rows (trailerOf bs) ≡ m → Sized n m bs
-unfolding decode modelOf
+unfolding decode modelIn
 sized-head bs z v w = record { head = z; variables = sym v; rows = sym w }
 
 module _ {n m : ℕ} {bs : List ℕ} {B C R : List ℤ} {t : List ℕ} (h : Ready n m bs B C R t) where
   -- the lengths pass check 5
-  lengths-pass : first (lengthChecks (decode bs .n) (decode bs .m) B C R) ≡ 0
+  lengths-pass : first (lengthChecks (modelOf (decode bs .n) (decode bs .m) B C R)) ≡ 0
   unfolding lengthChecks
   lengths-pass =
       let s = h .sized in
       let l = h .lengths in
-      rw (← s .variables, ← s .rows) (first-none (lengthChecks n m B C R) tt .1 (length-test n m B C R .1 (l .box, l .coefs, l .rhs), tt))
+      rw (← s .variables, ← s .rows) (first-none (lengthChecks (modelOf n m B C R)) tt .1 (length-test (modelOf n m B C R) .1 (l .box, l .coefs, l .rhs), tt))
 
   read-fault : readFault bs B C R ≡ bookFault bs
   unfolding readFault bookFault readChecks bookChecks lengthChecks
   read-fault =
       let head = h .sized .head in
-      let lengths = lengthChecks (decode bs .n) (decode bs .m) B C R in
+      let lengths = lengthChecks (modelOf (decode bs .n) (decode bs .m) B C R) in
       let numbers = modelNumberChecks (decode bs) in
       first-go (headChecks bs) (lengths ++ numbers) (head-numbered bs) head
       ∙ first-go lengths numbers tt lengths-pass

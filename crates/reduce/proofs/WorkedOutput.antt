@@ -7,19 +7,20 @@ use Rattle.integer.specs.Index.{all, sum}
 use Rattle.integer.specs.Order.{eqZ, maxZ, minZ}
 use Rattle.model.specs.Box.{boxOf, emptyBox, isEmpty, isFree, sameList}
 use Rattle.model.specs.Checks.{bits, first, inRange, lengthChecks, modelChecks, modelFault, numberChecks, ordered, sizeChecks, tableByteChecks, tableLengthChecks}
-use Rattle.model.specs.Point.{rowOf}
+use Rattle.model.specs.Rows.{rowOf, setRow, splice}
 use Rattle.row.specs.Activity.{maxActivity, maxTerm, minActivity, minTerm}
 use Rattle.row.specs.Outcome.{isChanged, isInfeasible}
 use Rattle.row.specs.Propagation.{impliedBox, newLower, newUpper, propagateRow, stays}
 use Rattle.row.specs.Redundancy.{removeRedundantRow, zeroRow}
 use Rattle.row.specs.Tightening.{tightenAt, tightenCoefficient}
-use Rattle.semantics.specs.CallChecks.{callChecks, callFault, lentChecks, lentTable, recordChecks, stateChecks}
+use Rattle.semantics.specs.CallChecks.{callChecks, callFault, givenModel, isLent, lentTable, recordChecks}
 use Rattle.semantics.specs.Perform.{act, perform}
 use Rattle.semantics.specs.Probe.{byteOf, fix, hull, implies, isFixed, joinSides, literal, probe, put, recordSide, recordTo, sideOf}
 use Rattle.semantics.specs.Propagate.{isNone, isSpent, passRow, passTo, propagate, propagateFrom}
 use Rattle.semantics.specs.Run.{answersNone, classOf, isRefused, probeInfeasible, run, sameBytes, sameState, step}
-use Rattle.semantics.specs.State.{callOf, hasBudget, hasRow, hasTable, hasVariable, isOther, kindOf, lengthsOf, splice, stateOf, withBox, withRow}
-use Rattle.book.specs.Book.{bookLength, boundsOf, coefsOf, decode, modelOf, rhsOf, rowPlace, trailerOf}
+use Rattle.semantics.specs.Call.{callOf, hasBudget, hasRow, hasTable, hasVariable, isUnknown, kindOf, lengthsOf}
+use Rattle.model.specs.State.{stateOf, withBox, withRow}
+use Rattle.book.specs.Book.{bookLength, boundsOf, coefsOf, decode, modelIn, rhsOf, rowPlace, trailerOf}
 use Rattle.book.specs.BookChecks.{bookChecks, bookFault, givenLengthChecks, headChecks, layoutChecks, offsetChecks}
 use Rattle.book.specs.Bytes.{integerAt, integersAt, numberAt, numberOf, signedOf}
 use Rattle.book.specs.Pieces.{joined}
@@ -49,5 +50,5 @@ example-output : output book ≡
     ∷ 105 ∷ 32 ∷ 48 ∷ 32 ∷ 49 ∷ 32 ∷ 49 ∷ 32 ∷ 48 ∷ 10
     ∷ 105 ∷ 32 ∷ 49 ∷ 32 ∷ 49 ∷ 32 ∷ 48 ∷ 32 ∷ 48 ∷ 10
     ∷ []
-unfolding book output roundsText stateRead textOf zeros floorDiv ceilDiv sum all minZ maxZ eqZ boxOf sameList emptyBox isEmpty isFree first inRange ordered bits sizeChecks lengthChecks tableLengthChecks numberChecks tableByteChecks modelChecks modelFault rowOf minTerm maxTerm minActivity maxActivity isInfeasible isChanged newUpper newLower impliedBox stays propagateRow zeroRow removeRedundantRow tightenAt tightenCoefficient lentTable lentChecks recordChecks stateChecks callChecks callFault act perform fix hull literal byteOf put implies isFixed recordSide recordTo sideOf joinSides probe passRow passTo propagateFrom propagate isNone isSpent step run probeInfeasible answersNone isRefused sameBytes sameState classOf lengthsOf kindOf hasRow hasVariable hasBudget hasTable isOther stateOf callOf withBox splice withRow bookLength rowPlace trailerOf boundsOf rhsOf coefsOf modelOf decode offsetChecks layoutChecks givenLengthChecks headChecks bookChecks bookFault numberOf signedOf numberAt integerAt integersAt joined andThen upwards unlessEmpty settleCall dropCall sharpenCall probeCall drops sharpenRow sharpens probes round isChange anyChange after roundsFrom roundsFault runRounds field fields refusedLine noneLine reducedLine variableLine rowLine implicationLine variableAt isZeroRow rowAt byteLine implicationAt report digits decimal signed texts
+unfolding book output roundsText stateRead textOf zeros floorDiv ceilDiv sum all minZ maxZ eqZ boxOf sameList emptyBox isEmpty isFree first inRange ordered bits sizeChecks lengthChecks tableLengthChecks numberChecks tableByteChecks modelChecks modelFault rowOf minTerm maxTerm minActivity maxActivity isInfeasible isChanged newUpper newLower impliedBox stays propagateRow zeroRow removeRedundantRow tightenAt tightenCoefficient lentTable givenModel isLent recordChecks callChecks callFault act perform fix hull literal byteOf put implies isFixed recordSide recordTo sideOf joinSides probe passRow passTo propagateFrom propagate isNone isSpent step run probeInfeasible answersNone isRefused sameBytes sameState classOf lengthsOf kindOf hasRow hasVariable hasBudget hasTable isUnknown stateOf callOf withBox splice withRow setRow bookLength rowPlace trailerOf boundsOf rhsOf coefsOf modelIn decode offsetChecks layoutChecks givenLengthChecks headChecks bookChecks bookFault numberOf signedOf numberAt integerAt integersAt joined andThen upwards unlessEmpty settleCall dropCall sharpenCall probeCall drops sharpenRow sharpens probes round isChange anyChange after roundsFrom roundsFault runRounds field fields refusedLine noneLine reducedLine variableLine rowLine implicationLine variableAt isZeroRow rowAt byteLine implicationAt report digits decimal signed texts
 example-output = refl

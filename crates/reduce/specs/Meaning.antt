@@ -7,7 +7,7 @@ use mathlib.Core.Path.{_≡_}
 use Rattle.book.specs.BookChecks.{bookFault}
 use Rattle.report.specs.Report.{implicationAt, implicationLine, noneLine, refusedLine, report}
 use Rattle.semantics.specs.Points.{FractionalPointOf, ImplicationHolds, PointOf}
-use Rattle.semantics.specs.State.{State}
+use Rattle.model.specs.State.{State}
 use Rattle.semantics.specs.TwoRuns.{HandedIn}
 use Rattle.reduce.specs.Output.{output, stateRead}
 

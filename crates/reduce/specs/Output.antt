@@ -8,7 +8,7 @@ use Rattle.book.specs.Book.{decode}
 use Rattle.book.specs.BookChecks.{bookFault}
 use Rattle.report.specs.Report.{noneLine, refusedLine, report}
 use Rattle.semantics.specs.Run.{run}
-use Rattle.semantics.specs.State.{State, stateOf}
+use Rattle.model.specs.State.{State, stateOf}
 use Rattle.rounds.specs.Rounds.{RoundsAnswer, atLimit, ended, infeasible, nothingChanged, refusedRounds, runRounds}
 
 unfoldable pub zeros : ℕ → List ℕ

@@ -11,12 +11,12 @@ use mathlib.Core.Path.{_∙_, _≡_, ap, refl, subst, sym}
 use Rattle.integer.proofs.Tests.{T→false, decide, eqb-test, test-false, test-true}
 use Rattle.model.specs.Box.{at}
 use Rattle.model.specs.Checks.{first, none}
-use Rattle.model.specs.Point.{rowOf}
+use Rattle.model.specs.Rows.{rowOf, rowsOf, setRow}
 use Rattle.model.specs.Valid.{ValidModel}
 use Rattle.model.proofs.CheckLaws.{fault-none}
 use Rattle.row.specs.Outcome.{Outcome}
 use Rattle.row.specs.Propagation.{propagateRow}
-use Rattle.row.specs.Tightening.{NewRow}
+use Rattle.row.specs.Tightening.{NewRow, rowLeft}
 use Rattle.semantics.specs.CallList.{ListRun, runList}
 use Rattle.semantics.specs.CallChecks.{callFault, lentTable, recordChecks}
 use Rattle.semantics.specs.Convergence.{RestIsTested}
@@ -24,10 +24,12 @@ use Rattle.semantics.specs.Demand2.{CallMeans, Demand2}
 use Rattle.semantics.specs.Perform.{Answer, Performed, act, perform, probed, propagated, propagatedRow, refused}
 use Rattle.semantics.specs.Points.{AtRest}
 use Rattle.semantics.specs.Probe.{Probed, probe}
-use Rattle.semantics.specs.Propagate.{Propagation, propagate}
+use Rattle.semantics.specs.Propagate.{Propagated, propagate}
 use Rattle.semantics.specs.RestTest.{isProbingFixpoint, restFault}
 use Rattle.semantics.specs.Run.{answersNone, isRefused, step}
-use Rattle.semantics.specs.State.{Call, Kind, State, callOf, hasRow, hasTable, kindOf, stateOf, withBox, withRow}
+use Rattle.semantics.specs.Call.{Call, Kind, callOf, hasRow, hasTable, kindOf}
+use Rattle.model.specs.State.{State, stateOf, withBox, withRow}
+use Rattle.model.specs.Model.{modelOf}
 use Rattle.semantics.specs.TwoLists.{CountsAddUp, Demand3Lists, ListMeans}
 use Rattle.semantics.specs.TwoRuns.{EveryModelHandedIn}
 use Rattle.semantics.proofs.Accepted.{accepted, fault-of-own, modelFaultOf}
@@ -68,7 +70,7 @@ perform-refused s c e n = rw (e, test-false (eqb (callFault s c) 0) (eqb-test (c
 
 -- an accepted call with a row
 pub on-row : (n m : ℕ) (B C R : List ℤ) (kind row variable : ℕ) → T (hasRow (kindOf kind))
-    → callFault (stateOf n m B C R []) (callOf (stateOf n m B C R []) kind row variable 0) ≡ 0 → ValidModel n m B C R × (row < m)
+    → callFault (stateOf n m B C R []) (callOf (stateOf n m B C R []) kind row variable 0) ≡ 0 → ValidModel (modelOf n m B C R) × (row < m)
 unfolding stateOf callOf
 on-row n m B C R kind row variable t e =
     let a = accepted (stateOf n m B C R []) (callOf (stateOf n m B C R []) kind row variable 0) e in (a .model, a .row t)
@@ -86,23 +88,23 @@ module _ (n m : ℕ) (B C R : List ℤ) (row : ℕ) {x : Answer} {o : Outcome} {
 -- the same of a call c that may change its row: p is what its rule says of the row
 module _ (n m : ℕ) (B C R : List ℤ) (row : ℕ) (p : NewRow) (F : Outcome → Answer) (c : Call) {x : Answer} {o : Outcome} {A : List ℤ} {b : ℤ} where
   pub row-changed : let s = stateOf n m B C R [] in
-      act (kindOf (c .kind)) s c ≡ record { answer = F (p .outcome); state = withRow s row (p .coefs) (p .rhs) }
+      act (kindOf (c .kind)) s c ≡ record { answer = F (p .outcome); state = withRow s row (rowLeft p) }
       → callFault s c ≡ 0 → x ≡ F o → length A ≡ n → (o ≡ p .outcome) × ((A ≡ p .coefs) × (b ≡ p .rhs))
       → performed x (stateOf n m B (withPart C row n A) (set R row b) []) ≡ perform s c
-  unfolding stateOf performed withRow
+  unfolding stateOf performed withRow setRow
   row-changed k f e l h =
       sym (perform-accepted (stateOf n m B C R []) c f ∙ k ∙ rw (part-spliced C A row n l, e, h .0, h .1 .0, h .1 .1))
 
 -- the same of a settle and of a probe: w is what the rows' propagation, or the probing, came to
 module _ (n m : ℕ) (B C R : List ℤ) (budget : ℕ) where
   pub rows-propagated : let s = stateOf n m B C R [] in
-      callFault s (callOf s 2 0 0 budget) ≡ 0 → (w : Propagation) → w ≡ propagate budget n m C R B
+      callFault s (callOf s 2 0 0 budget) ≡ 0 → (w : Propagated) → w ≡ propagate budget n m (rowsOf C R) B
       → performed (propagated (w .ending) (w .passes)) (stateOf n m (w .box) C R []) ≡ perform s (callOf s 2 0 0 budget)
   unfolding stateOf callOf performed act kindOf withBox
   rows-propagated f w h = let s = stateOf n m B C R [] in sym (perform-accepted s (callOf s 2 0 0 budget) f ∙ rw h)
 
   pub variable-probed : (t : List ℕ) (variable : ℕ) → let s = stateOf n m B C R t in
-      callFault s (callOf s 3 0 variable budget) ≡ 0 → (w : Probed) → w ≡ probe variable budget n m C R B t
+      callFault s (callOf s 3 0 variable budget) ≡ 0 → (w : Probed) → w ≡ probe variable budget n m (rowsOf C R) B t
       → performed (probed (w .ending) (w .side0) (w .side1)) (stateOf n m (w .box) C R (w .table)) ≡ perform s (callOf s 3 0 variable budget)
   unfolding stateOf callOf performed act kindOf withBox
   variable-probed t variable f w h = let s = stateOf n m B C R t in sym (perform-accepted s (callOf s 3 0 variable budget) f ∙ rw h)
@@ -159,7 +161,7 @@ pub rest-refused : (s : State) {f : ℕ} → f ≡ restFault s → (f ≡ 0 → 
 unfolding rest
 rest-refused s e n = rw (e, test-false (eqb (restFault s) 0) (eqb-test (restFault s) 0) (λ z. n (e ∙ z)))
 
-pub rest-tested : (s : State) {b : Bool} → restFault s ≡ 0 → b ≡ isProbingFixpoint (s .n) (s .m) (s .coefs) (s .rhs) (s .box)
+pub rest-tested : (s : State) {b : Bool} → restFault s ≡ 0 → b ≡ isProbingFixpoint (s .model .n) (s .model .m) (s .model .rows) (s .model .box)
     → cond b atRest notAtRest ≡ rest s
 unfolding rest
 rest-tested s z e = rw (e, z)
@@ -180,10 +182,10 @@ pub rest-promised : (s : State) {v : RestVerdict} → v ≡ rest s → (v ≡ re
 unfolding rest restFault RestIsTested
 rest-promised s e =
     let f = restFault s in
-    let x = isProbingFixpoint (s .n) (s .m) (s .coefs) (s .rhs) (s .box) in
+    let x = isProbingFixpoint (s .model .n) (s .model .m) (s .model .rows) (s .model .box) in
     let y = rest-yes (eqb f 0) x f in
     let z = eqb-test f 0 in
-    let t : (f ≡ 0) → T x ↔ AtRest s = (λ g. rest-test s (fault-none (s .n) (s .m) (s .box) (s .coefs) (s .rhs) .0 g)) in (
+    let t : (f ≡ 0) → T x ↔ AtRest s = (λ g. rest-test s (fault-none (s .model) .0 g)) in (
       e,
       ((λ g. let h = y .0 (sym e ∙ g) in (z .0 (h .0), t (z .0 (h .0)) .0 (h .1))), (λ h. e ∙ y .1 (z .1 (h .0), t (h .0) .1 (h .1)))),
     )

@@ -14,7 +14,7 @@ use Rattle.semantics.specs.Probe as semantic
 use Rattle.semantics.specs.Propagate as ended
 use Rattle.semantics.specs.RestTest.{isProbingFixpoint, restFault}
 use Rattle.semantics.specs.Run.{answersNone}
-use Rattle.semantics.specs.State.{State}
+use Rattle.model.specs.State.{State}
 use Rattle.probing.specs.Results.{reportOf}
 use Rattle.reducer.specs.declared.calls.PropagateRowAnswer.{PropagateRowAnswer}
 use Rattle.reducer.specs.declared.calls.PropagateRowAnswer.the-variants as row
@@ -83,7 +83,7 @@ restVerdict rests.Yes = atRest
 unfoldable pub rest : State → RestVerdict
 rest s =
     cond (eqb (restFault s) 0)
-    (cond (isProbingFixpoint (s .n) (s .m) (s .coefs) (s .rhs) (s .box)) atRest notAtRest)
+    (cond (isProbingFixpoint (s .model .n) (s .model .m) (s .model .rows) (s .model .box)) atRest notAtRest)
     (refusedRest (restFault s))
 
 -- ---- what an answer means, of the state s before and r after, refused or not
@@ -98,5 +98,5 @@ pub record Means (s r : State) (a : Answer) : Type 0 where
 -- "every accepted call ends within its pass budget"
 pub record Ends (budget : ℕ) (s : State) (a : Answer) : Type 0 where
   pub passes : (e : ended.Ending) (p : ℕ) → a ≡ propagated e p → (1 ≤ p) × (p ≤ budget)
-  pub sides : (e : semantic.ProbeEnding) (s0 s1 : semantic.Side) → a ≡ probed e s0 s1 → s .box ≢ emptyBox (s .n)
+  pub sides : (e : semantic.ProbeEnding) (s0 s1 : semantic.Side) → a ≡ probed e s0 s1 → s .model .box ≢ emptyBox (s .model .n)
       → ((1 ≤ s0 .passes) × (s0 .passes ≤ budget)) × ((1 ≤ s1 .passes) × (s1 .passes ≤ budget))

@@ -17,7 +17,8 @@ ghost use mathlib.Core.Path.{_≡_};
 ghost use Rattle.semantics.specs.Perform.{perform};
 ghost use Rattle.semantics.specs.Points.{AtRest};
 ghost use Rattle.semantics.specs.RestTest.{restFault};
-ghost use Rattle.semantics.specs.State.{callOf, stateOf};
+ghost use Rattle.semantics.specs.Call.{callOf};
+ghost use Rattle.model.specs.State.{stateOf};
 ghost use Rattle.reducer.specs.OpenCalls.{Ends, Means, atRest, performed, probeAnswer, propagateAnswer, removeAnswer, rest, restVerdict, rowAnswer, tightenAnswer};
 
 // 01's visit: refused N, None, Narrowed, Same.

@@ -5,7 +5,8 @@ ghost use mathlib.Core.List.{[]};
 ghost use mathlib.Core.Path.{_≡_};
 ghost use lib.Dec.{T};
 ghost use Rattle.semantics.specs.CallChecks.{callFault};
-ghost use Rattle.semantics.specs.State.{callOf, hasTable, kindOf, stateOf};
+ghost use Rattle.semantics.specs.Call.{callOf, hasTable, kindOf};
+ghost use Rattle.model.specs.State.{stateOf};
 
 // The number by which a call that is lent no table is refused, 0 where it is accepted.
 pub fn call_fault(

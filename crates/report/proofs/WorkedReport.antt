@@ -8,7 +8,7 @@ use Rattle.report.specs.Report.{byteLine, field, fields, implicationAt, 
 use Rattle.report.specs.Text.{texts}
 use Rattle.integer.specs.Index.{all}
 use Rattle.integer.specs.Order.{eqZ}
-use Rattle.model.specs.Point.{rowOf}
+use Rattle.model.specs.Rows.{rowOf}
 
 -- x0 = 1 implies x1 = 0, and x1 = 1 implies x0 = 0: bytes 6 and 12 of 16
 table : List ℕ

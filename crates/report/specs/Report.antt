@@ -12,7 +12,7 @@ use Rattle.integer.specs.Index.{all}
 use Rattle.integer.specs.Order.{eqZ}
 use Rattle.model.specs.Box.{at, lower, upper}
 use Rattle.model.specs.Limits.{maxRows, maxVariables}
-use Rattle.model.specs.Point.{rowOf}
+use Rattle.model.specs.Rows.{rowOf}
 use Rattle.report.specs.Decimal.{signed}
 use Rattle.report.specs.Text.{texts, then}
 

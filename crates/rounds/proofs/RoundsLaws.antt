@@ -15,9 +15,10 @@ use Rattle.integer.proofs.Tests.{cond-ind, T→false, decide}
 use Rattle.model.specs.Box.{isEmpty, at, isFree}
 use Rattle.model.proofs.BoxLaws.{isEmpty-test}
 use Rattle.semantics.specs.Perform.{act, perform}
-use Rattle.semantics.specs.Points.{PointOf, TableHolds, ValidState}
+use Rattle.semantics.specs.Points.{PointOf, TableHolds}
+use Rattle.model.specs.Valid.{ValidState}
 use Rattle.semantics.specs.Run.{CallClass, classOf, run, step, isRefused}
-use Rattle.model.specs.Point.{rowOf}
+use Rattle.model.specs.Rows.{rowOf, setRow}
 use Rattle.row.specs.Activity.{maxActivity}
 use Rattle.row.specs.Outcome.{isChanged, isInfeasible}
 use Rattle.row.specs.Tightening.{NewRow, mayTighten, tightenCoefficient}
@@ -25,7 +26,8 @@ use Rattle.row.specs.ValidRow.{ValidCoefs}
 use Rattle.row.proofs.RowLoops.{coefs-small, max-activity-small}
 use Rattle.row.proofs.TighteningLaws.{tighten-coefficient-unchanged, tighten-fails}
 use Rattle.semantics.specs.CallChecks.{callFault}
-use Rattle.semantics.specs.State.{Call, callOf, kindOf, State, withRow}
+use Rattle.semantics.specs.Call.{Call, callOf, kindOf}
+use Rattle.model.specs.State.{State, withRow}
 use Rattle.semantics.proofs.Accepted.{accepted-valid}
 use Rattle.semantics.proofs.CallLaws.{step-ind}
 use Rattle.semantics.proofs.Demand2.{no-point}
@@ -33,7 +35,8 @@ use Rattle.semantics.proofs.ImplicationLaws.{zeros-hold}
 use Rattle.semantics.proofs.Preserved.{Preserves, run-preserves}
 use Rattle.rounds.specs.Rounds.{Rounds, RoundsAnswer, RoundsEnding, RoundsRun, SamePoints, after, andThen, anyChange, atLimit, dropCall, drops, ended, infeasible, isChange, nothingChanged, probes, refusedRounds, round, roundsFault, roundsFrom, runRounds, settleCall, sharpens, unlessEmpty, upwards, sharpenCall}
 use Rattle.semantics.proofs.ClassLaws.{classBy, tighten-class}
-use Rattle.semantics.proofs.RowChange.{at-rowOf, row-valid, withRow-same}
+use Rattle.semantics.proofs.RowChange.{row-valid, withRow-same}
+use Rattle.model.proofs.RowsLaws.{at-rowOf}
 use Rattle.propagation.proofs.PropagationLoops.{row-fits}
 use Rattle.rounds.specs.TightenedAt.{TightenedAt}
 
@@ -61,12 +64,12 @@ leads-valid {s} {cs = cs} p v = subst ValidState (sym (p .left)) (run-preserves 
 
 -- calls keep the length of each buffer
 pub record SameLengths (s t : State) : Type 0 where
-  pub box : length (t .box) ≡ length (s .box)
-  pub coefs : length (t .coefs) ≡ length (s .coefs)
-  pub rhs : length (t .rhs) ≡ length (s .rhs)
+  pub box : length (t .box) ≡ length (s .model .box)
+  pub coefs : length (t .coefs) ≡ length (s .model .rows .coefs)
+  pub rhs : length (t .rhs) ≡ length (s .model .rows .rhs)
   pub table : length (t .table) ≡ length (s .table)
 
-pub valid-lengths : {s t : State} → ValidState s → ValidState t → (t .n ≡ s .n) × (t .m ≡ s .m) → SameLengths s t
+pub valid-lengths : {s t : State} → ValidState s → ValidState t → (t .n ≡ s .model .n) × (t .m ≡ s .model .m) → SameLengths s t
 valid-lengths v w e = record {
   box = w .model .box .len ∙ ap (λ (x : ℕ). 2 * x) (e .0) ∙ sym (v .model .box .len);
   coefs = w .model .coefsLen ∙ ap₂ _*_ (e .1) (e .0) ∙ sym (v .model .coefsLen);
@@ -150,10 +153,10 @@ same-class false = refl
 
 module _ (s : State) (r k : ℕ) where
   abbrev row : List ℤ
-  row = rowOf (s .n) (s .coefs) r
+  row = rowOf (s .model .n) (s .model .rows .coefs) r
 
   abbrev tightening : NewRow
-  tightening = tightenCoefficient (s .n) row (at (s .rhs) r) (s .box) k
+  tightening = tightenCoefficient (s .model .n) row (at (s .model .rows .rhs) r) (s .model .box) k
 
   -- the call to tighten it leaves the state and changes nothing, refused or not
   quiet-class : T (not (isChanged (tightening .outcome))) → isChange (classOf s (callOf s 4 r k 0)) ≡ false
@@ -165,47 +168,47 @@ module _ (s : State) (r k : ℕ) where
       (λ f. rw (T→false (eqb (callFault s (callOf s 4 r k 0)) 0) f) refl)
       (decide (eqb (callFault s (callOf s 4 r k 0)) 0))
 
-  quiet-call : mayTighten (at row k) (maxActivity (s .n) row (s .box)) (at (s .rhs) r) ≡ false → Leads s (callOf s 4 r k 0 ∷ []) s false
+  quiet-call : mayTighten (at row k) (maxActivity (s .model .n) row (s .model .box)) (at (s .model .rows .rhs) r) ≡ false → Leads s (callOf s 4 r k 0 ∷ []) s false
   unfolding run anyChange act callOf kindOf
   quiet-call h =
-      let t = tighten-fails (s .n) row (at (s .rhs) r) (s .box) k h in
-      let u = tighten-coefficient-unchanged (s .n) row (at (s .rhs) r) (s .box) k t in
+      let t = tighten-fails (s .model .n) row (at (s .model .rows .rhs) r) (s .model .box) k h in
+      let u = tighten-coefficient-unchanged (s .model .n) row (at (s .model .rows .rhs) r) (s .model .box) k t in
       record {
         left = sym (step-ind s (callOf s 4 r k 0) (λ x. x ≡ s) (λ _. withRow-same s r _ _ (u .0) (u .1)) refl);
         changed = sym (or-false (isChange (classOf s (callOf s 4 r k 0))) ∙ quiet-class t);
       }
 
   -- so the turn of a variable that is not free, or whose coefficient fails the test, is made by doing nothing
-  pub quiet-turn : {most : ℤ} → k < s .n → most ≡ maxActivity (s .n) row (s .box)
-      → (isFree (s .box) k && mayTighten (at (s .coefs) (r * s .n + k)) most (at (s .rhs) r)) ≡ false → Leads s (sharpenCall r k s) s false
+  pub quiet-turn : {most : ℤ} → k < s .model .n → most ≡ maxActivity (s .model .n) row (s .model .box)
+      → (isFree (s .model .box) k && mayTighten (at (s .model .rows .coefs) (r * s .model .n + k)) most (at (s .model .rows .rhs) r)) ≡ false → Leads s (sharpenCall r k s) s false
   unfolding sharpenCall
-  quiet-turn {most} h e z = go (isFree (s .box) k) z
+  quiet-turn {most} h e z = go (isFree (s .model .box) k) z
     where
-      go : (free : Bool) → (free && mayTighten (at (s .coefs) (r * s .n + k)) most (at (s .rhs) r)) ≡ false → Leads s (cond free (callOf s 4 r k 0 ∷ []) []) s false
-      go true q = quiet-call (rw (at-rowOf (s .n) (s .coefs) r k h, sym e) q)
+      go : (free : Bool) → (free && mayTighten (at (s .model .rows .coefs) (r * s .model .n + k)) most (at (s .model .rows .rhs) r)) ≡ false → Leads s (cond free (callOf s 4 r k 0 ∷ []) []) s false
+      go true q = quiet-call (rw (at-rowOf (s .model .n) (s .model .rows .coefs) r k h, sym e) q)
       go false q = no-call s
 
 -- what is asked where the greatest activity of a row is found, and where a coefficient is tested
-module _ {s : State} (v : ValidState s) {r : ℕ} (h : r < s .m) where
-  pub row-ready : (r * s .n + s .n ≤ length (s .coefs)) × ValidCoefs (s .n) (rowOf (s .n) (s .coefs) r) (s .box)
+module _ {s : State} (v : ValidState s) {r : ℕ} (h : r < s .model .m) where
+  pub row-ready : (r * s .model .n + s .model .n ≤ length (s .model .rows .coefs)) × ValidCoefs (s .model .n) (rowOf (s .model .n) (s .model .rows .coefs) r) (s .model .box)
   row-ready = (row-fits (v .model) r h, row-valid s r (v .model) h .coefs)
 
-  pub looked-at : {k : ℕ} {most : ℤ} → k < s .n → most ≡ maxActivity (s .n) (rowOf (s .n) (s .coefs) r) (s .box)
-      → TightenedAt (s .n) (s .box) (s .coefs) (s .rhs) r k most
+  pub looked-at : {k : ℕ} {most : ℤ} → k < s .model .n → most ≡ maxActivity (s .model .n) (rowOf (s .model .n) (s .model .rows .coefs) r) (s .model .box)
+      → TightenedAt (s .model .n) (s .model .box) (s .model .rows .coefs) (s .model .rows .rhs) r k most
   looked-at {k} i e = record {
     box = omega (arith, v .model .box .len);
     coefs = omega (arith, row-ready .0);
     rhs = rw (v .model .rhsLen) h;
-    coef = rw (sym (at-rowOf (s .n) (s .coefs) r k i)) (coefs-small (row-ready .1) k);
+    coef = rw (sym (at-rowOf (s .model .n) (s .model .rows .coefs) r k i)) (coefs-small (row-ready .1) k);
     small = rw e (max-activity-small (row-ready .1));
   }
 
 -- ---- the phases of a round
 
 -- a drop leaves the box
-drop-box : (s : State) (r : ℕ) → step s (callOf s 5 r 0 0) .box ≡ s .box
-unfolding act callOf kindOf withRow
-drop-box s r = step-ind s (callOf s 5 r 0 0) (λ u. u .box ≡ s .box) (λ _. refl) refl
+drop-box : (s : State) (r : ℕ) → step s (callOf s 5 r 0 0) .box ≡ s .model .box
+unfolding act callOf kindOf withRow setRow
+drop-box s r = step-ind s (callOf s 5 r 0 0) (λ u. u .box ≡ s .model .box) (λ _. refl) refl
 
 -- so the box of a loop over drops stays one that is not empty
 pub drop-turn : {count r : ℕ} {s t u : State} {k : CallClass} {b d e : Bool}
@@ -224,9 +227,9 @@ unfolding upwards andThen run
 no-calls zero f s h = refl
 no-calls (suc count) f s h = rw (no-calls count f s h) (h count)
 
-pub no-drops : (s : State) → isEmpty (s .n) (s .box) ≡ true → Leads s (drops s) s false
+pub no-drops : (s : State) → isEmpty (s .model .n) (s .model .box) ≡ true → Leads s (drops s) s false
 unfolding drops dropCall unlessEmpty
-no-drops s e = rw (no-calls (s .m) dropCall s (λ r. rw e)) (no-call s)
+no-drops s e = rw (no-calls (s .model .m) dropCall s (λ r. rw e)) (no-call s)
 
 then-assoc : (f g h : State → List Call) (s : State) → andThen (andThen f g) h s ≡ andThen f (andThen g h) s
 unfolding andThen
@@ -355,14 +358,14 @@ pub rounds-mean : (limit : ℕ) (s : State) → SamePoints s (run s (runRounds l
 rounds-mean limit s =
     let cs = runRounds limit s .calls in
     let p = run-preserves s cs in
-    let holds : (x : List ℤ) → PointOf s x → TableHolds (s .n) (s .table) x → TableHolds (s .n) (run s cs .table) x =
+    let holds : (x : List ℤ) → PointOf s x → TableHolds (s .model .n) (s .table) x → TableHolds (s .model .n) (run s cs .table) x =
     (λ x o t. rw (p .sizes .0) at (p .holds x o t)) in
     record {
       points = p .points;
       fractional = p .fractional;
       noPoint = rounds-none limit s;
       holds = holds;
-      implied = λ e x o. holds x o (rw e (zeros-hold (s .n) (4 * (s .n * s .n)) x));
+      implied = λ e x o. holds x o (rw e (zeros-hold (s .model .n) (4 * (s .model .n * s .model .n)) x));
     }
 
 -- ---- the call

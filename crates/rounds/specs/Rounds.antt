@@ -13,7 +13,8 @@ use Rattle.model.specs.Box.{isEmpty, isFree}
 use Rattle.model.specs.Checks.{modelFault, table}
 use Rattle.semantics.specs.Points.{FractionalPointOf, PointOf, TableHolds}
 use Rattle.semantics.specs.Run.{CallClass, changedCall, classOf, infeasibleCall, refusedCall, run, step, unchangedCall}
-use Rattle.semantics.specs.State.{Call, State, callOf}
+use Rattle.semantics.specs.Call.{Call, callOf}
+use Rattle.model.specs.State.{State}
 
 -- ---- the calls of a round, each on the state that the calls before it left
 
@@ -28,7 +29,7 @@ upwards (suc count) f s = andThen (upwards count f) (f count) s
 
 -- none once the box is empty: the rounds end at None
 unfoldable pub unlessEmpty : (State → List Call) → State → List Call
-unlessEmpty f s = cond (isEmpty (s .n) (s .box)) [] (f s)
+unlessEmpty f s = cond (isEmpty (s .model .n) (s .model .box)) [] (f s)
 
 unfoldable pub settleCall : State → List Call
 settleCall s = callOf s 2 0 0 1000 ∷ []
@@ -38,22 +39,22 @@ dropCall r = unlessEmpty (λ s. callOf s 5 r 0 0 ∷ [])
 
 -- "at each variable free then": free when its own turn comes
 unfoldable pub sharpenCall : ℕ → ℕ → State → List Call
-sharpenCall r k s = cond (isFree (s .box) k) (callOf s 4 r k 0 ∷ []) []
+sharpenCall r k s = cond (isFree (s .model .box) k) (callOf s 4 r k 0 ∷ []) []
 
 unfoldable pub probeCall : ℕ → State → List Call
-probeCall k s = cond (isFree (s .box) k) (callOf s 3 0 k 1000 ∷ []) []
+probeCall k s = cond (isFree (s .model .box) k) (callOf s 3 0 k 1000 ∷ []) []
 
 unfoldable pub drops : State → List Call
-drops s = upwards (s .m) dropCall s
+drops s = upwards (s .model .m) dropCall s
 
 unfoldable pub sharpenRow : ℕ → State → List Call
-sharpenRow r s = upwards (s .n) (sharpenCall r) s
+sharpenRow r s = upwards (s .model .n) (sharpenCall r) s
 
 unfoldable pub sharpens : State → List Call
-sharpens s = upwards (s .m) sharpenRow s
+sharpens s = upwards (s .model .m) sharpenRow s
 
 unfoldable pub probes : State → List Call
-probes s = upwards (s .n) probeCall s
+probes s = upwards (s .model .n) probeCall s
 
 unfoldable pub round : State → List Call
 round s = andThen settleCall (andThen drops (andThen sharpens probes)) s
@@ -108,7 +109,7 @@ pub record RoundsRun : Type 0 where
   pub calls : List Call
 
 unfoldable pub roundsFault : State → ℕ
-roundsFault s = modelFault (s .n) (s .m) (s .box) (s .coefs) (s .rhs) (table (s .table))
+roundsFault s = modelFault (s .model) (table (s .table)) true
 
 unfoldable pub runRounds : ℕ → State → RoundsRun
 runRounds limit s =
@@ -123,5 +124,5 @@ pub record SamePoints (s r : State) (a : RoundsAnswer) : Type 0 where
   pub fractional : (x : List ℤ) (d : ℕ) → FractionalPointOf r x d → FractionalPointOf s x d
   pub noPoint : (rounds : ℕ) → a ≡ ended infeasible rounds → (x : List ℤ) → PointOf s x → ⊥
   -- each recorded implication holds at all of them, where those recorded before do; all do where the table was all 0
-  pub holds : (x : List ℤ) → PointOf s x → TableHolds (s .n) (s .table) x → TableHolds (s .n) (r .table) x
-  pub implied : s .table ≡ replicate (4 * (s .n * s .n)) 0 → (x : List ℤ) → PointOf s x → TableHolds (s .n) (r .table) x
+  pub holds : (x : List ℤ) → PointOf s x → TableHolds (s .model .n) (s .table) x → TableHolds (s .model .n) (r .table) x
+  pub implied : s .table ≡ replicate (4 * (s .model .n * s .model .n)) 0 → (x : List ℤ) → PointOf s x → TableHolds (s .model .n) (r .table) x

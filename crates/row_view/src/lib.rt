@@ -10,7 +10,7 @@ ghost use mathlib.Core.Path.{_≡_};
 ghost use Prim.Native.Nat.{_*_, _+_, _≤_};
 ghost use lib.ListN.{length};
 ghost use Rattle.model.specs.Box.{at};
-ghost use Rattle.model.specs.Point.{rowOf};
+ghost use Rattle.model.specs.Rows.{rowOf};
 ghost use Rattle.row.specs.Activity.{minActivity, maxActivity};
 ghost use Rattle.row.specs.Answers.{propagationOutcome};
 ghost use Rattle.row.specs.Propagation.{propagateRow};

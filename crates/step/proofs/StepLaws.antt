@@ -12,21 +12,23 @@ use mathlib.Core.Path.{_∙_, _≡_, ap, refl, sym}
 use native.Mathlib.Omega.{arith}
 use Rattle.integer.proofs.Tests.{decide, eqb-test, neqb→ne, test-false}
 use Rattle.model.specs.Box.{at, sameList}
-use Rattle.model.specs.Point.{rowOf}
+use Rattle.model.specs.Rows.{rowOf, rowsOf, setRow, splice}
 use Rattle.model.proofs.BoxLaws.{sameList-refl, sameList→eq}
 use Rattle.row.specs.Outcome as outcomes
 use Rattle.row.specs.Outcome.{Outcome, isChanged, isInfeasible}
 use Rattle.row.specs.Propagation.{propagateRow}
 use Rattle.row.specs.Redundancy.{removeRedundantRow}
-use Rattle.row.specs.Tightening.{NewRow, tightenCoefficient}
-use Rattle.semantics.specs.CallChecks.{callChecks, callFault, lentChecks, recordChecks, stateChecks}
+use Rattle.row.specs.Tightening.{NewRow, rowLeft, tightenCoefficient}
+use Rattle.semantics.specs.CallChecks.{callChecks, callFault, givenModel, isLent, recordChecks}
 use Rattle.semantics.specs.Perform.{Performed, act, perform}
 use Rattle.semantics.specs.Probe.{Probed, probe}
 use Rattle.semantics.specs.Propagate.{isNone, isSpent, propagate}
 use Rattle.semantics.specs.Run.{CallClass, classOf, probeInfeasible, step}
-use Rattle.semantics.specs.State.{Call, State, callOf, hasRow, isOther, kindOf, other, probes, propagates, propagatesRow, removes, splice, stateOf, tightens, withBox, withRow}
+use Rattle.semantics.specs.Call.{Call, callOf, hasRow, isUnknown, kindOf, unknown, probing, propagation, rowPropagation, removal, tightening}
+use Rattle.model.specs.State.{State, stateOf, withBox, withRow}
+use Rattle.model.specs.Checks.{modelChecks}
 use Rattle.semantics.proofs.CallLaws.{step-accepted}
-use Rattle.semantics.proofs.ClassLaws.{addsNone, classBy, probe-class, remove-class, settle-class, tighten-class, visit-class}
+use Rattle.semantics.proofs.ClassLaws.{addsNone, classBy, probe-class, remove-class, propagate-class, tighten-class, propagate-row-class}
 use Rattle.step.specs.Classes.{outcomeClass, propagationClass}
 use Rattle.propagation.specs.Results.{propagationOf}
 use Rattle.propagation.specs.declared.Propagation.{Propagation}
@@ -71,7 +73,7 @@ part-spliced C A r n e = let k : r * n + n - r * n ≡ n = omega arith in rw (k,
 
 -- ---- an accepted call
 
-pub kind-other : (k : ℕ) → (k ≡ 1 → ⊥) → (k ≡ 2 → ⊥) → (k ≡ 3 → ⊥) → (k ≡ 4 → ⊥) → (k ≡ 5 → ⊥) → kindOf k ≡ other
+pub kind-other : (k : ℕ) → (k ≡ 1 → ⊥) → (k ≡ 2 → ⊥) → (k ≡ 3 → ⊥) → (k ≡ 4 → ⊥) → (k ≡ 5 → ⊥) → kindOf k ≡ unknown
 unfolding kindOf
 kind-other k a b c d e = rw (
   test-false (eqb k 1) (eqb-test k 1) a,
@@ -82,8 +84,8 @@ kind-other k a b c d e = rw (
 )
 
 -- of no other kind, it is a drop
-pub kind-removes : (k : ℕ) → T (not (isOther (kindOf k))) → (k ≡ 1 → ⊥) → (k ≡ 2 → ⊥) → (k ≡ 3 → ⊥) → (k ≡ 4 → ⊥) → kindOf k ≡ removes
-unfolding isOther kindOf
+pub kind-removes : (k : ℕ) → T (not (isUnknown (kindOf k))) → (k ≡ 1 → ⊥) → (k ≡ 2 → ⊥) → (k ≡ 3 → ⊥) → (k ≡ 4 → ⊥) → kindOf k ≡ removal
+unfolding isUnknown kindOf
 kind-removes k t a b c d = ⊎-elim
     (λ u. rw (eqb-test k 5 .0 u))
     (λ u. absurd (rw (kind-other k a b c d (neqb→ne k 5 u)) at t))
@@ -91,7 +93,7 @@ kind-removes k t a b c d = ⊎-elim
 
 -- a probe's row is not looked at
 row-ignored : (s : State) (row variable budget : ℕ) → perform s (callOf s 3 row variable budget) ≡ perform s (callOf s 3 0 variable budget)
-unfolding perform callFault callChecks stateChecks lentChecks recordChecks act callOf kindOf hasRow
+unfolding perform callFault callChecks modelChecks givenModel isLent recordChecks act callOf kindOf hasRow
 row-ignored s row variable budget = refl
 
 step-ignored : (s : State) (row variable budget : ℕ) → step s (callOf s 3 row variable budget) ≡ step s (callOf s 3 0 variable budget)
@@ -110,24 +112,24 @@ module _ (n m : ℕ) (B C R : List ℤ) (t : List ℕ) (kind row variable budget
   Ran k r = (k ≡ classOf s call) × (r ≡ step s call)
 
   module _ (f : callFault s call ≡ 0) {k : CallClass} where
-    pub ran-visit : {o : Outcome} {Q : List ℤ} → kindOf kind ≡ propagatesRow → k ≡ outcomeClass o
+    pub ran-visit : {o : Outcome} {Q : List ℤ} → kindOf kind ≡ rowPropagation → k ≡ outcomeClass o
         → let p = propagateRow n (rowOf n C row) (at R row) B in (o ≡ p .outcome) × (Q ≡ p .box) → Ran k (stateOf n m Q C R t)
     unfolding stateOf callOf act withBox
     ran-visit {o} {Q} q e h = (
-      e ∙ ap outcomeClass (h .0) ∙ outcome-class _ ∙ sym (visit-class s call f q),
+      e ∙ ap outcomeClass (h .0) ∙ outcome-class _ ∙ sym (propagate-row-class s call f q),
       sym (step-accepted s call f ∙ rw (q, h .1)),
     )
 
-    pub ran-settle : (p : Propagation) (Q : List ℤ) → kindOf kind ≡ propagates → k ≡ propagationClass p
-        → propagationOf p Q ≡ propagate budget n m C R B → Ran k (stateOf n m Q C R t)
+    pub ran-settle : (p : Propagation) (Q : List ℤ) → kindOf kind ≡ propagation → k ≡ propagationClass p
+        → propagationOf p Q ≡ propagate budget n m (rowsOf C R) B → Ran k (stateOf n m Q C R t)
     unfolding stateOf callOf act withBox
     ran-settle p Q q e h = (
-      e ∙ propagation-class p Q ∙ rw h (sym (settle-class s call f q)),
+      e ∙ propagation-class p Q ∙ rw h (sym (propagate-class s call f q)),
       sym (step-accepted s call f ∙ rw (q, sym h, propagation-box p Q)),
     )
 
-    pub ran-probe : (w : Probed) → kindOf kind ≡ probes → k ≡ classBy (probeInfeasible (w .ending)) (addsNone (w .ending) && sameList B (w .box))
-        → w ≡ probe variable budget n m C R B t → Ran k (stateOf n m (w .box) C R (w .table))
+    pub ran-probe : (w : Probed) → kindOf kind ≡ probing → k ≡ classBy (probeInfeasible (w .ending)) (addsNone (w .ending) && sameList B (w .box))
+        → w ≡ probe variable budget n m (rowsOf C R) B t → Ran k (stateOf n m (w .box) C R (w .table))
     unfolding stateOf callOf act withBox
     ran-probe w q e h = (
       e ∙ rw h (sym (probe-class s call f q)),
@@ -135,23 +137,23 @@ module _ (n m : ℕ) (B C R : List ℤ) (t : List ℕ) (kind row variable budget
     )
 
     -- p is what the rule of a sharpen or a drop says of the row
-    changed-row : (p : NewRow) {o : Outcome} {A : List ℤ} {b : ℤ} → act (kindOf kind) s call .state ≡ withRow s row (p .coefs) (p .rhs)
+    changed-row : (p : NewRow) {o : Outcome} {A : List ℤ} {b : ℤ} → act (kindOf kind) s call .state ≡ withRow s row (rowLeft p)
         → classOf s call ≡ classBy (isInfeasible (p .outcome)) (not (isChanged (p .outcome)))
         → k ≡ outcomeClass o → length A ≡ n → (o ≡ p .outcome) × ((A ≡ p .coefs) × (b ≡ p .rhs))
         → Ran k (stateOf n m B (withPart C row n A) (set R row b) t)
-    unfolding stateOf callOf withRow
+    unfolding stateOf callOf withRow setRow
     changed-row p {o} {A} {b} a d e l h = (
       e ∙ ap outcomeClass (h .0) ∙ outcome-class _ ∙ sym d,
       sym (step-accepted s call f ∙ a ∙ rw (part-spliced C A row n l, h .1 .0, h .1 .1)),
     )
 
-    pub ran-tighten : {o : Outcome} {A : List ℤ} {b : ℤ} → kindOf kind ≡ tightens → k ≡ outcomeClass o → length A ≡ n
+    pub ran-tighten : {o : Outcome} {A : List ℤ} {b : ℤ} → kindOf kind ≡ tightening → k ≡ outcomeClass o → length A ≡ n
         → let p = tightenCoefficient n (rowOf n C row) (at R row) B variable in (o ≡ p .outcome) × ((A ≡ p .coefs) × (b ≡ p .rhs))
         → Ran k (stateOf n m B (withPart C row n A) (set R row b) t)
     unfolding stateOf callOf act
     ran-tighten q = changed-row (tightenCoefficient n (rowOf n C row) (at R row) B variable) (rw q) (tighten-class s call f q)
 
-    pub ran-remove : {o : Outcome} {A : List ℤ} {b : ℤ} → kindOf kind ≡ removes → k ≡ outcomeClass o → length A ≡ n
+    pub ran-remove : {o : Outcome} {A : List ℤ} {b : ℤ} → kindOf kind ≡ removal → k ≡ outcomeClass o → length A ≡ n
         → let p = removeRedundantRow n (rowOf n C row) (at R row) B in (o ≡ p .outcome) × ((A ≡ p .coefs) × (b ≡ p .rhs))
         → Ran k (stateOf n m B (withPart C row n A) (set R row b) t)
     unfolding stateOf callOf act
@@ -163,5 +165,5 @@ module _ (n m : ℕ) (B C R : List ℤ) (t : List ℕ) (kind row variable budget
   ran-probed e h = rw (e, step-ignored s row variable budget, row-ignored s row variable budget) h
 
   pub fault-probed : kind ≡ 3 → callFault s call ≡ 0 → callFault s (callOf s 3 0 variable budget) ≡ 0
-  unfolding callFault callChecks stateChecks lentChecks recordChecks callOf kindOf hasRow
+  unfolding callFault callChecks modelChecks givenModel isLent recordChecks callOf kindOf hasRow
   fault-probed e f = rw e at f

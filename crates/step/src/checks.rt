@@ -7,7 +7,8 @@ ghost use Prim.Native.Nat.{_<_};
 ghost use Rattle.model.specs.Checks.{first};
 ghost use Rattle.model.specs.Valid.{ValidBox};
 ghost use Rattle.semantics.specs.CallChecks.{recordChecks};
-ghost use Rattle.semantics.specs.State.{callOf, kindOf, stateOf};
+ghost use Rattle.semantics.specs.Call.{callOf, kindOf};
+ghost use Rattle.model.specs.State.{stateOf};
 ghost use Rattle.step.specs.FieldChecks.{budgetChecks, rowChecks, variableChecks};
 
 // 12: the row is not below m.

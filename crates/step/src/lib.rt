@@ -18,9 +18,10 @@ ghost use Rattle.model.specs.Box.{sameList};
 ghost use Rattle.row.specs.Answers.{propagationOutcome, removalOutcome, tighteningOutcome};
 ghost use Rattle.probing.specs.Marked.{Marked};
 ghost use Rattle.semantics.specs.CallChecks.{callFault};
-ghost use Rattle.semantics.specs.Points.{ValidState};
+ghost use Rattle.model.specs.Valid.{ValidState};
 ghost use Rattle.semantics.specs.Run.{classOf, countCall, step};
-ghost use Rattle.semantics.specs.State.{callOf, stateOf};
+ghost use Rattle.semantics.specs.Call.{callOf};
+ghost use Rattle.model.specs.State.{stateOf};
 ghost use Rattle.step.specs.Classes.{classIs, countsOf, outcomeClass, propagationClass};
 
 pub mod checks;

@@ -5,7 +5,7 @@ use lib.IntN.{pos, zero-*ℤ, ℤ}
 use lib.Signed.{_<ℤ_, _≤ℤ_, ≤ℤ-refl}
 use mathlib.Core.Bool.{not}
 use mathlib.Core.List.{List}
-use mathlib.Core.Path.{_∙_, _≡_, ap, refl, sym}
+use mathlib.Core.Path.{_∙_, _≡_, ap, sym}
 use mathlib.Core.Logic.{_⊎_, inl, inr}
 use lib.Dec.{T}
 use Rattle.integer.proofs.IndexLaws.{sum-cong}
@@ -15,9 +15,9 @@ use Rattle.model.specs.Box.{Inside, NonEmpty, at, lower, upper}
 use Rattle.model.proofs.BoxLaws.{≤ℤ-antisymm}
 use Rattle.row.specs.Activity.{minActivity, minTerm}
 use Rattle.row.specs.Outcome.{isInfeasible, unchanged}
-use Rattle.row.specs.Propagation.{Propagated, newLower, newUpper, propagateRow}
+use Rattle.row.specs.Propagation.{PropagatedRow, propagateRow}
 use Rattle.row.proofs.ActivityLaws.{minTerm-nonpos, minTerm-pos}
-use Rattle.row.proofs.BoundLaws.{le-newUpper, newLower-le, newLower-nonneg, newUpper-nonpos}
+use Rattle.row.proofs.BoundLaws.{le-newUpper, newLower-le}
 use Rattle.row.proofs.PropagationLaws.{Stable, box→stable, propagate-row-again, propagate-row-nonEmpty, stable→same}
 
 -- the row A reads the same bounds in P and Q
@@ -61,7 +61,7 @@ module _ {n : ℕ} {A P Q : List ℤ} (b : ℤ) (i : Inside n Q P) (r : SameRead
 -- the same of the definition: what a visit says in P it says in Q
 pub same-kept : {n : ℕ} {A P Q : List ℤ} (b : ℤ) → 0 < n → NonEmpty n P → NonEmpty n Q → Inside n Q P → SameReads n A P Q
     → propagateRow n A b P ≡ record { outcome = unchanged; box = P } → propagateRow n A b Q ≡ record { outcome = unchanged; box = Q }
-same-kept b h p q i r e = stable→same h q (stable-kept b i r (box→stable h p (ap (λ (v : Propagated). v .box) e)))
+same-kept b h p q i r e = stable→same h q (stable-kept b i r (box→stable h p (ap (λ (v : PropagatedRow). v .box) e)))
 
 -- and a row that was just visited moves nothing
 pub same-after : (A : List ℤ) (b : ℤ) {n : ℕ} {B : List ℤ} → 0 < n → NonEmpty n B → T (not (isInfeasible (propagateRow n A b B .outcome)))

@@ -12,7 +12,7 @@ ghost use Rattle.row.specs.Activity.{minActivity, widestTerm};
 ghost use Rattle.row.specs.Answers.{propagationOutcome};
 ghost use Rattle.row.specs.Propagation.{impliedBox, staysAt, propagateRow, rowMoves};
 ghost use Rattle.sweep.specs.Steps.{Steps};
-ghost use Rattle.row.specs.ValidRow.{ValidCoefs, ValidRow, Propagates};
+ghost use Rattle.row.specs.ValidRow.{ValidCoefs, ValidRow, ImpliesBox};
 
 // Lmin and the width of the widest term.
 fn reach_by(coefs: &[i32], steps: &[u8], bounds: &[i32]) -> Reach
@@ -50,7 +50,7 @@ pub fn moves_by(coefs: &[i32], steps: &[u8], b: i32, bounds: &[i32]) -> bool
 
 // Gives each variable the bounds that the row implies, and says whether one moved.
 fn tighten_bounds_by(coefs: &[i32], steps: &[u8], b: i64, least: i64, bounds: &mut [i32]) -> bool
-    requires { ⌜ Propagates (length (now coefs)) (now coefs) b least (now bounds) ⌝ }
+    requires { ⌜ ImpliesBox (length (now coefs)) (now coefs) b least (now bounds) ⌝ }
     requires { ⌜ Steps (length (now coefs)) (now coefs) (now steps) ⌝ }
     ensures left { λ r. ⌜ now (bounds .exit) ≡ impliedBox (length (now (coefs .entry))) (now (coefs .entry)) b least (now (bounds .entry)) ⌝ }
     ensures moved { λ r. ⌜ r ≡ not (all (length (now (coefs .entry))) (staysAt (now (coefs .entry)) b least (now (bounds .entry)))) ⌝ }

@@ -52,7 +52,7 @@ use denote.Triple.Walked.{says, Stays, stay-none, stay-none-slice, stay-slice, w
 use denote.Exit.{yes}
 use borrow.Author.Tests.{ltb-true, ltb-false}
 use Rattle.semantics.specs.CallList.{ListRun, runList}
-use Rattle.semantics.specs.State.{State, stateOf}
+use Rattle.model.specs.State.{State, stateOf}
 use Rattle.semantics.specs.TwoLists.{ListMeans}
 use Rattle.semantics.proofs.CallLists.{counts-add-up, demand-3-lists, list-means}
 use Rattle.semantics.proofs.Demand3.{handed-in}

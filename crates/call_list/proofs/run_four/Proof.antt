@@ -45,7 +45,7 @@ use denote.Triple.Table.{entered, cited}
 use denote.Triple.Walked.{says, Stays, stay-none, gave-slice, walkOf, goes-none, goes-gave-slice, Walks, ends-at, walked, walk-meets}
 use denote.Exit.{yes}
 use Rattle.semantics.specs.CallList.{runList}
-use Rattle.semantics.specs.State.{stateOf}
+use Rattle.model.specs.State.{stateOf}
 use Rattle.semantics.specs.TwoLists.{CountsAddUp, Demand3Lists, ListMeans}
 use Rattle.semantics.specs.TwoRuns.{EveryModelHandedIn}
 use Rattle.reducer.specs.CallLists.{listRun}

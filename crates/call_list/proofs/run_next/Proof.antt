@@ -2,8 +2,8 @@
 use Prim.Native.Nat.{_+_, _<_, _^_}
 use borrow.Author.Needs.{needs}
 use mathlib.Core.Path.{_≡_}
-use Rattle.semantics.specs.Points.{ValidState}
-use Rattle.semantics.specs.State.{State}
+use Rattle.model.specs.Valid.{ValidState}
+use Rattle.model.specs.State.{State}
 use Rattle.step.specs.Classes.{countsOf}
 use Rattle.step.specs.declared.Counts.{Counts}
 use Rattle.reducer.specs.CallLists.{listAnswer, listRun}

@@ -8,16 +8,16 @@ use lib.ListN.{length}
 use mathlib.Core.Bool.{Bool, cond, false}
 use mathlib.Core.List.{List}
 use mathlib.Core.Logic.{inl, inr, ⊎-elim}
-use mathlib.Core.Path.{_∙_, _≡_, ap, refl, subst, sym}
+use mathlib.Core.Path.{_∙_, _≡_, ap, refl, sym}
 use native.Mathlib.Nat.{sub-zero}
 use native.Mathlib.Omega.{arith}
 use Rattle.integer.proofs.Tests.{false→T}
 use Rattle.model.specs.Box.{at, isEmpty}
-use Rattle.model.specs.Point.{rowOf}
+use Rattle.model.specs.Rows.{rowOf, rowsOf}
 use Rattle.row.specs.Answers.{propagationOutcome}
 use Rattle.row.specs.Propagation.{propagateRow}
 use Rattle.row.specs.declared.propagation.RowPropagation.the-variants.{Infeasible}
-use Rattle.semantics.specs.Propagate.{Propagation, passTo, propagate, propagateFrom}
+use Rattle.semantics.specs.Propagate.{Propagated, passTo, propagate, propagateFrom}
 use Rattle.propagation.specs.Results.{propagationOf}
 use Rattle.propagation.specs.declared.Propagation.the-variants as code
 use Rattle.propagation.proofs.PropagationLoops.{budget-spent, pass-converged, pass-infeasible, pass-moved, row-feasible, row-infeasible}
@@ -30,7 +30,7 @@ use Rattle.propagation.proofs.propagate_marked.Tie as tie
 abbrev Inv-rows : tie.InvT-rows
 Inv-rows n m bounds₀ coefs rhs budget across₀ signs₀ seen₀ marks₀ passes infeasible₀ moved₀ r₀ bounds across signs seen marks infeasible moved r =
     (r ≤ m)
-    × (passTo n r coefs rhs bounds₀ ≡ record { ended = false; moved = moved; box = bounds })
+    × (passTo n r (rowsOf coefs rhs) bounds₀ ≡ record { ended = false; moved = moved; box = bounds })
     × Ready n m coefs rhs bounds₀ across₀ signs₀ seen₀ marks₀ bounds across signs seen marks
     × (infeasible ≡ false)
 
@@ -40,7 +40,7 @@ abbrev μ-rows : tie.MeasureT-rows
 abbrev Inv-passes : tie.InvT-passes
 Inv-passes n m bounds₀ coefs rhs budget across₀ signs₀ seen₀ marks₀ passes₀ infeasible₀ bounds across signs seen marks passes infeasible =
     (passes ≤ budget)
-    × (propagateFrom (budget - passes) passes n m coefs rhs bounds ≡ propagateFrom budget 0 n m coefs rhs bounds₀)
+    × (propagateFrom (budget - passes) passes n m (rowsOf coefs rhs) bounds ≡ propagateFrom budget 0 n m (rowsOf coefs rhs) bounds₀)
     × Ready n m coefs rhs bounds₀ across₀ signs₀ seen₀ marks₀ bounds across signs seen marks
     × (infeasible ≡ false)
 
@@ -105,7 +105,7 @@ module _ (h : tie.At-passes Inv-rows μ-rows Inv-passes μ-passes) where
   abbrev B : List ℤ
   B = h .passes .bounds
 
-  whole : propagate budget n m C R B₀ ≡ propagateFrom budget 0 n m C R B₀
+  whole : propagate budget n m (rowsOf C R) B₀ ≡ propagateFrom budget 0 n m (rowsOf C R) B₀
   unfolding propagate
   whole = rw (sym (h .before .before .is-empty .ensures _ (s .pre .0 .some) (s .pre .0 .box)) ∙ h .before .if1 .left)
 
@@ -190,7 +190,7 @@ rows-again c =
 -- a pass over all rows
 passed : (c : tie.After-rows Inv-rows μ-rows Inv-passes μ-passes) →
     let q = c .before .before .before in
-    passTo (n q) (m q) (C q) (R q) (B q) ≡ record { ended = false; moved = c .before .rows .moved; box = c .before .rows .bounds }
+    passTo (n q) (m q) (rowsOf (C q) (R q)) (B q) ≡ record { ended = false; moved = c .before .rows .moved; box = c .before .rows .bounds }
 passed c =
     let q = c .before .before .before in
     let k : c .before .rows .r ≡ m q = omega arith in
@@ -241,7 +241,7 @@ passes-again c =
     )
 
 -- where the two ways out of the passes meet
-abbrev after : Bool → ℕ → List ℤ → Propagation
+abbrev after : Bool → ℕ → List ℤ → Propagated
 after i p B = propagationOf (cond i (code.Infeasible p) (code.BudgetSpent p)) B
 
 after-is : {i j : Bool} {p q : ℕ} {B P : List ℤ} → i ≡ j → p ≡ q → B ≡ P → after i p B ≡ after j q P
@@ -263,7 +263,7 @@ record Left (q : tie.At-passes Inv-rows μ-rows Inv-passes μ-passes) (bounds : 
 met : (c : tie.Left-passes Inv-rows μ-rows Inv-passes μ-passes) →
     let q = c .before in
     let o = c .passes-test in
-    (after (o .infeasible) (o .passes) (o .bounds) ≡ propagate (budget q) (n q) (m q) (C q) (R q) (B₀ q)) × Left q (o .bounds) (o .across) (o .signs) (o .seen) (o .marks)
+    (after (o .infeasible) (o .passes) (o .bounds) ≡ propagate (budget q) (n q) (m q) (rowsOf (C q) (R q)) (B₀ q)) × Left q (o .bounds) (o .across) (o .signs) (o .seen) (o .marks)
 unfolding propagationOf
 met c =
     let q = c .before in

@@ -1,6 +1,6 @@
 -- `rounds::probe_variables`: nothing is known yet. Assumes nothing.
 use borrow.Author.Needs.{needs}
-use Rattle.semantics.specs.State.{stateOf}
+use Rattle.model.specs.State.{stateOf}
 use Rattle.probing.proofs.MarkedLaws.{marked-none}
 use Rattle.rounds.proofs.probe_variables.Statement.{statement}
 use Rattle.rounds.proofs.probe_variables.Tie as tie

@@ -7,7 +7,8 @@ use mathlib.Core.Path.{_∙_, _≡_, refl, sym}
 use native.Mathlib.Omega.{arith}
 use Rattle.model.specs.Box.{isFree}
 use Rattle.probing.specs.Marked.{Marked}
-use Rattle.semantics.specs.State.{callOf, stateOf}
+use Rattle.semantics.specs.Call.{callOf}
+use Rattle.model.specs.State.{stateOf}
 use Rattle.rounds.specs.Rounds.{probeCall, probes}
 use Rattle.rounds.proofs.RoundsLaws.{Turns, all-turns, call-turn, flag-kept, flag-raised, no-turn, skip-turn, turns-lengths, turns-valid}
 use Rattle.rounds.proofs.probe_variables_marked.Statement.{statement}

@@ -6,7 +6,8 @@ use mathlib.Core.Logic.{⊎-elim}
 use mathlib.Core.Path.{_∙_, _≡_, sym}
 use native.Mathlib.Omega.{arith}
 use Rattle.model.specs.Box.{isEmpty}
-use Rattle.semantics.specs.State.{callOf, stateOf}
+use Rattle.semantics.specs.Call.{callOf}
+use Rattle.model.specs.State.{stateOf}
 use Rattle.rounds.specs.Rounds.{dropCall, drops}
 use Rattle.rounds.proofs.RoundsLaws.{Turns, all-turns, drop-turn, flag-kept, flag-raised, no-drops, no-turn, turns-lengths, turns-valid}
 use Rattle.rounds.proofs.remove_rows.Statement.{statement}

@@ -3,7 +3,8 @@
 use mathlib.Core.Bool.{Bool, _||_}
 use mathlib.Core.Logic.{⊎-elim}
 use mathlib.Core.Path.{_≡_, refl}
-use Rattle.semantics.specs.State.{callOf, State, stateOf}
+use Rattle.semantics.specs.Call.{callOf}
+use Rattle.model.specs.State.{State, stateOf}
 use Rattle.rounds.specs.Rounds.{andThen, drops, probes, round, settleCall, sharpens}
 use Rattle.rounds.proofs.RoundsLaws.{Leads, SameLengths, flag-kept, flag-raised, in-order, leads-then, leads-valid, one-call, same-lengths}
 use Rattle.rounds.proofs.round.Statement.{statement}

@@ -5,8 +5,8 @@ use borrow.Author.Tests.{not-false, not-true}
 use mathlib.Core.Path.{_∙_, _≡_, refl, sym}
 use native.Mathlib.Omega.{arith}
 use Rattle.model.specs.Box.{isEmpty}
-use Rattle.semantics.specs.Points.{ValidState}
-use Rattle.semantics.specs.State.{State, stateOf}
+use Rattle.model.specs.Valid.{ValidState}
+use Rattle.model.specs.State.{State, stateOf}
 use Rattle.semantics.proofs.Accepted.{accepted-valid}
 use Rattle.rounds.specs.Answers.{roundsAnswer}
 use Rattle.rounds.specs.Rounds.{round, roundsFault}

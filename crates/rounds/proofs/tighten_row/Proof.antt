@@ -10,10 +10,11 @@ use mir.Val.{toZ}
 use native.Mathlib.Omega.{arith}
 use Rattle.integer.proofs.Tests.{T→true, and-l, true→T}
 use Rattle.model.specs.Box.{at, isFree}
-use Rattle.model.specs.Point.{rowOf}
+use Rattle.model.specs.Rows.{rowOf}
 use Rattle.row.specs.Activity.{maxActivity}
 use Rattle.row.specs.Tightening.{mayTighten}
-use Rattle.semantics.specs.State.{callOf, stateOf}
+use Rattle.semantics.specs.Call.{callOf}
+use Rattle.model.specs.State.{stateOf}
 use Rattle.rounds.specs.Rounds.{sharpenCall, sharpenRow}
 use Rattle.rounds.proofs.RoundsLaws.{Turns, all-turns, call-turn, flag-kept, flag-raised, leads-valid, looked-at, no-turn, one-call, quiet-turn, row-ready, turn, turns-lengths, turns-valid}
 use Rattle.rounds.proofs.tighten_row.Statement.{statement}

@@ -2,7 +2,7 @@
 use Prim.Native.Nat.{_-_}
 use mathlib.Core.Logic.{⊎-elim}
 use native.Mathlib.Omega.{arith}
-use Rattle.semantics.specs.State.{stateOf}
+use Rattle.model.specs.State.{stateOf}
 use Rattle.rounds.specs.Rounds.{sharpenRow, sharpens}
 use Rattle.rounds.proofs.RoundsLaws.{Turns, all-turns, flag-kept, flag-raised, no-turn, turn, turns-lengths, turns-valid}
 use Rattle.rounds.proofs.tighten_rows.Statement.{statement}

@@ -3,7 +3,7 @@ use Prim.Native.Nat.{_*_, _+_, _-_}
 use mathlib.Core.Path.{_≡_}
 use native.Mathlib.Omega.{arith}
 use borrow.Author.Needs.{needs}
-use Rattle.model.specs.Point.{rowOf}
+use Rattle.model.specs.Rows.{rowOf}
 use Rattle.row_view.proofs.coefficients.Statement.{statement}
 use Rattle.row_view.proofs.coefficients.Tie as tie
 

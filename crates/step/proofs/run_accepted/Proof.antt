@@ -6,7 +6,9 @@ use mathlib.Core.List.{List}
 use mathlib.Core.Path.{_≡_, refl}
 use native.Mathlib.Omega.{arith}
 use Rattle.model.specs.Valid.{ValidModel}
-use Rattle.semantics.specs.State.{callOf, hasRow, hasVariable, Kind, kindOf, propagatesRow, removes, stateOf, tightens}
+use Rattle.semantics.specs.Call.{callOf, hasRow, hasVariable, Kind, kindOf, rowPropagation, removal, tightening}
+use Rattle.model.specs.State.{stateOf}
+use Rattle.model.specs.Model.{modelOf}
 use Rattle.semantics.proofs.Accepted.{Accepted, accepted}
 use Rattle.step.proofs.StepLaws.{fault-probed, kind-removes, ran-probed, ran-remove, ran-settle, ran-tighten, ran-visit}
 use Rattle.propagation.proofs.PropagationLoops.{part-is, row-fits, row-in, row-length, valid-row}
@@ -36,7 +38,7 @@ module _ (s : tie.Start) where
   abbrev t : List ℕ
   t = s .args .table .now
 
-  valid : ValidModel n m B C R
+  valid : ValidModel (modelOf n m B C R)
   unfolding stateOf
   valid = s .pre .0 .model
 
@@ -47,13 +49,13 @@ module _ (s : tie.Start) where
 
 -- ---- a visit
 
-visits : (c : tie.At-match-keys1) → kindOf (c .before .before .args .kind) ≡ propagatesRow
+visits : (c : tie.At-match-keys1) → kindOf (c .before .before .args .kind) ≡ rowPropagation
 unfolding kindOf
 visits c = rw (c .match .keys1)
 
 visit-row : (c : tie.At-match-keys1) → r (c .before .before) < m (c .before .before)
 unfolding stateOf callOf hasRow
-visit-row c = is-accepted (c .before .before) propagatesRow (visits c) .row tt
+visit-row c = is-accepted (c .before .before) rowPropagation (visits c) .row tt
 
 propagate-row-at-requires : tie.Need-propagate-row-at-requires
 propagate-row-at-requires c κs =
@@ -84,17 +86,17 @@ run-probe-requires c κs =
 
 -- ---- a sharpen
 
-tighten-is : (c : tie.At-match-keys4) → kindOf (c .before .before .args .kind) ≡ tightens
+tighten-is : (c : tie.At-match-keys4) → kindOf (c .before .before .args .kind) ≡ tightening
 unfolding kindOf
 tighten-is c = rw (c .match .keys4)
 
 tighten-row : (c : tie.At-match-keys4) → r (c .before .before) < m (c .before .before)
 unfolding stateOf callOf hasRow
-tighten-row c = is-accepted (c .before .before) tightens (tighten-is c) .row tt
+tighten-row c = is-accepted (c .before .before) tightening (tighten-is c) .row tt
 
 tighten-variable : (c : tie.At-match-keys4) → c .before .before .args .variable < n (c .before .before)
 unfolding stateOf callOf hasVariable
-tighten-variable c = is-accepted (c .before .before) tightens (tighten-is c) .variable tt
+tighten-variable c = is-accepted (c .before .before) tightening (tighten-is c) .variable tt
 
 mul-start : tie.Need-mul-start
 mul-start c = let s = c .before .before in omega (arith, row-fits (valid s) (r s) (tighten-row c))
@@ -133,7 +135,7 @@ class-of-tightening-requires c κs = search needs
 
 -- ---- a drop
 
-remove-is : (c : tie.At-match-rest) → kindOf (c .before .before .args .kind) ≡ removes
+remove-is : (c : tie.At-match-rest) → kindOf (c .before .before .args .kind) ≡ removal
 remove-is c =
     let s = c .before .before in
     let o = c .match .rest in
@@ -141,7 +143,7 @@ remove-is c =
 
 remove-row : (c : tie.At-match-rest) → r (c .before .before) < m (c .before .before)
 unfolding stateOf callOf hasRow
-remove-row c = is-accepted (c .before .before) removes (remove-is c) .row tt
+remove-row c = is-accepted (c .before .before) removal (remove-is c) .row tt
 
 mul-start-2 : tie.Need-mul-start-2
 mul-start-2 c = let s = c .before .before in omega (arith, row-fits (valid s) (r s) (remove-row c))

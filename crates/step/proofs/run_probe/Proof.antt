@@ -1,6 +1,6 @@
 -- `step::run_probe`: nothing is known yet. Assumes nothing.
 use borrow.Author.Needs.{needs}
-use Rattle.semantics.specs.State.{stateOf}
+use Rattle.model.specs.State.{stateOf}
 use Rattle.probing.proofs.MarkedLaws.{marked-none}
 use Rattle.step.proofs.run_probe.Statement.{statement}
 use Rattle.step.proofs.run_probe.Tie as tie

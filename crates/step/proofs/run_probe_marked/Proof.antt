@@ -11,7 +11,8 @@ use mathlib.Core.Path.{_∙_, _≡_, ap, refl, sym}
 use Rattle.integer.proofs.Tests.{eqb-test, test-false}
 use Rattle.model.specs.Box.{sameList}
 use Rattle.semantics.specs.Run.{CallClass, changedCall, probeInfeasible, unchangedCall}
-use Rattle.semantics.specs.State.{callOf, hasVariable, kindOf, stateOf}
+use Rattle.semantics.specs.Call.{callOf, hasVariable, kindOf}
+use Rattle.model.specs.State.{stateOf}
 use Rattle.semantics.proofs.Accepted.{accepted}
 use Rattle.semantics.proofs.ClassLaws.{addsNone, classBy}
 use Rattle.step.specs.Classes.{classIs}

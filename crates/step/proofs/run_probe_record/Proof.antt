@@ -1,7 +1,8 @@
 -- `step::run_probe_record`: a refused record changes nothing, and an accepted one is run. Assumes nothing.
 use mathlib.Core.Path.{_∙_, _≡_, refl, sym}
 use Rattle.semantics.specs.CallChecks.{callFault, recordChecks}
-use Rattle.semantics.specs.State.{Call, callOf, State, stateOf}
+use Rattle.semantics.specs.Call.{Call, callOf}
+use Rattle.model.specs.State.{State, stateOf}
 use Rattle.semantics.proofs.Accepted.{fault-of-valid}
 use Rattle.semantics.proofs.ClassLaws.{class-refused}
 use Rattle.step.specs.Classes.{classIs}

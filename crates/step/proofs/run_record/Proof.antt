@@ -3,7 +3,8 @@
 use borrow.Author.Needs.{needs}
 use mathlib.Core.Path.{_∙_, _≡_, refl, sym}
 use Rattle.semantics.specs.CallChecks.{callFault, recordChecks}
-use Rattle.semantics.specs.State.{Call, callOf, State, stateOf}
+use Rattle.semantics.specs.Call.{Call, callOf}
+use Rattle.model.specs.State.{State, stateOf}
 use Rattle.semantics.proofs.Accepted.{fault-of-valid}
 use Rattle.semantics.proofs.ClassLaws.{class-refused}
 use Rattle.step.specs.Classes.{classIs}

@@ -2,7 +2,7 @@
 use borrow.Author.Needs.{needs}
 use mathlib.Core.List.{[]}
 use Rattle.reducer.specs.OpenCalls.{restVerdict}
-use Rattle.semantics.specs.State.{State, stateOf}
+use Rattle.model.specs.State.{State, stateOf}
 use Rattle.capi.proofs.ExportLaws.{rest-refused, rest-replied}
 use Rattle.capi.proofs.calls.astrolabe_is_probing_fixpoint.Statement.{statement}
 use Rattle.capi.proofs.calls.astrolabe_is_probing_fixpoint.Tie as tie

@@ -3,7 +3,7 @@ use Prim.Native.Nat.{ℕ}
 use borrow.Author.Needs.{needs}
 use lib.IntN.{ℤ}
 use mathlib.Core.List.{List}
-use Rattle.semantics.specs.State.{State, stateOf}
+use Rattle.model.specs.State.{State, stateOf}
 use Rattle.rounds.specs.Answers.{roundsAnswer}
 use Rattle.capi.proofs.ExportLaws.{rounds-refused, rounds-replied}
 use Rattle.capi.proofs.calls.astrolabe_rounds.Statement.{statement}

@@ -3,7 +3,7 @@ use Prim.Native.Nat.{ℕ}
 use borrow.Author.Needs.{needs}
 use lib.IntN.{ℤ}
 use mathlib.Core.List.{List}
-use Rattle.semantics.specs.State.{State, stateOf}
+use Rattle.model.specs.State.{State, stateOf}
 use Rattle.capi.proofs.ExportLaws.{list-refused, list-replied}
 use Rattle.capi.proofs.calls.astrolabe_run.Statement.{statement}
 use Rattle.capi.proofs.calls.astrolabe_run.Tie as tie

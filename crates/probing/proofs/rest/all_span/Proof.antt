@@ -10,13 +10,14 @@ use Rattle.integer.specs.Index.{all}
 use Rattle.integer.proofs.IndexLaws.{all-false, all-next}
 use Rattle.integer.proofs.Tests.{told-false, told-true}
 use Rattle.model.specs.Box.{isFree}
+use Rattle.model.specs.Rows.{rowsOf}
 use Rattle.propagation.specs.Index.{Index}
 use Rattle.semantics.specs.RestTest.{sidesSpan}
 use Rattle.probing.proofs.rest.all_span.Statement.{statement}
 use Rattle.probing.proofs.rest.all_span.Tie as tie
 
 abbrev spans : ℕ → ℕ → List ℤ → List ℤ → List ℤ → ℕ → Bool
-spans n m C R B k = not (isFree B k) || sidesSpan n m C R B k
+spans n m C R B k = not (isFree B k) || sidesSpan n m (rowsOf C R) B k
 
 abbrev Inv-loop : tie.InvT-loop
 Inv-loop n m bounds coefs rhs across₀ signs₀ marks k₀ across signs k =

@@ -8,7 +8,7 @@ use native.Mathlib.Omega.{arith}
 use Rattle.integer.specs.Index.{all}
 use Rattle.integer.proofs.IndexLaws.{all-false, all-next}
 use Rattle.model.specs.Box.{at, sameList}
-use Rattle.model.specs.Point.{rowOf}
+use Rattle.model.specs.Rows.{rowOf}
 use Rattle.row.specs.Propagation.{propagateRow}
 use Rattle.semantics.specs.RestTest.{isFixpoint}
 use Rattle.propagation.proofs.PropagationLoops.{row-in, valid-row}

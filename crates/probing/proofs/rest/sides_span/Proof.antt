@@ -8,9 +8,10 @@ use mathlib.Core.List.{List, [], _++_}
 use mathlib.Core.Logic.{inl, inr}
 use mathlib.Core.Path.{_∙_, _≡_, ap₂, refl, sym}
 use Rattle.model.specs.Box.{sameList}
+use Rattle.model.specs.Rows.{rowsOf}
 use Rattle.semantics.specs.CallChecks.{maxBudget}
 use Rattle.semantics.specs.Probe.{fix, hull}
-use Rattle.semantics.specs.Propagate.{Propagation, isNone, propagate}
+use Rattle.semantics.specs.Propagate.{Propagated, isNone, propagate}
 use Rattle.semantics.specs.RestTest.{sidesSpan}
 use Rattle.propagation.specs.Results.{propagationOf}
 use Rattle.propagation.proofs.LocalBox.{blank, box-room, held, held-fits, held-length}
@@ -19,8 +20,8 @@ use Rattle.probing.proofs.rest.sides_span.Statement.{statement}
 use Rattle.probing.proofs.rest.sides_span.Tie as tie
 
 -- side v of k, propagated
-abbrev side : tie.Start → ℕ → Propagation
-side s v = propagate maxBudget (s .args .n) (s .args .m) (s .args .coefs .now) (s .args .rhs .now) (fix (s .args .n) (s .args .bounds .now) (s .args .k) v)
+abbrev side : tie.Start → ℕ → Propagated
+side s v = propagate maxBudget (s .args .n) (s .args .m) (rowsOf (s .args .coefs .now) (s .args .rhs .now)) (fix (s .args .n) (s .args .bounds .now) (s .args .k) v)
 
 array-borrow-prefix-zero : tie.Need-array-borrow-prefix-zero
 array-borrow-prefix-zero c = search needs

@@ -13,9 +13,10 @@ use mathlib.Core.Path.{_∙_, _≡_, ap, ap₂, refl, sym}
 use native.Mathlib.Omega.{arith}
 use Rattle.integer.proofs.Tests.{false→T, or-r}
 use Rattle.model.specs.Box.{isEmpty, isFree}
+use Rattle.model.specs.Rows.{rowsOf}
 use Rattle.row.proofs.ImpliedBoxLaws.{valid-nonEmpty}
 use Rattle.semantics.specs.Probe.{fix, joinSides, probe}
-use Rattle.semantics.specs.Propagate.{Propagation, propagate}
+use Rattle.semantics.specs.Propagate.{Propagated, propagate}
 use Rattle.propagation.specs.Index.{Index}
 use Rattle.propagation.specs.Results.{propagationOf}
 use Rattle.propagation.proofs.LocalBox.{blank, box-room, box-small}
@@ -27,8 +28,8 @@ use Rattle.probing.proofs.sides.probe_marked.Statement.{statement}
 use Rattle.probing.proofs.sides.probe_marked.Tie as tie
 
 -- side v of k, propagated
-abbrev side : tie.Start → ℕ → Propagation
-side s v = let a = s .args in propagate (a .budget) (a .n) (a .m) (a .coefs .now) (a .rhs .now) (fix (a .n) (a .bounds .now) (a .k) v)
+abbrev side : tie.Start → ℕ → Propagated
+side s v = let a = s .args in propagate (a .budget) (a .n) (a .m) (rowsOf (a .coefs .now) (a .rhs .now)) (fix (a .n) (a .bounds .now) (a .k) v)
 
 is-empty-requires : tie.Need-is-empty-requires
 is-empty-requires c κs = search needs
@@ -201,7 +202,7 @@ module _ (j : tie.After-join-marked) where
   t = j .before .before .before .before .before .before .before .before .before .before .before .before
 
   joined : let a = s t .args in probingOf (j .join-marked .result) (j .join-marked .last .1 .1 .1 .1 .1 .1 .1 .0) (j .join-marked .last .1 .1 .1 .1 .1 .1 .1 .1 .0)
-      ≡ probe (a .k) (a .budget) (a .n) (a .m) (a .coefs .now) (a .rhs .now) (a .bounds .now) (a .table .now)
+      ≡ probe (a .k) (a .budget) (a .n) (a .m) (rowsOf (a .coefs .now) (a .rhs .now)) (a .bounds .now) (a .table .now)
   unfolding probe
   joined =
       let a = s t .args in

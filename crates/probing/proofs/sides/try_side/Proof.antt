@@ -11,6 +11,7 @@ use mir.Syntax.{w32}
 use mir.Val.{ofZ, toZ}
 use native.Mathlib.Omega.{arith}
 use Rattle.model.specs.Box.{withBounds}
+use Rattle.model.specs.Rows.{rowsOf}
 use Rattle.semantics.specs.Probe.{fix}
 use Rattle.semantics.specs.Propagate.{propagate}
 use Rattle.propagation.proofs.LocalBox.{blank, box-room}
@@ -98,7 +99,7 @@ returns c =
     let d = c .before .before .before .before .before .before .before .before .before .before .before .before .before .before .before .before .before in
     let a = c .before .before .before .before .before .before .before .before .before .before .before .before .before .before .before .before .before .before .before .before .before .before .args in
     let call = c .before .before .before .before .before .before .before .propagate-side .ensures in
-    ((λ w e. call .0 ∙ ap (propagate (a .budget) (a .n) (a .m) (a .coefs .now) (a .rhs .now)) (stored d w e)), call .1)
+    ((λ w e. call .0 ∙ ap (propagate (a .budget) (a .n) (a .m) (rowsOf (a .coefs .now) (a .rhs .now))) (stored d w e)), call .1)
 
 pub try-side-spec : {M : Type 1} → statement M
 try-side-spec =

@@ -3,7 +3,7 @@ use borrow.Author.Needs.{needs}
 use mathlib.Core.Path.{_∙_, sym}
 use native.Mathlib.Omega.{arith}
 use Rattle.model.specs.Box.{at}
-use Rattle.model.specs.Point.{rowOf}
+use Rattle.model.specs.Rows.{rowOf}
 use Rattle.row.proofs.ReachLaws.{moves-not}
 use Rattle.propagation.proofs.PropagationLoops.{row-in, valid-row}
 use Rattle.propagation.proofs.MarkLaws.{clean-less, clean-one}

@@ -1,7 +1,6 @@
 -- `propagation::index::fill_signs`: the invariant says that the signs so far are those of the column. Assumes nothing.
 use Prim.Native.Nat.{_*_, _+_, _-_, _<_, _≤_, ℕ}
 use borrow.Author.Count.{below-more, below-none}
-use borrow.Author.Needs.{needs}
 use lib.ListN.{getD, length, length-set}
 use lib.Seq.{getD-set-other, getD-set-same}
 use mathlib.Core.Logic.{_⊎_, ⊎-elim}

@@ -1,6 +1,6 @@
 -- `propagation::index::fill_steps`: the invariant says that the steps from variable j on are good, and that the step to variable j - 1
 -- passes over zeros. Assumes nothing.
-use Prim.Native.Nat.{_*_, _+_, _-_, _<_, _≤_, ℕ}
+use Prim.Native.Nat.{_+_, _-_, _<_, _≤_, ℕ}
 use lib.IntN.{pos}
 use lib.ListN.{getD, length, length-set}
 use lib.Seq.{getD-set-other}

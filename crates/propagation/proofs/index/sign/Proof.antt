@@ -1,8 +1,8 @@
 -- `propagation::index::sign` is signOf. Assumes nothing.
-use lib.IntN.{pos, ℤ}
+use lib.IntN.{pos}
 use lib.Signed.{ltZ}
 use mathlib.Core.Bool.{false, true}
-use mathlib.Core.Path.{_≡_, refl}
+use mathlib.Core.Path.{_≡_}
 use mir.Facts.{toZ-ofZ}
 use mir.Syntax.{w32}
 use mir.Val.{SFits}

@@ -3,7 +3,7 @@ use borrow.Author.Needs.{needs}
 use mathlib.Core.Path.{ap, sym}
 use native.Mathlib.Omega.{arith}
 use Rattle.row.specs.Answers.{propagationOutcome}
-use Rattle.row.specs.Propagation.{Propagated}
+use Rattle.row.specs.Propagation.{PropagatedRow}
 use Rattle.propagation.proofs.marks.propagate_row_marked.Statement.{statement}
 use Rattle.propagation.proofs.marks.propagate_row_marked.Tie as tie
 
@@ -16,7 +16,7 @@ returns c =
     let s = c .before .before .before .before .before in
     let g = s .pre .0 in
     let e = g .watched .clean .same (g .nonEmpty) (s .args .r) (s .pre .1) (c .if1 .taken) in
-    (sym (ap (λ (v : Propagated). v .outcome) e), (sym (ap (λ (v : Propagated). v .box) e), g .watched))
+    (sym (ap (λ (v : PropagatedRow). v .outcome) e), (sym (ap (λ (v : PropagatedRow). v .box) e), g .watched))
 
 propagate-row-whole-requires : tie.Need-propagate-row-whole-requires
 propagate-row-whole-requires c κs = search needs

@@ -1,13 +1,12 @@
 -- `propagation::marks::propagate_row_whole` is propagateRow, through the row's view; any variable may have moved. Assumes nothing.
-use Prim.Native.Nat.{_*_, _+_, _≤_, ℕ}
+use Prim.Native.Nat.{ℕ}
 use borrow.Author.Needs.{needs}
 use lib.IntN.{ℤ}
 use lib.ListN.{length}
 use mathlib.Core.List.{List}
 use mathlib.Core.Path.{_∙_, _≡_, ap, sym}
-use native.Mathlib.Omega.{arith}
 use Rattle.model.specs.Box.{at}
-use Rattle.model.specs.Point.{rowOf}
+use Rattle.model.specs.Rows.{rowOf}
 use Rattle.row.specs.Answers.{propagationOutcome}
 use Rattle.row.specs.Propagation.{propagateRow}
 use Rattle.propagation.specs.Marks.{Visitable}

@@ -1,7 +1,6 @@
 -- `propagation::marks::remark`: the invariant is `Remarked`; a step passes only over variables where the boxes agree. Assumes nothing.
-use Prim.Native.Nat.{_*_, _+_, _-_, _<_, _≤_, ℕ}
+use Prim.Native.Nat.{_-_, _<_, ℕ}
 use borrow.Author.Count.{below-none}
-use lib.ListN.{length}
 use mathlib.Core.Path.{_∙_, _≡_, refl}
 use native.Mathlib.Omega.{arith}
 use Rattle.model.proofs.BoxLaws.{box-ext}

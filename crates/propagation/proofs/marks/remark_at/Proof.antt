@@ -2,9 +2,9 @@
 use borrow.Author.Needs.{needs}
 use Prim.Native.Nat.{_*_, _+_}
 use lib.IntN.{pos}
-use lib.ListN.{length-set, set}
+use lib.ListN.{set}
 use lib.Seq.{getD-set-other}
-use mathlib.Core.Path.{_∙_, _≡_, ap}
+use mathlib.Core.Path.{_∙_, ap}
 use native.Mathlib.Omega.{arith}
 use Rattle.model.specs.Box.{at, withBounds}
 use Rattle.propagation.proofs.marks.remark_at.Statement.{statement}

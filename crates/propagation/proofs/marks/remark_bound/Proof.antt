@@ -1,7 +1,7 @@
 -- `propagation::marks::remark_bound`: a number that did not move is written by nothing; where it moved, the column's signs say which rows read
 -- it. Assumes nothing.
 use borrow.Author.Needs.{needs}
-use lib.IntN.{pos, ℤ}
+use lib.IntN.{pos}
 use lib.ListN.{set}
 use lib.Seq.{set-getD}
 use mathlib.Core.Path.{_∙_, _≡_, ap, sym}

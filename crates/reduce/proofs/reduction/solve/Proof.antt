@@ -3,7 +3,7 @@
 use borrow.Author.Needs.{needs}
 use mathlib.Core.Path.{_∙_, ap, ap₂, sym}
 use Rattle.book.specs.Answers.{sizesAnswer}
-use Rattle.semantics.specs.State.{stateOf}
+use Rattle.model.specs.State.{stateOf}
 use Rattle.reduce.specs.Answers.{answerText}
 use Rattle.reduce.specs.Output.{roundsText, textOf}
 use Rattle.reduce.proofs.OutputLaws.{output-means}

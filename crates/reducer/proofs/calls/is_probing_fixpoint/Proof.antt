@@ -7,7 +7,8 @@ use mathlib.Core.Path.{_∙_, _≡_, sym}
 use Rattle.model.proofs.CheckLaws.{fault-none}
 use Rattle.semantics.specs.Points.{AtRest}
 use Rattle.semantics.specs.RestTest.{restFault}
-use Rattle.semantics.specs.State.{State, stateOf}
+use Rattle.model.specs.State.{State, stateOf}
+use Rattle.model.specs.Model.{modelOf}
 use Rattle.reducer.specs.OpenCalls.{atRest, notAtRest, rest, restVerdict}
 use Rattle.reducer.proofs.OpenCallLaws.{rest-promised, rest-refused, rest-tested}
 use Rattle.reducer.proofs.calls.is_probing_fixpoint.Statement.{statement}
@@ -34,7 +35,7 @@ no-fault c = sym (fault-is (c .before)) ∙ c .if1 .left
 is-probing-fixpoint-requires : tie.Need-is-probing-fixpoint-requires
 unfolding restFault stateOf
 is-probing-fixpoint-requires c κs =
-    let a = c .before .before .args in fault-none (a .n) (a .m) (a .bounds .now) (a .coefs .now) (a .rhs .now) .0 (no-fault c)
+    let a = c .before .before .args in fault-none (modelOf (a .n) (a .m) (a .bounds .now) (a .coefs .now) (a .rhs .now)) .0 (no-fault c)
 
 -- what the test says
 tested : (c : tie.After-is-probing-fixpoint) {b : Bool} → c .is-probing-fixpoint .result ≡ b → let s = state (c .before .before .before) in

@@ -6,7 +6,8 @@ use mathlib.Core.List.{List}
 use mathlib.Core.Path.{_∙_, _≡_, ap, sym}
 use Rattle.semantics.specs.CallChecks.{callFault}
 use Rattle.semantics.specs.Perform.{perform, probed}
-use Rattle.semantics.specs.State.{Call, callOf, hasTable, hasVariable, kindOf, State, stateOf}
+use Rattle.semantics.specs.Call.{Call, callOf, hasTable, hasVariable, kindOf}
+use Rattle.model.specs.State.{State, stateOf}
 use Rattle.semantics.proofs.Accepted.{accepted}
 use Rattle.reducer.specs.OpenCalls.{performed, probeAnswer}
 use Rattle.probing.specs.Results.{probingOf}

@@ -6,7 +6,9 @@ use Rattle.model.specs.Checks.{modelFault}
 use Rattle.model.specs.Valid.{ValidModel}
 use Rattle.model.proofs.CheckLaws.{fault-none}
 use Rattle.semantics.specs.CallChecks.{recordChecks}
-use Rattle.semantics.specs.State.{callOf, kindOf, State, stateOf}
+use Rattle.semantics.specs.Call.{callOf, kindOf}
+use Rattle.model.specs.State.{State, stateOf}
+use Rattle.model.specs.Model.{modelOf}
 use Rattle.semantics.proofs.Accepted.{modelFaultOf}
 use Rattle.reducer.proofs.OpenCallLaws.{model-refuses, no-table, own-fault}
 use Rattle.reducer.proofs.checks.call_fault.Statement.{statement}
@@ -24,7 +26,7 @@ unfolding stateOf
 fault-is c =
     let a = c .before .args in
     c .model-fault .ensures
-    ∙ sym (ap (modelFault (a .n) (a .m) (a .bounds .now) (a .coefs .now) (a .rhs .now)) (no-table (kindOf (a .kind)) (state (c .before)) (c .before .pre)))
+    ∙ sym (ap (modelFault (modelOf (a .n) (a .m) (a .bounds .now) (a .coefs .now) (a .rhs .now))) (no-table (kindOf (a .kind)) (state (c .before)) (c .before .pre)))
 
 returns : tie.Need-returns
 returns c =
@@ -32,10 +34,10 @@ returns c =
     model-refuses (state s) (s .args .kind) (s .args .row) (s .args .variable) (s .args .budget) (fault-is (c .before)) (c .if1 .taken)
 
 valid : (c : tie.Else1)
-    → let a = c .before .before .args in ValidModel (a .n) (a .m) (a .bounds .now) (a .coefs .now) (a .rhs .now)
+    → let a = c .before .before .args in ValidModel (modelOf (a .n) (a .m) (a .bounds .now) (a .coefs .now) (a .rhs .now))
 valid c =
     let a = c .before .before .args in
-    fault-none (a .n) (a .m) (a .bounds .now) (a .coefs .now) (a .rhs .now) .0 (sym (c .before .model-fault .ensures) ∙ c .if1 .left)
+    fault-none (modelOf (a .n) (a .m) (a .bounds .now) (a .coefs .now) (a .rhs .now)) .0 (sym (c .before .model-fault .ensures) ∙ c .if1 .left)
 
 record-fault-requires : tie.Need-record-fault-requires
 record-fault-requires c κs = (valid c .box, valid c .some)

@@ -5,7 +5,9 @@ use mathlib.Core.Path.{_∙_, _≡_, sym}
 use Rattle.model.specs.Valid.{ValidModel}
 use Rattle.model.proofs.CheckLaws.{table-fault-none}
 use Rattle.semantics.specs.CallChecks.{lentTable, recordChecks}
-use Rattle.semantics.specs.State.{callOf, hasTable, kindOf, State, stateOf}
+use Rattle.semantics.specs.Call.{callOf, hasTable, kindOf}
+use Rattle.model.specs.State.{State, stateOf}
+use Rattle.model.specs.Model.{modelOf}
 use Rattle.semantics.proofs.Accepted.{modelFaultOf}
 use Rattle.reducer.proofs.OpenCallLaws.{model-refuses, own-fault}
 use Rattle.reducer.proofs.checks.probe_fault.Statement.{statement}
@@ -28,10 +30,10 @@ returns c =
     model-refuses (state s) 3 0 (s .args .variable) (s .args .budget) (fault-is (c .before)) (c .if1 .taken)
 
 valid : (c : tie.Else1)
-    → let a = c .before .before .before .args in ValidModel (a .n) (a .m) (a .bounds .now) (a .coefs .now) (a .rhs .now)
+    → let a = c .before .before .before .args in ValidModel (modelOf (a .n) (a .m) (a .bounds .now) (a .coefs .now) (a .rhs .now))
 valid c =
     let a = c .before .before .before .args in
-    table-fault-none (a .n) (a .m) (a .bounds .now) (a .coefs .now) (a .rhs .now) (a .table .now) .0
+    table-fault-none (modelOf (a .n) (a .m) (a .bounds .now) (a .coefs .now) (a .rhs .now)) (a .table .now) .0
     (sym (c .before .model-table-fault .ensures) ∙ c .if1 .left) .0
 
 record-fault-requires : tie.Need-record-fault-requires

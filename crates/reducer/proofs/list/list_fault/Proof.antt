@@ -10,7 +10,9 @@ use Rattle.integer.proofs.Tests.{eqb-test, test-false, test-true, told-false, t
 use Rattle.model.specs.Checks.{Check, first, lengthChecks, must, numberChecks, sizeChecks, table, tableByteChecks, tableLengthChecks}
 use Rattle.model.proofs.CheckLaws.{ends, fails, goes, past, stops}
 use Rattle.semantics.specs.CallList.{listChecks, listFault}
-use Rattle.semantics.specs.State.{stateOf}
+use Rattle.model.specs.State.{stateOf}
+use Rattle.model.specs.Rows.{rowsOf}
+use Rattle.model.specs.Model.{modelOf}
 use Rattle.reducer.proofs.list.list_fault.Statement.{statement}
 use Rattle.reducer.proofs.list.list_fault.Tie as tie
 
@@ -19,13 +21,13 @@ abbrev sizes : tie.Start → List Check
 sizes s = sizeChecks (s .args .n) (s .args .m)
 
 abbrev lengths : tie.Start → List Check
-lengths s = lengthChecks (s .args .n) (s .args .m) (s .args .bounds .now) (s .args .coefs .now) (s .args .rhs .now)
+lengths s = lengthChecks (modelOf (s .args .n) (s .args .m) (s .args .bounds .now) (s .args .coefs .now) (s .args .rhs .now))
 
 abbrev tableLengths : tie.Start → List Check
 tableLengths s = tableLengthChecks (s .args .n) (table (s .args .table .now))
 
 abbrev numbers : tie.Start → List Check
-numbers s = numberChecks (s .args .n) (s .args .bounds .now) (s .args .coefs .now) (s .args .rhs .now)
+numbers s = numberChecks (s .args .n) (s .args .bounds .now) (rowsOf (s .args .coefs .now) (s .args .rhs .now))
 
 size-fault-requires : tie.Need-size-fault-requires
 size-fault-requires c κs = search needs

@@ -6,9 +6,10 @@ use lib.ListN as lists
 use mathlib.Core.Path.{_∙_, _≡_, sym}
 use native.Mathlib.Omega.{arith}
 use Rattle.semantics.specs.CallList.{ran, recordAt, refusedList}
-use Rattle.semantics.specs.Points.{ValidState}
+use Rattle.model.specs.Valid.{ValidState}
 use Rattle.semantics.specs.Run.{noCounts}
-use Rattle.semantics.specs.State.{callOf, State, stateOf}
+use Rattle.semantics.specs.Call.{callOf}
+use Rattle.model.specs.State.{State, stateOf}
 use Rattle.semantics.proofs.CallLists.{Along, along-end, along-more, along-start, list-accepted, list-refused}
 use Rattle.step.specs.Classes.{countsOf}
 use Rattle.reducer.specs.CallLists.{listAnswer, listRun}

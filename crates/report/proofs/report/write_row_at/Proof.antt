@@ -7,7 +7,7 @@ use mir.Syntax.{w32}
 use mir.Val.{SFits}
 use native.Mathlib.Omega.{arith}
 use Rattle.model.specs.Box.{at}
-use Rattle.model.specs.Point.{rowOf}
+use Rattle.model.specs.Rows.{rowOf}
 use Rattle.report.specs.Report.{isZeroRow, rowAt}
 use Rattle.report.proofs.TextLaws.{wrote-none}
 use Rattle.report.proofs.report.write_row_at.Statement.{statement}

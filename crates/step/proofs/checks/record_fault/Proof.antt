@@ -5,7 +5,8 @@ use mathlib.Core.Logic.{inl, inr, ⊎-elim}
 use Rattle.model.specs.Checks.{first}
 use Rattle.model.proofs.CheckLaws.{goes, stops}
 use Rattle.semantics.specs.CallChecks.{recordChecks}
-use Rattle.semantics.specs.State.{callOf, hasBudget, hasRow, hasVariable, isOther, kindOf, stateOf}
+use Rattle.semantics.specs.Call.{callOf, hasBudget, hasRow, hasVariable, isUnknown, kindOf}
+use Rattle.model.specs.State.{stateOf}
 use Rattle.step.specs.FieldChecks.{budgetChecks, rowChecks, variableChecks}
 use Rattle.step.proofs.StepLaws.{kind-other}
 use Rattle.step.proofs.checks.record_fault.Statement.{statement}
@@ -21,7 +22,7 @@ variable-fault-requires : tie.Need-variable-fault-requires
 variable-fault-requires c κs = search needs
 
 returns : tie.Need-returns
-unfolding recordChecks kindOf isOther hasRow hasVariable hasBudget first stateOf callOf variableChecks budgetChecks
+unfolding recordChecks kindOf isUnknown hasRow hasVariable hasBudget first stateOf callOf variableChecks budgetChecks
 returns c =
     let a = c .before .before .before .args in
     rw (c .before .before .match .keys3)
@@ -34,7 +35,7 @@ row-fault-requires-2 : tie.Need-row-fault-requires-2
 row-fault-requires-2 c κs = search needs
 
 returns-2 : tie.Need-returns-2
-unfolding recordChecks kindOf isOther hasRow hasVariable hasBudget first stateOf callOf rowChecks variableChecks
+unfolding recordChecks kindOf isUnknown hasRow hasVariable hasBudget first stateOf callOf rowChecks variableChecks
 returns-2 c =
     let a = c .before .before .before .args in
     rw (c .before .before .match .keys4)
@@ -44,15 +45,15 @@ variable-fault-requires-2 : tie.Need-variable-fault-requires-2
 variable-fault-requires-2 c κs = search needs
 
 returns-3 : tie.Need-returns-3
-unfolding recordChecks kindOf isOther hasRow hasVariable hasBudget first stateOf callOf rowChecks
+unfolding recordChecks kindOf isUnknown hasRow hasVariable hasBudget first stateOf callOf rowChecks
 returns-3 c = ⊎-elim (λ k. rw k (c .row-fault .ensures)) (λ k. rw k (c .row-fault .ensures)) (c .before .match .keys1)
 
 returns-4 : tie.Need-returns-4
-unfolding recordChecks kindOf isOther hasRow hasVariable hasBudget first stateOf callOf budgetChecks
+unfolding recordChecks kindOf isUnknown hasRow hasVariable hasBudget first stateOf callOf budgetChecks
 returns-4 c = rw (c .before .match .keys2) (c .budget-fault .ensures)
 
 returns-5 : tie.Need-returns-5
-unfolding recordChecks kindOf isOther hasRow hasVariable hasBudget first stateOf callOf variableChecks budgetChecks
+unfolding recordChecks kindOf isUnknown hasRow hasVariable hasBudget first stateOf callOf variableChecks budgetChecks
 returns-5 c =
     let e = c .before in
     let a = e .before .before .before .args in
@@ -61,7 +62,7 @@ returns-5 c =
     (c .budget-fault2 .ensures))
 
 returns-6 : tie.Need-returns-6
-unfolding recordChecks kindOf isOther hasRow hasVariable hasBudget first stateOf callOf rowChecks variableChecks
+unfolding recordChecks kindOf isUnknown hasRow hasVariable hasBudget first stateOf callOf rowChecks variableChecks
 returns-6 c =
     let e = c .before in
     let a = e .before .before .before .args in
@@ -70,7 +71,7 @@ returns-6 c =
     (c .variable-fault2 .ensures))
 
 returns-7 : tie.Need-returns-7
-unfolding recordChecks kindOf isOther hasRow hasVariable hasBudget first stateOf callOf
+unfolding recordChecks kindOf isUnknown hasRow hasVariable hasBudget first stateOf callOf
 returns-7 c =
     let r = c .match .rest in
     let a = c .before .args in
