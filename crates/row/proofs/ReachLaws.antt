@@ -26,7 +26,7 @@ use Rattle.model.specs.Box.{at, isEmpty, lower, upper}
 use Rattle.model.proofs.BoxLaws.{max-i, max-l, max-r, ≤ℤ-antisymm, ≤ℤ-trans}
 use Rattle.row.specs.Activity.{greatest, maxTerm, minActivity, minTerm, termWidth, widestTerm}
 use Rattle.row.specs.Outcome.{changed, isUnchanged, unchanged}
-use Rattle.row.specs.Propagation.{Propagated, impliedBox, newLower, newUpper, propagateRow, rowMoves, stays, staysAt}
+use Rattle.row.specs.Propagation.{PropagatedRow, impliedBox, newLower, newUpper, propagateRow, rowMoves, stays, staysAt}
 use Rattle.row.specs.ValidRow.{ValidCoefs, ValidRow}
 use Rattle.row.proofs.ActivityLaws.{maxTerm-nonpos, maxTerm-pos, minTerm-nonpos, minTerm-pos}
 use Rattle.row.proofs.BoundLaws.{eq→stays, le-newUpper, lower-le-newLower, newLower-le, newLower-nonneg, newUpper-le-upper, newUpper-nonpos, stays→eq}
@@ -189,7 +189,7 @@ module _ (n : ℕ) (A : List ℤ) (b : ℤ) (B : List ℤ) where
     where
       go : T (all n (staysAt A b L B)) ⊎ T (not (all n (staysAt A b L B)))
           → not (isUnchanged (cond (all n (staysAt A b L B)) unchanged changed)) ≡ false
-          → _≡_ {A = Propagated} (record { outcome = cond (all n (staysAt A b L B)) unchanged changed; box = impliedBox n A b L B }) (record { outcome = unchanged; box = B })
+          → _≡_ {A = PropagatedRow} (record { outcome = cond (all n (staysAt A b L B)) unchanged changed; box = impliedBox n A b L B }) (record { outcome = unchanged; box = B })
       go (inl t) e = rw (T→true (all n (staysAt A b L B)) t, stays-box n A b L B len t)
       go (inr t) e = absurd (true≢false (rw (T→false (all n (staysAt A b L B)) t) at e))
 
