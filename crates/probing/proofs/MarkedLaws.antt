@@ -112,6 +112,6 @@ marked-probed {n} {m} {B} {C} {R} {across} {signs} {marks} k budget t t′ r {Q}
     let q : Q ≡ probe k budget n m (rowsOf C R) B t .box = sym (probing-box r Q t′) ∙ ap (λ (w : Probed). w .box) e in
     record {
       index = y;
-      clean = clean-narrower (v .some) p (rw q (probe-narrower k budget m C R t f p)) (x .clean) u;
+      clean = clean-narrower (v .some) p (rw q (probe-narrower k budget m (rowsOf C R) t f p)) (x .clean) u;
       len = l ∙ x .len;
     }
