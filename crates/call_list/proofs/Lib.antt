@@ -1,3 +1,5 @@
+pub mod Buffers
 pub mod Held
 pub mod Lent
+pub mod Locals
 pub mod Running
