@@ -10,8 +10,8 @@
  * It lives in the caller's memory, in flat buffers; nothing is kept between calls.
  *
  *     buffer   type       count   what                                            range of each number
- *     bounds   int32_t    2n      l0 u0 l1 u1 ..: lower and upper bounds, "the    -32,768 .. 32,767
- *                                 box"
+ *     bounds   int32_t    2n      l0 u0 l1 u1 ..: lower and upper bounds;         -32,768 .. 32,767
+ *                                 together they are the box
  *     coefs    int32_t    m*n     the rows' coefficients, row after row           -1,000,000 .. 1,000,000
  *     rhs      int32_t    m       the rows' right-hand sides                      -1,000,000,000 .. 1,000,000,000
  *     table    uint8_t    4n^2    the implication table: byte p*2n + q is 1       0 or 1
@@ -31,7 +31,7 @@
  *
  * WHAT IS PROMISED, and proved for every input: each call does exactly what the specification
  * (document 01) says; the integer points after it are those before it, and no fractional point is
- * added; "infeasible" is said only where no integer point exists.
+ * added; a call answers INFEASIBLE only where no integer point exists.
  *
  * REFUSALS. Every function returns ASTROLABE_OK (0), or the number of the first check that fails, in
  * the order of the numbers. On a refusal no lent number changes, the answer's places among them. All
@@ -153,8 +153,8 @@ uint32_t astrolabe_propagate(size_t n, size_t m,
 
 /*
  * Probes the free binary variable `variable`: each side v (0, 1) is the box with the variable set to v,
- * propagated with `budget`. Where both sides are feasible, "variable is v" implies what side v fixes of
- * the other free binary variables; that and its contrapositive go into the table.
+ * propagated with `budget`. Where both sides are feasible, the variable being v implies what side v
+ * fixes of the other free binary variables; that and its contrapositive go into the table.
  *
  *     bounds      written   the new box
  *     table       written   bytes go from 0 to 1, where both sides are feasible

@@ -9,7 +9,8 @@ ghost use Prim.Native.Nat.{_<_};
 ghost use lib.ListN.{length, getD};
 ghost use Rattle.semantics.specs.CallList.{runList};
 ghost use Rattle.semantics.specs.State.{stateOf};
-ghost use Rattle.semantics.specs.TwoLists.{CountsAddUp, Demand3Lists};
+ghost use Rattle.semantics.specs.TwoLists.{CountsAddUp, Demand3Lists, ListMeans};
+ghost use Rattle.semantics.specs.TwoRuns.{EveryModelHandedIn};
 ghost use Rattle.reducer.specs.CallLists.{listRun};
 ghost use Rattle.call_list.specs.Records.{Runs, noCall, numbersOf, runNext};
 
@@ -86,7 +87,8 @@ pub fn run(
     calls: &[Call],
 ) -> RunAnswer
     ensures defined { λ r. ⌜ listRun r (stateOf n m (now (bounds .exit)) (now (coefs .exit)) (now (rhs .exit)) (now (table .exit))) ≡ runList (stateOf n m (now (bounds .entry)) (now (coefs .entry)) (now (rhs .entry)) (now (table .entry))) (numbersOf (now (calls .entry))) ⌝ }
-    ensures demand3 { λ r. ⌜ Demand3Lists ⌝ }
+    ensures meaning { λ r. ⌜ ListMeans (stateOf n m (now (bounds .entry)) (now (coefs .entry)) (now (rhs .entry)) (now (table .entry))) (listRun r (stateOf n m (now (bounds .exit)) (now (coefs .exit)) (now (rhs .exit)) (now (table .exit)))) ⌝ }
+    ensures demand3 { λ r. ⌜ EveryModelHandedIn × Demand3Lists ⌝ }
     ensures sum { λ r. ⌜ CountsAddUp ⌝ }
 {
     let mut answer = run_none(n, m, bounds, coefs, rhs, table);

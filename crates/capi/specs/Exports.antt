@@ -1,6 +1,6 @@
 -- The calls of the C interface: what each returns, and every lent buffer afterwards. Each is the open call of its name behind one
 -- check more, the length of the answer buffer A. "A wrong answer length is check 5, with the other lengths": so what comes before 5
--- still comes first, and nothing else is done.
+-- still comes first, and nothing else is done. Words in quotation marks are issue 9's, which fixed this interface.
 use Prim.Native.Nat.{ℕ}
 use lib.Dec.{eqb, leb}
 use lib.IntN.{ℤ}

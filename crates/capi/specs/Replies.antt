@@ -1,5 +1,6 @@
 -- What a call of the C interface says: the number that it returns and the six numbers of its answer, for each answer of the calls
 -- behind it. A reply is `Refused` with the number of the failed check, or `Numbers` with the six.
+-- Words in quotation marks are issue 9's, which fixed this interface.
 use Prim.Native.Nat.{ℕ}
 use mathlib.Core.Bool.{Bool, cond}
 use mathlib.Core.List.{List, [], _∷_}

@@ -1,1 +1,3 @@
 pub mod ReductionLaws
+pub mod OutputLaws
+pub mod WorkedOutput

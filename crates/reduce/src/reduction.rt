@@ -6,6 +6,7 @@ ghost use mathlib.Core.Path.{_≡_};
 ghost use Rattle.semantics.specs.State.{State};
 ghost use Rattle.rounds.specs.Answers.{roundsAnswer};
 ghost use Rattle.reduce.specs.Answers.{Ready, answerText};
+ghost use Rattle.reduce.specs.Meaning.{OutputMeans};
 ghost use Rattle.reduce.specs.Output.{output, textOf};
 
 const ROUNDS: u32 = 8;
@@ -29,7 +30,7 @@ fn answer_of(rounds: RoundsAnswer) -> Answer
     }
 }
 
-// Reads the book into the lent buffers and makes the rounds there.
+// Reads the book into the lent buffers and makes the rounds there. `meaning`: what `output` of the book means for its points.
 pub fn solve(
     n: usize,
     m: usize,
@@ -40,7 +41,8 @@ pub fn solve(
     table: &mut [u8],
 ) -> Answer
     requires { ⌜ Ready n m (now book) (now bounds) (now coefs) (now rhs) (now table) ⌝ }
-    ensures { λ r. ⌜ answerText r n m (now (bounds .exit)) (now (coefs .exit)) (now (rhs .exit)) (now (table .exit)) ≡ output (now (book .entry)) ⌝ }
+    ensures text { λ r. ⌜ answerText r n m (now (bounds .exit)) (now (coefs .exit)) (now (rhs .exit)) (now (table .exit)) ≡ output (now (book .entry)) ⌝ }
+    ensures meaning { λ r. ⌜ OutputMeans (now (book .entry)) ⌝ }
 {
     if let SizesAnswer::Refused(number) = read(book, bounds, coefs, rhs) {
         return Answer::Refused(number);

@@ -1,4 +1,4 @@
--- What the call list's answer stands for in the semantics.
+-- What the call list's answer stands for in the semantics. The reading is injective (`open-answers-injective`).
 use Rattle.semantics.specs.CallList as lists
 use Rattle.semantics.specs.State.{State}
 use Rattle.step.specs.Classes.{countsOf}

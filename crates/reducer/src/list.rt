@@ -6,7 +6,8 @@ use step::run_record;
 ghost use mathlib.Core.Path.{_≡_};
 ghost use Rattle.semantics.specs.CallList.{listFault, runList};
 ghost use Rattle.semantics.specs.State.{stateOf};
-ghost use Rattle.semantics.specs.TwoLists.{CountsAddUp, Demand3Lists};
+ghost use Rattle.semantics.specs.TwoLists.{CountsAddUp, Demand3Lists, ListMeans};
+ghost use Rattle.semantics.specs.TwoRuns.{EveryModelHandedIn};
 ghost use Rattle.reducer.specs.CallLists.{listRun};
 
 // 01's answer of a run sheet: refused N as a whole, or the four counts.
@@ -52,7 +53,8 @@ fn list_fault(
     0
 }
 
-// Runs a flat list of call records, four numbers each: kind, row, variable, budget. It goes on after a refused call.
+// Runs a flat list of call records, four numbers each: kind, row, variable, budget. It goes on after a refused call. `meaning`: what
+// the whole list means for the points and the table. `demand3` and `sum` hold of any lists, so that a caller can take them from here.
 pub fn run(
     n: usize,
     m: usize,
@@ -63,7 +65,8 @@ pub fn run(
     calls: &[u32],
 ) -> RunAnswer
     ensures defined { λ r. ⌜ listRun r (stateOf n m (now (bounds .exit)) (now (coefs .exit)) (now (rhs .exit)) (now (table .exit))) ≡ runList (stateOf n m (now (bounds .entry)) (now (coefs .entry)) (now (rhs .entry)) (now (table .entry))) (now (calls .entry)) ⌝ }
-    ensures demand3 { λ r. ⌜ Demand3Lists ⌝ }
+    ensures meaning { λ r. ⌜ ListMeans (stateOf n m (now (bounds .entry)) (now (coefs .entry)) (now (rhs .entry)) (now (table .entry))) (listRun r (stateOf n m (now (bounds .exit)) (now (coefs .exit)) (now (rhs .exit)) (now (table .exit)))) ⌝ }
+    ensures demand3 { λ r. ⌜ EveryModelHandedIn × Demand3Lists ⌝ }
     ensures sum { λ r. ⌜ CountsAddUp ⌝ }
 {
     let fault = list_fault(n, m, bounds, coefs, rhs, table, calls);

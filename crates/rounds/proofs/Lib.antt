@@ -1,1 +1,2 @@
 pub mod RoundsLaws
+pub mod RoundsAnswers

@@ -2,6 +2,7 @@
 -- still to be made.
 use Prim.Native.Nat.{_*_, _+_, _-_, _<_, _≤_, suc, zero, ℕ}
 use borrow.Author.Tests.{ne-eqb}
+use lib.Dec.{T, eqb, eqb→eq}
 use lib.IntN.{ℤ}
 use lib.ListN.{length}
 use mathlib.Core.Bool.{Bool, _||_, cond, false, or-assoc, or-false, or-true, true}
@@ -9,14 +10,19 @@ use mathlib.Core.List.{List, [], _++_, _∷_, append-assoc, append-nil}
 use mathlib.Core.Path.{_∙_, _≡_, ap, ap₂, refl, subst, sym}
 use native.Mathlib.Numerals.{add-one}
 use native.Mathlib.Omega.{arith}
+use Rattle.integer.proofs.Tests.{cond-ind}
 use Rattle.model.specs.Box.{isEmpty}
+use Rattle.model.proofs.BoxLaws.{isEmpty-test}
 use Rattle.semantics.specs.Perform.{act}
-use Rattle.semantics.specs.Points.{ValidState}
+use Rattle.semantics.specs.Points.{PointOf, TableHolds, ValidState}
 use Rattle.semantics.specs.Run.{CallClass, classOf, run, step}
 use Rattle.semantics.specs.State.{Call, callOf, kindOf, State, withRow}
+use Rattle.semantics.proofs.Accepted.{accepted-valid}
 use Rattle.semantics.proofs.CallLaws.{step-ind}
+use Rattle.semantics.proofs.Demand2.{no-point}
+use Rattle.semantics.proofs.ImplicationLaws.{zeros-hold}
 use Rattle.semantics.proofs.Preserved.{Preserves, run-preserves}
-use Rattle.rounds.specs.Rounds.{Rounds, RoundsAnswer, RoundsEnding, SamePoints, after, andThen, anyChange, atLimit, dropCall, drops, ended, infeasible, isChange, nothingChanged, probes, refusedRounds, round, roundsFault, roundsFrom, runRounds, settleCall, sharpens, unlessEmpty, upwards}
+use Rattle.rounds.specs.Rounds.{Rounds, RoundsAnswer, RoundsEnding, RoundsRun, SamePoints, after, andThen, anyChange, atLimit, dropCall, drops, ended, infeasible, isChange, nothingChanged, probes, refusedRounds, round, roundsFault, roundsFrom, runRounds, settleCall, sharpens, unlessEmpty, upwards}
 
 -- ---- where calls lead
 
@@ -231,16 +237,69 @@ module _ {s t u : State} {limit made : ℕ} {b : Bool} (w : Rest s limit made t)
   pub goes-on : isEmpty (u .n) (u .box) ≡ false → b ≡ true → Rest s limit (made + 1) u
   goes-on e f = record { within = omega arith; valid = leads-valid p (w .valid); finishes = rw (e, f) at round-made }
 
+-- ---- what they mean
+
+-- an ending other than None
+abbrev NotNone : RoundsEnding → Type 0
+NotNone infeasible = ⊥
+NotNone nothingChanged = Unit {0}
+NotNone atLimit = Unit {0}
+
+-- r ends at None only where its calls leave an empty box
+abbrev NoneEmpty : State → Rounds → Type 0
+NoneEmpty s r = r .ending ≡ infeasible → T (isEmpty (run s (r .calls) .n) (run s (r .calls) .box))
+
+none-empty : (left made : ℕ) (s : State) → NoneEmpty s (roundsFrom left made s)
+unfolding roundsFrom after
+none-empty zero made s = λ e. absurd (subst NotNone e tt)
+none-empty (suc left) made s =
+    let r = run s (round s) in
+    let more = roundsFrom left (suc made) r in
+    cond-ind (isEmpty (r .n) (r .box)) _ _ (NoneEmpty s) (λ t _. t)
+    (λ _. cond-ind (anyChange s (round s)) _ _ (NoneEmpty s)
+    (λ _ e. rw (run-append s (round s) (more .calls)) (none-empty left (suc made) r e)) (λ _ e. absurd (subst NotNone e tt)))
+
+-- the rounds were not refused
+abbrev Ended : RoundsAnswer → Type 0
+Ended (refusedRounds number) = ⊥
+Ended (ended e k) = Unit {0}
+
+abbrev endingOf : RoundsAnswer → RoundsEnding
+endingOf (refusedRounds number) = atLimit
+endingOf (ended e k) = e
+
+pub rounds-none : (limit : ℕ) (s : State) (k : ℕ) → runRounds limit s .answer ≡ ended infeasible k → (x : List ℤ) → PointOf s x → ⊥
+unfolding runRounds roundsFault
+rounds-none limit s k = cond-ind (eqb (roundsFault s) 0) _ _ (λ (r : RoundsRun). r .answer ≡ ended infeasible k → (x : List ℤ) → PointOf s x → ⊥)
+    (λ t e x p.
+    let cs = roundsFrom limit 0 s .calls in
+    let o = run-preserves s cs in
+    let v = o .valid (accepted-valid s (eqb→eq (roundsFault s) 0 t)) in
+    no-point (v .model .some) (isEmpty-test (run s cs .n) (run s cs .box) .0 (none-empty limit 0 s (ap endingOf e))) (o .points x .1 p))
+    (λ _ e. absurd (subst Ended (sym e) tt))
+
+pub rounds-mean : (limit : ℕ) (s : State) → SamePoints s (run s (runRounds limit s .calls)) (runRounds limit s .answer)
+rounds-mean limit s =
+    let cs = runRounds limit s .calls in
+    let p = run-preserves s cs in
+    let holds : (x : List ℤ) → PointOf s x → TableHolds (s .n) (s .table) x → TableHolds (s .n) (run s cs .table) x =
+    (λ x o t. rw (p .sizes .0) at (p .holds x o t)) in
+    record {
+      points = p .points;
+      fractional = p .fractional;
+      noPoint = rounds-none limit s;
+      holds = holds;
+      implied = λ e x o. holds x o (rw e (zeros-hold (s .n) (4 * (s .n * s .n)) x));
+    }
+
 -- ---- the call
 
 module _ (limit : ℕ) (s : State) where
   abbrev pub Answers : RoundsAnswer → State → Type 0
-  Answers a t = (a ≡ runRounds limit s .answer) × ((t ≡ run s (runRounds limit s .calls)) × SamePoints s t)
+  Answers a t = (a ≡ runRounds limit s .answer) × ((t ≡ run s (runRounds limit s .calls)) × SamePoints s t a)
 
   answers : {a : RoundsAnswer} {t : State} → a ≡ runRounds limit s .answer → t ≡ run s (runRounds limit s .calls) → Answers a t
-  answers e f =
-      let p = run-preserves s (runRounds limit s .calls) in
-      (e, (f, subst (SamePoints s) (sym f) (record { points = p .points; fractional = p .fractional })))
+  answers e f = (e, (f, rw (e, f) (rounds-mean limit s)))
 
   pub refuses : {number : ℕ} → number ≡ roundsFault s → (number ≡ 0 → ⊥) → Answers (refusedRounds number) s
   unfolding runRounds run

@@ -1,4 +1,4 @@
--- What the enums that the code returns stand for in the definitions.
+-- What the enums that the code returns stand for in the definitions. The reading is injective (`rounds-answer-injective`).
 use Rattle.rounds.specs.Rounds as defined
 use Rattle.rounds.specs.declared.RoundsAnswer.{RoundsAnswer}
 use Rattle.rounds.specs.declared.RoundsAnswer.the-variants.{Refused, Infeasible, NothingChanged, AtLimit}

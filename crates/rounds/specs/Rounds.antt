@@ -1,15 +1,17 @@
 -- The rounds of `reduce` (01, "Book"): "A round is: settle with 1,000 passes; drop each row; sharpen each row at each variable free
 -- then; probe each variable free then with 1,000. Rows and variables go upwards. It ends after a round that changed nothing, after
 -- 8 rounds, or at None."
-use Prim.Native.Nat.{suc, zero, ℕ}
+use Prim.Native.Nat.{_*_, suc, zero, ℕ}
 use lib.Dec.{eqb}
 use lib.IntN.{ℤ}
+use lib.ListN.{replicate}
 use mathlib.Core.Bool.{Bool, _||_, cond, false, true}
 use mathlib.Core.List.{List, [], _++_, _∷_}
 use mathlib.Core.Logic.{_↔_}
+use mathlib.Core.Path.{_≡_}
 use Rattle.model.specs.Box.{isEmpty, isFree}
 use Rattle.model.specs.Checks.{modelFault, table}
-use Rattle.semantics.specs.Points.{FractionalPointOf, PointOf}
+use Rattle.semantics.specs.Points.{FractionalPointOf, PointOf, TableHolds}
 use Rattle.semantics.specs.Run.{CallClass, changedCall, classOf, infeasibleCall, refusedCall, run, step, unchangedCall}
 use Rattle.semantics.specs.State.{Call, State, callOf}
 
@@ -83,7 +85,8 @@ pub record Rounds : Type 0 where
 unfoldable pub after : List Call → Rounds → Rounds
 after cs r = record { ending = r .ending; rounds = r .rounds; calls = cs ++ r .calls }
 
--- `left` rounds may still be made, `made` are made. "The number .. includes the last, unchanged round", and the round in which None came.
+-- `left` rounds may still be made, `made` are made. The number of rounds includes the last, unchanged round, and the round in which
+-- None came (D-13).
 unfoldable pub roundsFrom : (left : ℕ) → ℕ → State → Rounds
 roundsFrom zero made s = record { ending = atLimit; rounds = made; calls = [] }
 roundsFrom (suc left) made s =
@@ -113,7 +116,12 @@ runRounds limit s =
     cond (eqb (roundsFault s) 0) (record { answer = ended (r .ending) (r .rounds); calls = r .calls })
     (record { answer = refusedRounds (roundsFault s); calls = [] })
 
--- demand 2 of the whole: the integer points are those of the model handed in, and no fractional point is added
-pub record SamePoints (s r : State) : Type 0 where
+-- demands 2 and 3 of the whole, from s to r with the answer a: the integer points are those of the model handed in, and no
+-- fractional point is added; None means that no integer point exists
+pub record SamePoints (s r : State) (a : RoundsAnswer) : Type 0 where
   pub points : (x : List ℤ) → PointOf r x ↔ PointOf s x
   pub fractional : (x : List ℤ) (d : ℕ) → FractionalPointOf r x d → FractionalPointOf s x d
+  pub noPoint : (rounds : ℕ) → a ≡ ended infeasible rounds → (x : List ℤ) → PointOf s x → ⊥
+  -- each recorded implication holds at all of them, where those recorded before do; all do where the table was all 0
+  pub holds : (x : List ℤ) → PointOf s x → TableHolds (s .n) (s .table) x → TableHolds (s .n) (r .table) x
+  pub implied : s .table ≡ replicate (4 * (s .n * s .n)) 0 → (x : List ℤ) → PointOf s x → TableHolds (s .n) (r .table) x

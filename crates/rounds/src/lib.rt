@@ -176,7 +176,7 @@ pub fn run(
 ) -> RoundsAnswer
     ensures answer { λ r. ⌜ roundsAnswer r ≡ runRounds limit (stateOf n m (now (bounds .entry)) (now (coefs .entry)) (now (rhs .entry)) (now (table .entry))) .answer ⌝ }
     ensures left { λ r. ⌜ stateOf n m (now (bounds .exit)) (now (coefs .exit)) (now (rhs .exit)) (now (table .exit)) ≡ ran (stateOf n m (now (bounds .entry)) (now (coefs .entry)) (now (rhs .entry)) (now (table .entry))) (runRounds limit (stateOf n m (now (bounds .entry)) (now (coefs .entry)) (now (rhs .entry)) (now (table .entry))) .calls) ⌝ }
-    ensures meaning { λ r. ⌜ SamePoints (stateOf n m (now (bounds .entry)) (now (coefs .entry)) (now (rhs .entry)) (now (table .entry))) (stateOf n m (now (bounds .exit)) (now (coefs .exit)) (now (rhs .exit)) (now (table .exit))) ⌝ }
+    ensures meaning { λ r. ⌜ SamePoints (stateOf n m (now (bounds .entry)) (now (coefs .entry)) (now (rhs .entry)) (now (table .entry))) (stateOf n m (now (bounds .exit)) (now (coefs .exit)) (now (rhs .exit)) (now (table .exit))) (roundsAnswer r) ⌝ }
 {
     let fault = model::model_table_fault(n, m, bounds, coefs, rhs, table);
     if fault != 0 {

@@ -41,7 +41,7 @@ act-none removes s c a =
     rw (remove-redundant-row-infeasible (s .n) (rowOf (s .n) (s .coefs) (c .row)) (at (s .rhs) (c .row)) (s .box)) (isEmpty-test (s .n) (s .box))
 act-none other s c a = absurd (a .kind)
 
-no-point : {n m : ℕ} {B C R x : List ℤ} → 0 < n → B ≡ emptyBox n → IntegerPoint n m B C R x → ⊥
+pub no-point : {n m : ℕ} {B C R x : List ℤ} → 0 < n → B ≡ emptyBox n → IntegerPoint n m B C R x → ⊥
 no-point {n} {x = x} h e p = not-in-empty n (boxAt n x) h (nonEmpty-at n x) (rw e at (in→Inside (p .inside)))
 
 -- ---- the numbers of an answer; t is the table afterwards

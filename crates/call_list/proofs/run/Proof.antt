@@ -53,7 +53,9 @@ use denote.Exit.{yes}
 use borrow.Author.Tests.{ltb-true, ltb-false}
 use Rattle.semantics.specs.CallList.{ListRun, runList}
 use Rattle.semantics.specs.State.{State, stateOf}
-use Rattle.semantics.proofs.CallLists.{counts-add-up, demand-3-lists}
+use Rattle.semantics.specs.TwoLists.{ListMeans}
+use Rattle.semantics.proofs.CallLists.{counts-add-up, demand-3-lists, list-means}
+use Rattle.semantics.proofs.Demand3.{handed-in}
 use Rattle.reducer.specs.CallLists.{listRun}
 use Rattle.reducer.specs.declared.list.RunAnswer.{RunAnswer}
 use Rattle.reducer.proofs.list.RunAnswer as S
@@ -133,13 +135,15 @@ ref = tyRef erased mut (tyInt w32)
 abbrev refb : Ty
 refb = tyRef erased mut (tyInt w8)
 
--- the three clauses of the contract
-tells : {M : Type 1} {𝓤 : URA M} {H : Heap 𝓤} {A : Atoms 𝓤} {K : Type 0} {W : Given 𝓤 H A} {Γ : List (Item 𝓤)} → K → {φ ψ χ : Type 0} {P : SProp 𝓤} → φ → ψ → χ
-    → Step K W Γ (prop P) Γ (prop (sep 𝓤 P (sep 𝓤 (fact 𝓤 φ) (sep 𝓤 (fact 𝓤 ψ) (fact 𝓤 χ)))))
-tells {𝓤 = 𝓤} t {φ} {ψ} {χ} {P} x y z = step (λ s. record {
+-- the four clauses of the contract
+tells : {M : Type 1} {𝓤 : URA M} {H : Heap 𝓤} {A : Atoms 𝓤} {K : Type 0} {W : Given 𝓤 H A} {Γ : List (Item 𝓤)} → K → {φ ψ χ ω : Type 0} {P : SProp 𝓤} → φ → ψ → χ → ω
+    → Step K W Γ (prop P) Γ (prop (sep 𝓤 P (sep 𝓤 (fact 𝓤 φ) (sep 𝓤 (fact 𝓤 ψ) (sep 𝓤 (fact 𝓤 χ) (fact 𝓤 ω))))))
+tells {𝓤 = 𝓤} t {φ} {ψ} {χ} {ω} {P} x y z w = step (λ s. record {
   prf =
-      via 𝓤 (sep 𝓤 (sep 𝓤 (sep 𝓤 P (fact 𝓤 φ)) (fact 𝓤 ψ)) (fact 𝓤 χ)) ((says t z $ says t y $ says t x $ s) .prf)
-      (via 𝓤 (sep 𝓤 (sep 𝓤 P (fact 𝓤 φ)) (sep 𝓤 (fact 𝓤 ψ) (fact 𝓤 χ))) (assoc∗ 𝓤 (sep 𝓤 P (fact 𝓤 φ)) (fact 𝓤 ψ) (fact 𝓤 χ)) (assoc∗ 𝓤 P (fact 𝓤 φ) (sep 𝓤 (fact 𝓤 ψ) (fact 𝓤 χ))));
+      via 𝓤 (sep 𝓤 (sep 𝓤 (sep 𝓤 (sep 𝓤 P (fact 𝓤 φ)) (fact 𝓤 ψ)) (fact 𝓤 χ)) (fact 𝓤 ω)) ((says t w $ says t z $ says t y $ says t x $ s) .prf)
+      (via 𝓤 (sep 𝓤 (sep 𝓤 (sep 𝓤 P (fact 𝓤 φ)) (fact 𝓤 ψ)) (sep 𝓤 (fact 𝓤 χ) (fact 𝓤 ω))) (assoc∗ 𝓤 (sep 𝓤 (sep 𝓤 P (fact 𝓤 φ)) (fact 𝓤 ψ)) (fact 𝓤 χ) (fact 𝓤 ω))
+      (via 𝓤 (sep 𝓤 (sep 𝓤 P (fact 𝓤 φ)) (sep 𝓤 (fact 𝓤 ψ) (sep 𝓤 (fact 𝓤 χ) (fact 𝓤 ω)))) (assoc∗ 𝓤 (sep 𝓤 P (fact 𝓤 φ)) (fact 𝓤 ψ) (sep 𝓤 (fact 𝓤 χ) (fact 𝓤 ω)))
+      (assoc∗ 𝓤 P (fact 𝓤 φ) (sep 𝓤 (fact 𝓤 ψ) (sep 𝓤 (fact 𝓤 χ) (fact 𝓤 ω))))));
 })
 
 -- what the four buffers hold: box, coefficients, right sides, table
@@ -297,7 +301,7 @@ module _ {M : Type 1} (𝓤 : URA M) (H : Heap 𝓤) (A : Atoms 𝓤) (W : Given
   exits a u zs is e l₀ l₁ l₂ l₃ =
       qed W (‵ (flft κ₀ q₀) ∷ ‵ (flft κ₁ q₁) ∷ ‵ (flft κ₂ q₂) ∷ ‵ (flft κ₃ q₃) ∷ ‵ (flft κ₄ q₄) ∷ ‵ (Mut₀ (zs .B) (length (xs .B))) ∷ ‵ (Mut₁ (zs .C) (length (xs .C))) ∷ ‵ (Mut₂ (zs .R) (length (xs .R))) ∷ ‵ (Mut₃ (zs .T) (length (xs .T))) ∷ ‵ Shr ∷ []) ∵
       suffices ! _ (ends-at 𝓤 H A run.ended stayed (run.clauses 𝓤 H A at-mem go) W bound u a (tt, (tt, (zs .B, (zs .C, (zs .R, (zs .T, (tt, tt))))))) (tt, (tt, (l₀, (l₁, (l₂, (l₃, (tt, tt)))))))) $
-      tells ! e demand-3-lists counts-add-up $
+      tells ! e (subst (ListMeans (state′ xs)) (sym e) (list-means (state′ xs) (numbersOf ys))) (handed-in, demand-3-lists) counts-add-up $
       nothing ! $ move ! (5 ∷ 0 ∷ []) $ join ! $ move ! (4 ∷ 0 ∷ []) $ join ! $ move ! (3 ∷ 0 ∷ []) $ join ! $ move ! (2 ∷ 0 ∷ []) $ join ! $ move ! (1 ∷ 0 ∷ []) $ join ! $ frame ! $
       nothing ! $ move ! (5 ∷ 0 ∷ []) $ fjoin ! $ move ! (4 ∷ 0 ∷ []) $ fjoin ! $ move ! (3 ∷ 0 ∷ []) $ fjoin ! $ move ! (2 ∷ 0 ∷ []) $ fjoin ! $ move ! (1 ∷ 0 ∷ []) $ fjoin ! $
       owned ! usize (Is usize) (uint-makes 𝓤 H A W w64) m _ (refl, m-fits) $ fjoin ! $ owned ! usize (Is usize) (uint-makes 𝓤 H A W w64) n _ (refl, n-fits) $ fjoin ! $ frame ! $

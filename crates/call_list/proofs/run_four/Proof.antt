@@ -46,7 +46,8 @@ use denote.Triple.Walked.{says, Stays, stay-none, gave-slice, walkOf, goes-none,
 use denote.Exit.{yes}
 use Rattle.semantics.specs.CallList.{runList}
 use Rattle.semantics.specs.State.{stateOf}
-use Rattle.semantics.specs.TwoLists.{CountsAddUp, Demand3Lists}
+use Rattle.semantics.specs.TwoLists.{CountsAddUp, Demand3Lists, ListMeans}
+use Rattle.semantics.specs.TwoRuns.{EveryModelHandedIn}
 use Rattle.reducer.specs.CallLists.{listRun}
 use Rattle.reducer.specs.declared.list.RunAnswer.{RunAnswer}
 use Rattle.reducer.proofs.list.RunAnswer as S
@@ -151,6 +152,9 @@ module _ {M : Type 1} (𝓤 : URA M) (H : Heap 𝓤) (A : Atoms 𝓤) (W : Given
   abbrev Left : Type 0
   Left = Unit {0} × (List ℤ × (List ℤ × (List ℤ × (List ℕ × (Unit {0} × Unit {0})))))
 
+  abbrev Meaning : RunAnswer → Left → Type 0
+  Meaning a z = ListMeans (stateOf n m (now x₀) (now x₁) (now x₂) (now x₃)) (listRun a (stateOf n m (z .1 .0) (z .1 .1 .0) (z .1 .1 .1 .0) (z .1 .1 .1 .1 .0)))
+
   abbrev Said : RunAnswer → Left → Type 0
   Said a z = listRun a (stateOf n m (z .1 .0) (z .1 .1 .0) (z .1 .1 .1 .0) (z .1 .1 .1 .1 .0)) ≡ runList (stateOf n m (now x₀) (now x₁) (now x₂) (now x₃)) (numbersOf ys)
 
@@ -250,7 +254,7 @@ module _ {M : Type 1} (𝓤 : URA M) (H : Heap 𝓤) (A : Atoms 𝓤) (W : Given
           move ! (41 ∷ 43 ∷ 45 ∷ 47 ∷ 2 ∷ 40 ∷ 42 ∷ 44 ∷ 46 ∷ 0 ∷ []) $ cut (Asks l₈ ν δ) (raw (Run 𝓤 H A at-mem go .pre (to l₈ ν δ)) ∷ []) _ (asks l₈ ν δ) $
           calls-at ! fm (Run 𝓤 H A at-mem go) known (to l₈ ν δ) (and-then ! (load ! (from ! (stop !)) (look ! 35 refl)) (and-then ! (load ! (from ! (stop !)) (look ! 33 refl)) (and-then ! (load ! (from ! (stop !)) (look ! 18 refl)) (and-then ! (load ! (from ! (stop !)) (look ! 14 refl)) (and-then ! (load ! (from ! (stop !)) (look ! 10 refl)) (and-then ! (load ! (from ! (stop !)) (look ! 6 refl)) (and-then ! (load ! (from ! (stop !)) (look ! 2 refl)) (no-more !)))))))) (λ u.
           use1 W (later (some (λ (a : RunAnswer). ((‵ (flft κ₀ q₀) ⊛ ‵ (flft κ₁ q₁) ⊛ ‵ (flft κ₂ q₂) ⊛ ‵ (flft κ₃ q₃) ⊛ ‵ (flft (ν ∷ []) fullShare) ⊛ ‵ ftrue) ⊛ ‵ (S.the-row .own a (u ∷ []))) ⊛ raw (ensured 𝓤 H A run.ended (run.clauses 𝓤 H A at-mem go) (lfts ν) (args l₈ δ) tt a)))) (id⊢ 𝓤 _) $ await ! tt $ pick ! (λ a. split ! $ move ! (1 ∷ []) $
-          use1 W (some (λ (zs : Unit {0} × (Unit {0} × (List ℤ × (List ℤ × (List ℤ × (List ℕ × (Unit {0} × Unit {0}))))))). ‵ (lasts run.ended (lfts ν) (args l₈ δ) zs) ⊛ raw (fact 𝓤 (Said a (zs .1))) ⊛ raw (fact 𝓤 Demand3Lists) ⊛ raw (fact 𝓤 CountsAddUp))) (id⊢ 𝓤 _) $ pick ! (λ zs. split ! $ move ! (1 ∷ []) $ split ! $ heard ! (Said a (zs .1)) (λ d. lose ! $
+          use1 W (some (λ (zs : Unit {0} × (Unit {0} × (List ℤ × (List ℤ × (List ℤ × (List ℕ × (Unit {0} × Unit {0}))))))). ‵ (lasts run.ended (lfts ν) (args l₈ δ) zs) ⊛ raw (fact 𝓤 (Said a (zs .1))) ⊛ raw (fact 𝓤 (Meaning a (zs .1))) ⊛ raw (fact 𝓤 (EveryModelHandedIn × Demand3Lists)) ⊛ raw (fact 𝓤 CountsAddUp))) (id⊢ 𝓤 _) $ pick ! (λ zs. split ! $ move ! (1 ∷ []) $ split ! $ heard ! (Said a (zs .1)) (λ d. lose ! $
           fsplit ! $ lose ! $ fsplit ! $ lose ! $ fsplit ! $ fsplit ! $ move ! (1 ∷ []) $ feqL ! (λ g₀. move ! (1 ∷ []) $ fsplit ! $ fsplit ! $ move ! (1 ∷ []) $ feqL ! (λ g₁. move ! (1 ∷ []) $ fsplit ! $ fsplit ! $ move ! (1 ∷ []) $ feqL ! (λ g₂. move ! (1 ∷ []) $ fsplit ! $ fsplit ! $ move ! (1 ∷ []) $ feqL ! (λ g₃. move ! (1 ∷ []) $ lose ! $
           move ! (4 ∷ []) $ split ! $ move ! (1 ∷ []) $ peeks ! S.the-row (Is S.the-row) (shows 𝓤 H A S.the-row) a (u ∷ []) (λ is.
           land ! (from ! (stop !)) (init ! 42 refl (EL.lawful S.the-type S′.the-laws 𝓤 H A W tt .typed a _ is .0)) $

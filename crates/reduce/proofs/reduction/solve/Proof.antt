@@ -6,6 +6,7 @@ use Rattle.book.specs.Answers.{sizesAnswer}
 use Rattle.semantics.specs.State.{stateOf}
 use Rattle.reduce.specs.Answers.{answerText}
 use Rattle.reduce.specs.Output.{roundsText, textOf}
+use Rattle.reduce.proofs.OutputLaws.{output-means}
 use Rattle.reduce.proofs.ReductionLaws.{accepted-output, accepted-state, refused-output}
 use Rattle.reduce.proofs.reduction.solve.Statement.{statement}
 use Rattle.reduce.proofs.reduction.solve.Tie as tie
@@ -29,7 +30,7 @@ returns : tie.Need-returns
 unfolding answerText sizesAnswer
 returns c =
     let d = c .before .before .before .before .before .before in
-    refused-output (d .before .before .before .before .before .before .pre) _ (ap sizesAnswer (sym (c .before .number .given .1)) ∙ d .read .ensures .0)
+    (refused-output (d .before .before .before .before .before .before .pre) _ (ap sizesAnswer (sym (c .before .number .given .1)) ∙ d .read .ensures .0), output-means _)
 
 enum-told : tie.Need-enum-told
 enum-told c = search needs
@@ -60,11 +61,13 @@ returns-2 c =
     let a = read .before .before .before .before .before .before .args in
     let h = read .before .before .before .before .before .before .pre in
     let e = ap sizesAnswer (sym (run .before .before .before .before .before .enum-told .given .1)) ∙ read .read .ensures .0 in
-    let left = run .run .last .1 .1 in
-    c .answer-of .ensures (stateOf (a .n) (a .m) (left .0) (left .1 .0) (left .1 .1 .0) (left .1 .1 .1 .0))
-    ∙ ap₂ textOf (run .run .ensures .0) (run .run .ensures .1 .0)
-    ∙ ap roundsText (accepted-state h _ _ e (read .read .ensures .1 .0) (read .read .ensures .1 .1 .0) (read .read .ensures .1 .1 .1 .0))
-    ∙ sym (accepted-output h _ _ e)
+    let left = run .run .last .1 .1 in (
+      c .answer-of .ensures (stateOf (a .n) (a .m) (left .0) (left .1 .0) (left .1 .1 .0) (left .1 .1 .1 .0))
+          ∙ ap₂ textOf (run .run .ensures .0) (run .run .ensures .1 .0)
+          ∙ ap roundsText (accepted-state h _ _ e (read .read .ensures .1 .0) (read .read .ensures .1 .1 .0) (read .read .ensures .1 .1 .1 .0))
+          ∙ sym (accepted-output h _ _ e),
+      output-means _,
+    )
 
 pub solve-spec : {M : Type 1} → statement M
 solve-spec =

@@ -5,13 +5,14 @@ use borrow.Author.Needs.{needs}
 use lib.ListN as lists
 use mathlib.Core.Path.{_∙_, _≡_, sym}
 use native.Mathlib.Omega.{arith}
-use Rattle.semantics.specs.CallList.{recordAt}
+use Rattle.semantics.specs.CallList.{ran, recordAt, refusedList}
 use Rattle.semantics.specs.Points.{ValidState}
 use Rattle.semantics.specs.Run.{noCounts}
 use Rattle.semantics.specs.State.{callOf, State, stateOf}
-use Rattle.semantics.proofs.CallLists.{Along, along-end, along-more, along-start, counts-add-up, demand-3-lists, list-accepted, list-refused}
+use Rattle.semantics.proofs.CallLists.{Along, along-end, along-more, along-start, list-accepted, list-refused}
 use Rattle.step.specs.Classes.{countsOf}
 use Rattle.reducer.specs.CallLists.{listAnswer, listRun}
+use Rattle.reducer.proofs.OpenCallLaws.{list-promised}
 use Rattle.reducer.proofs.list.run.Statement.{statement}
 use Rattle.reducer.proofs.list.run.Tie as tie
 
@@ -46,7 +47,8 @@ unfolding listRun listAnswer
 returns c =
     let s = c .before .before .before .before .before .before .before .before in
     let e = c .before .list-fault .ensures in
-    (sym (list-refused (first s) (s .args .calls .now) (λ z. c .if1 .taken (e ∙ z)) ∙ rw e), (demand-3-lists, counts-add-up))
+    list-promised (first s) (s .args .calls .now) (record { answer = refusedList (c .before .list-fault .result); state = first s })
+    (sym (list-refused (first s) (s .args .calls .now) (λ z. c .if1 .taken (e ∙ z)) ∙ rw e))
 
 -- the list is run
 accepted : (c : tie.Else1 Inv-loop μ-loop) → let s = c .before .before .before .before .before .before .before .before in
@@ -162,11 +164,10 @@ same-length-8 c = let v = c .before .loop .inv .valid in let w = c .before .loop
 returns-2 : tie.Need-returns-2 Inv-loop μ-loop
 unfolding listRun listAnswer
 returns-2 c =
-    let h = c .before in (
-      along-end (first (s h)) (s h .args .calls .now) (state h) (countsOf (h .loop .counts)) (h .loop .i) (h .loop .inv)
-          (c .loop-test .left) (accepted (h .before) .1),
-      (demand-3-lists, counts-add-up),
-    )
+    let h = c .before in
+    list-promised (first (s h)) (s h .args .calls .now) (record { answer = ran (countsOf (h .loop .counts)); state = state h })
+    (along-end (first (s h)) (s h .args .calls .now) (state h) (countsOf (h .loop .counts)) (h .loop .i) (h .loop .inv)
+    (c .loop-test .left) (accepted (h .before) .1))
 
 pub run-spec : {M : Type 1} → statement M
 run-spec =

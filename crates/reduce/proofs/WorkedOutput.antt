@@ -1,0 +1,53 @@
+-- 01's example, whole: `output` of its book of 44 bytes is 01's text, byte for byte. Computed from the definitions. Assumes nothing.
+use mathlib.Core.List.{List, [], _∷_}
+use mathlib.Core.Path.{_≡_, refl}
+use Prim.Native.Nat.{ℕ}
+use Rattle.integer.specs.Division.{ceilDiv, floorDiv}
+use Rattle.integer.specs.Index.{all, sum}
+use Rattle.integer.specs.Order.{eqZ, maxZ, minZ}
+use Rattle.model.specs.Box.{boxOf, emptyBox, isEmpty, isFree, sameList}
+use Rattle.model.specs.Checks.{bits, first, inRange, lengthChecks, modelChecks, modelFault, numberChecks, ordered, sizeChecks, tableByteChecks, tableLengthChecks}
+use Rattle.model.specs.Point.{rowOf}
+use Rattle.row.specs.Activity.{maxActivity, maxTerm, minActivity, minTerm}
+use Rattle.row.specs.Outcome.{isChanged, isInfeasible}
+use Rattle.row.specs.Propagation.{impliedBox, newLower, newUpper, propagateRow, stays}
+use Rattle.row.specs.Redundancy.{removeRedundantRow, zeroRow}
+use Rattle.row.specs.Tightening.{tightenAt, tightenCoefficient}
+use Rattle.semantics.specs.CallChecks.{callChecks, callFault, lentChecks, lentTable, recordChecks, stateChecks}
+use Rattle.semantics.specs.Perform.{act, perform}
+use Rattle.semantics.specs.Probe.{byteOf, fix, hull, implies, isFixed, joinSides, literal, probe, put, recordSide, recordTo, sideOf}
+use Rattle.semantics.specs.Propagate.{isNone, isSpent, passRow, passTo, propagate, propagateFrom}
+use Rattle.semantics.specs.Run.{answersNone, classOf, isRefused, probeInfeasible, run, sameBytes, sameState, step}
+use Rattle.semantics.specs.State.{callOf, hasBudget, hasRow, hasTable, hasVariable, isOther, kindOf, lengthsOf, splice, stateOf, withBox, withRow}
+use Rattle.book.specs.Book.{bookLength, boundsOf, coefsOf, decode, modelOf, rhsOf, rowPlace, trailerOf}
+use Rattle.book.specs.BookChecks.{bookChecks, bookFault, givenLengthChecks, headChecks, layoutChecks, offsetChecks}
+use Rattle.book.specs.Bytes.{integerAt, integersAt, numberAt, numberOf, signedOf}
+use Rattle.book.specs.Pieces.{joined}
+use Rattle.rounds.specs.Rounds.{after, andThen, anyChange, dropCall, drops, isChange, probeCall, probes, round, roundsFault, roundsFrom, runRounds, settleCall, sharpenCall, sharpenRow, sharpens, unlessEmpty, upwards}
+use Rattle.report.specs.Report.{byteLine, field, fields, implicationAt, implicationLine, isZeroRow, noneLine, reducedLine, refusedLine, report, rowAt, rowLine, variableAt, variableLine}
+use Rattle.report.specs.Decimal.{decimal, digits, signed}
+use Rattle.report.specs.Text.{texts}
+use Rattle.reduce.specs.Output.{output, roundsText, stateRead, textOf, zeros}
+
+-- "The book with bounds 0, 1, 0, 1 and the row 4, 3, 2 (trailer 0, 16, 2, 1, 44)"
+book : List ℕ
+book =
+    0 ∷ 0 ∷ 0 ∷ 0 ∷ 1 ∷ 0 ∷ 0 ∷ 0 ∷ 0 ∷ 0 ∷ 0 ∷ 0 ∷ 1 ∷ 0 ∷ 0 ∷ 0
+    ∷ 4 ∷ 0 ∷ 0 ∷ 0 ∷ 3 ∷ 0 ∷ 0 ∷ 0 ∷ 2 ∷ 0 ∷ 0 ∷ 0
+    ∷ 0 ∷ 0 ∷ 0 ∷ 0 ∷ 16 ∷ 0 ∷ 0 ∷ 0 ∷ 2 ∷ 0 ∷ 1 ∷ 0 ∷ 44 ∷ 0 ∷ 0 ∷ 0
+    ∷ []
+
+example-output : output book ≡
+    -- reduced 2 1 2
+    114 ∷ 101 ∷ 100 ∷ 117 ∷ 99 ∷ 101 ∷ 100 ∷ 32 ∷ 50 ∷ 32 ∷ 49 ∷ 32 ∷ 50 ∷ 10
+    -- v 0 0 1, v 1 0 1
+    ∷ 118 ∷ 32 ∷ 48 ∷ 32 ∷ 48 ∷ 32 ∷ 49 ∷ 10
+    ∷ 118 ∷ 32 ∷ 49 ∷ 32 ∷ 48 ∷ 32 ∷ 49 ∷ 10
+    -- r 0 1 1 1
+    ∷ 114 ∷ 32 ∷ 48 ∷ 32 ∷ 49 ∷ 32 ∷ 49 ∷ 32 ∷ 49 ∷ 10
+    -- i 0 1 1 0, i 1 1 0 0
+    ∷ 105 ∷ 32 ∷ 48 ∷ 32 ∷ 49 ∷ 32 ∷ 49 ∷ 32 ∷ 48 ∷ 10
+    ∷ 105 ∷ 32 ∷ 49 ∷ 32 ∷ 49 ∷ 32 ∷ 48 ∷ 32 ∷ 48 ∷ 10
+    ∷ []
+unfolding book output roundsText stateRead textOf zeros floorDiv ceilDiv sum all minZ maxZ eqZ boxOf sameList emptyBox isEmpty isFree first inRange ordered bits sizeChecks lengthChecks tableLengthChecks numberChecks tableByteChecks modelChecks modelFault rowOf minTerm maxTerm minActivity maxActivity isInfeasible isChanged newUpper newLower impliedBox stays propagateRow zeroRow removeRedundantRow tightenAt tightenCoefficient lentTable lentChecks recordChecks stateChecks callChecks callFault act perform fix hull literal byteOf put implies isFixed recordSide recordTo sideOf joinSides probe passRow passTo propagateFrom propagate isNone isSpent step run probeInfeasible answersNone isRefused sameBytes sameState classOf lengthsOf kindOf hasRow hasVariable hasBudget hasTable isOther stateOf callOf withBox splice withRow bookLength rowPlace trailerOf boundsOf rhsOf coefsOf modelOf decode offsetChecks layoutChecks givenLengthChecks headChecks bookChecks bookFault numberOf signedOf numberAt integerAt integersAt joined andThen upwards unlessEmpty settleCall dropCall sharpenCall probeCall drops sharpenRow sharpens probes round isChange anyChange after roundsFrom roundsFault runRounds field fields refusedLine noneLine reducedLine variableLine rowLine implicationLine variableAt isZeroRow rowAt byteLine implicationAt report digits decimal signed texts
+example-output = refl
