@@ -85,6 +85,11 @@ abbrev pub values : (Bs : List Buffer) {X : Type 0} → X → Values Bs X
 values [] x = x
 values (B ∷ Bs) x = (value B ∷ [], values Bs x)
 
+-- the same in a row, as a function is passed them
+abbrev pub sliced : List Buffer → List Val → List Val
+sliced [] vs = vs
+sliced (B ∷ Bs) vs = value B ∷ sliced Bs vs
+
 -- as locals, before cs: the slices; the pointers and slices that are made for a call; the room for these
 abbrev pub locals : List Buffer → List Cell → List Cell
 locals [] cs = cs
@@ -127,6 +132,19 @@ Left (B ∷ Bs) X = List (B .T .Denot) × Left Bs X
 abbrev pub left : (Bs : List Buffer) (X : Type 0) → Left Bs X → Lists Bs
 left [] X zs = tt
 left (B ∷ Bs) X zs = (zs .0, left Bs X (zs .1))
+
+abbrev pub lists : (Bs : List Buffer) {X : Type 0} → Lists Bs → X → Left Bs X
+lists [] zs x = x
+lists (B ∷ Bs) zs x = (zs .0, lists Bs (zs .1) x)
+
+-- each list is as long as the first one there was
+abbrev pub Same : (Bs : List Buffer) → Lists Bs → Lists Bs → Type 0 → Type 0
+Same [] zs xs X = X
+Same (B ∷ Bs) zs xs X = (length (zs .0) ≡ length (xs .0)) × Same Bs (zs .1) (xs .1) X
+
+pub same : (Bs : List Buffer) {X : Type 0} (zs xs : Lists Bs) → Long Bs zs → Long Bs xs → X → Same Bs zs xs X
+same [] zs xs long first x = x
+same (B ∷ Bs) zs xs long first x = (long .0 ∙ sym (first .0), same Bs (zs .1) (xs .1) (long .1) (first .1) x)
 
 -- ---- what they own: with their tokens, and apart from them before F
 abbrev pub All : (Bs : List Buffer) → Lists Bs → Fml

@@ -38,6 +38,11 @@ cells [] cs = []
 cells (e ∷ E) [] = cell e free ∷ cells E []
 cells (e ∷ E) (c ∷ cs) = cell e c ∷ cells E cs
 
+abbrev pub blockOf : List (Ty × ℕ) → ℕ → ℕ
+blockOf [] i = zero
+blockOf (e ∷ E) zero = e .1
+blockOf (e ∷ E) (suc i) = blockOf E i
+
 -- the right to give them back
 abbrev pub Dies : List (Ty × ℕ) → Fml
 Dies [] = ftrue
