@@ -2,4 +2,5 @@ pub mod Buffers
 pub mod Held
 pub mod Lent
 pub mod Locals
+pub mod Reborrow
 pub mod Running

@@ -64,6 +64,7 @@ use Rattle.call_list.specs.Records.{Runs, noCall, numbersOf, runNext}
 use Rattle.call_list.specs.declared.Call.{Call}
 use Rattle.call_list.proofs.Buffers.{All, Buffer, Claims, Left, Lents, Lists, Long, Names, Owns, Parts, Refs, Rooms, Spot, Times, Tokens, Values, give, left, lend, lists, locals, made, names, parts, refs, return-back, room, same, sliced, take, times, values}
 use Rattle.call_list.proofs.Locals.{Blocks, Cell, Dies, allocated, blockOf, cell, cells, envOf, first, free, freed, holds, settled}
+use Rattle.call_list.proofs.Reborrow.{has, points, slices, takes}
 use Rattle.call_list.proofs.Running.{Running, running-end, running-next, running-room, running-start}
 use Rattle.call_list.proofs.Call as R
 use Rattle.call_list.proofs.Call.Laws as R′
@@ -411,10 +412,10 @@ module _ {M : Type 1} (𝓤 : URA M) (H : Heap 𝓤) (A : Atoms 𝓤) (W : Given
       ends t X f =
           qed W (At (t .i) (t .u) (t .zs)) ∵ exec ! C Λ En turn-1 (anyQ (afterTurn 𝓤 H X After)) $
           assigns ! (of-opd ! (load ! (from ! (fld ! refl (stop !))) (look-in ! calls (sub ! 1 refl (whole !))))) (from ! (stop !)) (init ! count refl (tt, record { fits = long-fits })) $
-          assigns ! (bin ! (load ! (from ! (stop !)) (look ! index refl)) (load ! (from ! (stop !)) (look ! count refl)) tt) (from ! (stop !)) (init ! inside? refl (tt, tt)) $
+          assigns ! (bin ! (has ! index refl) (has ! count refl) tt) (from ! (stop !)) (init ! inside? refl (tt, tt)) $
           rewrite ! inside? (λ (y : Bool). cell (tyBool, blockOf En inside?) (holds (vbool y))) f refl $
-          leaves-loop ! (load ! (from ! (stop !)) (look ! inside? refl)) $ exec ! C Λ En t-12 (atRet En Post) $
-          assigns ! (of-opd ! (load ! (from ! (stop !)) (look ! answer refl))) (from ! (stop !)) (init ! 0 refl (EL.lawful S.the-type S′.the-laws 𝓤 H A W tt .typed (t .a) _ (t .is) .0)) $
+          leaves-loop ! (has ! inside? refl) $ exec ! C Λ En t-12 (atRet En Post) $
+          assigns ! (of-opd ! (has ! answer refl)) (from ! (stop !)) (init ! 0 refl (EL.lawful S.the-type S′.the-laws 𝓤 H A W tt .typed (t .a) _ (t .is) .0)) $
           returns ! (look ! 0 refl) $
           freed ! En (told (holds (t .u)) (holds (t .u) ∷ holds (vint w64 (t .i)) ∷ free ∷ room Bs (holds (vint w64 (length ys)) ∷ holds (vbool false) ∷ []))) $
           by ! (exits (t .a) (t .u) (t .zs) (t .is) (running-end (state′ xs) ys (t .i) (listRun (t .a) (state′ (t .zs))) (t .inv) over) (t .long) first)
@@ -428,33 +429,29 @@ module _ {M : Type 1} (𝓤 : URA M) (H : Heap 𝓤) (A : Atoms 𝓤) (W : Given
       more t f =
           qed W (At (t .i) (t .u) (t .zs)) ∵ exec ! C Λ En turn-1 (anyQ (afterTurn 𝓤 H (Below t) After)) $
           assigns ! (of-opd ! (load ! (from ! (fld ! refl (stop !))) (look-in ! calls (sub ! 1 refl (whole !))))) (from ! (stop !)) (init ! count refl (tt, record { fits = long-fits })) $
-          assigns ! (bin ! (load ! (from ! (stop !)) (look ! index refl)) (load ! (from ! (stop !)) (look ! count refl)) tt) (from ! (stop !)) (init ! inside? refl (tt, tt)) $
+          assigns ! (bin ! (has ! index refl) (has ! count refl) tt) (from ! (stop !)) (init ! inside? refl (tt, tt)) $
           rewrite ! inside? (λ (y : Bool). cell (tyBool, blockOf En inside?) (holds (vbool y))) f refl $
-          stays ! (load ! (from ! (stop !)) (look ! inside? refl)) $
+          stays ! (has ! inside? refl) $
           -- the records are Copy: one copy goes to `record_at`
           move ! ((2 + dies) ∷ []) $ use1 W (‵ Shr ⊛ ‵ Shr) (shr-slice-copy 𝓤 H A W (named 4) κ R.the-row .twice s (v ∷ [])) $ split ! $ move ! ((4 + dies) ∷ 1 ∷ []) $
           use2 W (raw (RecordAt 𝓤 H A at-mem go .pre (to-record (t .i)))) (asks-record (t .i) (lt-trans inside long-fits) inside) $
           -- [what `record_at` asks; the records; the locals; …]
           calls-at ! fm (RecordAt 𝓤 H A at-mem go) known-record (to-record (t .i))
-          (and-then ! (load ! (from ! (stop !)) (look ! (2 + calls) refl)) (and-then ! (load ! (from ! (stop !)) (look ! (2 + index) refl)) (no-more !))) (λ p.
+          (takes ! (2 + calls) refl (takes ! (2 + index) refl (no-more !))) (λ p.
           use1 W (later (some (λ (c : Call). ((‵ (flft κ q) ⊛ ‵ ftrue) ⊛ ‵ (R.the-row .own c (p ∷ []))) ⊛ raw (ensured 𝓤 H A record-at.ended (record-at.clauses 𝓤 H A at-mem go) (κ, tt) (s, (t .i, tt)) tt c))))
           (id⊢ 𝓤 _) $ await ! tt $ pick ! (λ c. split ! $ move ! (1 ∷ []) $
           use1 W (raw (fact 𝓤 (c ≡ getD ys (t .i) noCall))) (record-said (t .i) c) $ heard ! (c ≡ getD ys (t .i) noCall) (λ e. split ! $ move ! (1 ∷ []) $
           peeks ! R.the-row (Is R.the-row) (shows 𝓤 H A R.the-row) c (p ∷ []) (λ g.
           -- [record i; the token; the records; the locals; …]
           land ! (from ! (stop !)) (init ! (3 + call) refl (LL.lawful R.the-type R′.the-laws 𝓤 H A W .typed c _ g .0)) $
-          assigns ! (addr ! (from ! (fld ! refl (hop ! (look-in ! (3 + (lent + 0)) (sub ! 0 refl (whole !))) (stop !))))) (from ! (stop !)) (init ! (3 + (for-next + 0)) refl (tt, tt)) $
-          assigns ! (agg ! (and-then ! (load ! (from ! (stop !)) (look ! (3 + (for-next + 0)) refl)) (and-then ! (load ! (from ! (fld ! refl (stop !))) (look-in ! (3 + (lent + 0)) (sub ! 1 refl (whole !)))) (no-more !))))
-          (from ! (stop !)) (init ! (3 + (for-next + 1)) refl (tt, (tt, (record { fits = rooms .0 .0 }, tt)))) $
-          assigns ! (addr ! (from ! (fld ! refl (hop ! (look-in ! (3 + (lent + 1)) (sub ! 0 refl (whole !))) (stop !))))) (from ! (stop !)) (init ! (3 + (for-next + 2)) refl (tt, tt)) $
-          assigns ! (agg ! (and-then ! (load ! (from ! (stop !)) (look ! (3 + (for-next + 2)) refl)) (and-then ! (load ! (from ! (fld ! refl (stop !))) (look-in ! (3 + (lent + 1)) (sub ! 1 refl (whole !)))) (no-more !))))
-          (from ! (stop !)) (init ! (3 + (for-next + 3)) refl (tt, (tt, (record { fits = rooms .1 .0 .0 }, tt)))) $
-          assigns ! (addr ! (from ! (fld ! refl (hop ! (look-in ! (3 + (lent + 2)) (sub ! 0 refl (whole !))) (stop !))))) (from ! (stop !)) (init ! (3 + (for-next + 4)) refl (tt, tt)) $
-          assigns ! (agg ! (and-then ! (load ! (from ! (stop !)) (look ! (3 + (for-next + 4)) refl)) (and-then ! (load ! (from ! (fld ! refl (stop !))) (look-in ! (3 + (lent + 2)) (sub ! 1 refl (whole !)))) (no-more !))))
-          (from ! (stop !)) (init ! (3 + (for-next + 5)) refl (tt, (tt, (record { fits = rooms .1 .1 .0 .0 }, tt)))) $
-          assigns ! (addr ! (from ! (fld ! refl (hop ! (look-in ! (3 + (lent + 3)) (sub ! 0 refl (whole !))) (stop !))))) (from ! (stop !)) (init ! (3 + (for-next + 6)) refl (tt, tt)) $
-          assigns ! (agg ! (and-then ! (load ! (from ! (stop !)) (look ! (3 + (for-next + 6)) refl)) (and-then ! (load ! (from ! (fld ! refl (stop !))) (look-in ! (3 + (lent + 3)) (sub ! 1 refl (whole !)))) (no-more !))))
-          (from ! (stop !)) (init ! (3 + (for-next + 7)) refl (tt, (tt, (record { fits = rooms .1 .1 .1 .0 .0 }, tt)))) $
+          assigns ! (points ! (lent + 3) refl refl) (from ! (stop !)) (init ! (for-next + 3) refl (tt, tt)) $
+          assigns ! (slices ! (for-next + 3) (lent + 3) refl refl refl) (from ! (stop !)) (init ! (for-next + 4) refl (tt, (tt, (record { fits = rooms .0 .0 }, tt)))) $
+          assigns ! (points ! (lent + 4) refl refl) (from ! (stop !)) (init ! (for-next + 5) refl (tt, tt)) $
+          assigns ! (slices ! (for-next + 5) (lent + 4) refl refl refl) (from ! (stop !)) (init ! (for-next + 6) refl (tt, (tt, (record { fits = rooms .1 .0 .0 }, tt)))) $
+          assigns ! (points ! (lent + 5) refl refl) (from ! (stop !)) (init ! (for-next + 7) refl (tt, tt)) $
+          assigns ! (slices ! (for-next + 7) (lent + 5) refl refl refl) (from ! (stop !)) (init ! (for-next + 8) refl (tt, (tt, (record { fits = rooms .1 .1 .0 .0 }, tt)))) $
+          assigns ! (points ! (lent + 6) refl refl) (from ! (stop !)) (init ! (for-next + 9) refl (tt, tt)) $
+          assigns ! (slices ! (for-next + 9) (lent + 6) refl refl refl) (from ! (stop !)) (init ! (for-next + 10) refl (tt, (tt, (record { fits = rooms .1 .1 .1 .0 .0 }, tt)))) $
           lft-new ! tt (λ ν. nothing ! $ move ! (2 ∷ 0 ∷ []) $ fjoin ! $ owned ! S.the-row (Is S.the-row) (EL.makes S.the-type S′.the-plain 𝓤 H A) (t .a) _ (t .is) $ fjoin ! $
           -- [answer and record; ν; the token; the records; the locals; …]
           move ! ((5 + dies) ∷ 0 ∷ []) $ use2 W (later (some (λ (δs : Names Bs). ‵ (Lents Bs ν δs (t .zs) (Rest (t .a) (t .u) c p)) ⊛ ‵ (Claims Bs ν δs (t .zs)))))
@@ -462,7 +459,7 @@ module _ {M : Type 1} (𝓤 : URA M) (H : Heap 𝓤) (A : Atoms 𝓤) (W : Given
           use2 W (raw (RunNext 𝓤 H A at-mem go .pre (to-next (t .zs) (t .a) (t .u) c p ν δs))) (asks-next (t .zs) (t .a) (t .u) c p ν δs room′) $
           -- [what `run_next` asks; the claims; the token; the records; the locals; …]
           calls-at ! fm (RunNext 𝓤 H A at-mem go) known-next (to-next (t .zs) (t .a) (t .u) c p ν δs)
-          (and-then ! (load ! (from ! (stop !)) (look ! (4 + 1) refl)) (and-then ! (load ! (from ! (stop !)) (look ! (4 + 2) refl)) (and-then ! (load ! (from ! (stop !)) (look ! (4 + (for-next + 1)) refl)) (and-then ! (load ! (from ! (stop !)) (look ! (4 + (for-next + 3)) refl)) (and-then ! (load ! (from ! (stop !)) (look ! (4 + (for-next + 5)) refl)) (and-then ! (load ! (from ! (stop !)) (look ! (4 + (for-next + 7)) refl)) (and-then ! (load ! (from ! (stop !)) (look ! (4 + answer) refl)) (and-then ! (load ! (from ! (stop !)) (look ! (4 + call) refl)) (no-more !))))))))) (λ u.
+          (takes ! 5 refl (takes ! 6 refl (takes ! (for-next + 5) refl (takes ! (for-next + 7) refl (takes ! (for-next + 9) refl (takes ! (for-next + 11) refl (takes ! (4 + answer) refl (takes ! (4 + call) refl (no-more !))))))))) (λ u.
           use1 W (later (some (λ (a : RunAnswer). ((‵ (flft (ν ∷ []) fullShare) ⊛ ‵ ftrue) ⊛ ‵ (S.the-row .own a (u ∷ []))) ⊛ raw (ensured 𝓤 H A run-next.ended (run-next.clauses 𝓤 H A at-mem go) (ν ∷ [], tt) (next-args (t .zs) (t .a) c δs) tt a))))
           (id⊢ 𝓤 _) $ await ! tt $ pick ! (λ a. split ! $ move ! (1 ∷ []) $
           use1 W (some (λ (z : NextLeft). ‵ (lasts run-next.ended (ν ∷ [], tt) (next-args (t .zs) (t .a) c δs) z) ⊛ raw (fact 𝓤 (NextSaid n m ys ps xs (t .zs) (t .a) c a (next-left z))))) (id⊢ 𝓤 _) $
@@ -473,7 +470,7 @@ module _ {M : Type 1} (𝓤 : URA M) (H : Heap 𝓤) (A : Atoms 𝓤) (W : Given
           move ! (1 ∷ []) $ split ! $ lft-end ! tt $ move ! (0 ∷ 4 ∷ 3 ∷ []) $
           use3 W (later (given (Long Bs (next-left z)) (‵ (All Bs (next-left z))))) (return-back 𝓤 H A W ν Bs δs (t .zs) (next-left z) (fsep ftrue (fsep ftrue ftrue)) rooms (t .long)) $ await ! tt $ learn ! (λ long.
           -- [the buffers; true; the answer; the token; the records; the locals; …]
-          assigns-last ! (bin ! (load ! (from ! (stop !)) (look ! (5 + index) refl)) (lit ! tt) (record { fits = next-fits })) (from ! (stop !)) (store ! (5 + index) refl (tt, record { fits = next-fits })) $
+          assigns-last ! (bin ! (has ! (5 + index) refl) (lit ! tt) (record { fits = next-fits })) (from ! (stop !)) (store ! (5 + index) refl (tt, record { fits = next-fits })) $
           move ! (3 ∷ []) $ split ! $ move ! (1 ∷ 3 ∷ 4 ∷ 2 ∷ 5 ∷ 0 ∷ []) $ lose ! $ lose ! $ lose ! $
           settled ! call En (told free (holds u ∷ holds (vint w64 (t .i + 1)) ∷ holds p ∷ room Bs (holds (vint w64 (length ys)) ∷ holds (vbool true) ∷ made Bs []))) (Beside (next-left z)) $
           by ! (again (next n m ys ps xs t c a u (next-left z) is e d inside long) (nearer (length ys) (t .i) inside))))))))))))))
@@ -504,23 +501,19 @@ module _ {M : Type 1} (𝓤 : URA M) (H : Heap 𝓤) (A : Atoms 𝓤) (W : Given
       begins : ent 𝓤 (⋆ 𝓤 H A (here (told free []) xs)) (Wp 𝓤 H C Λ En t-1 (atReturn 𝓤 H En Post))
       begins =
           qed W (here (told free []) xs) ∵ exec ! C Λ En t-1 (atRet En Post) $
-          assigns ! (addr ! (from ! (fld ! refl (hop ! (look-in ! ((lent + 0)) (sub ! 0 refl (whole !))) (stop !))))) (from ! (stop !)) (init ! ((for-none + 0)) refl (tt, tt)) $
-          assigns ! (agg ! (and-then ! (load ! (from ! (stop !)) (look ! ((for-none + 0)) refl)) (and-then ! (load ! (from ! (fld ! refl (stop !))) (look-in ! ((lent + 0)) (sub ! 1 refl (whole !)))) (no-more !))))
-          (from ! (stop !)) (init ! ((for-none + 1)) refl (tt, (tt, (record { fits = rooms .0 .0 }, tt)))) $
-          assigns ! (addr ! (from ! (fld ! refl (hop ! (look-in ! ((lent + 1)) (sub ! 0 refl (whole !))) (stop !))))) (from ! (stop !)) (init ! ((for-none + 2)) refl (tt, tt)) $
-          assigns ! (agg ! (and-then ! (load ! (from ! (stop !)) (look ! ((for-none + 2)) refl)) (and-then ! (load ! (from ! (fld ! refl (stop !))) (look-in ! ((lent + 1)) (sub ! 1 refl (whole !)))) (no-more !))))
-          (from ! (stop !)) (init ! ((for-none + 3)) refl (tt, (tt, (record { fits = rooms .1 .0 .0 }, tt)))) $
-          assigns ! (addr ! (from ! (fld ! refl (hop ! (look-in ! ((lent + 2)) (sub ! 0 refl (whole !))) (stop !))))) (from ! (stop !)) (init ! ((for-none + 4)) refl (tt, tt)) $
-          assigns ! (agg ! (and-then ! (load ! (from ! (stop !)) (look ! ((for-none + 4)) refl)) (and-then ! (load ! (from ! (fld ! refl (stop !))) (look-in ! ((lent + 2)) (sub ! 1 refl (whole !)))) (no-more !))))
-          (from ! (stop !)) (init ! ((for-none + 5)) refl (tt, (tt, (record { fits = rooms .1 .1 .0 .0 }, tt)))) $
-          assigns ! (addr ! (from ! (fld ! refl (hop ! (look-in ! ((lent + 3)) (sub ! 0 refl (whole !))) (stop !))))) (from ! (stop !)) (init ! ((for-none + 6)) refl (tt, tt)) $
-          assigns ! (agg ! (and-then ! (load ! (from ! (stop !)) (look ! ((for-none + 6)) refl)) (and-then ! (load ! (from ! (fld ! refl (stop !))) (look-in ! ((lent + 3)) (sub ! 1 refl (whole !)))) (no-more !))))
-          (from ! (stop !)) (init ! ((for-none + 7)) refl (tt, (tt, (record { fits = rooms .1 .1 .1 .0 .0 }, tt)))) $
+          assigns ! (points ! lent refl refl) (from ! (stop !)) (init ! for-none refl (tt, tt)) $
+          assigns ! (slices ! for-none lent refl refl refl) (from ! (stop !)) (init ! (for-none + 1) refl (tt, (tt, (record { fits = rooms .0 .0 }, tt)))) $
+          assigns ! (points ! (lent + 1) refl refl) (from ! (stop !)) (init ! (for-none + 2) refl (tt, tt)) $
+          assigns ! (slices ! (for-none + 2) (lent + 1) refl refl refl) (from ! (stop !)) (init ! (for-none + 3) refl (tt, (tt, (record { fits = rooms .1 .0 .0 }, tt)))) $
+          assigns ! (points ! (lent + 2) refl refl) (from ! (stop !)) (init ! (for-none + 4) refl (tt, tt)) $
+          assigns ! (slices ! (for-none + 4) (lent + 2) refl refl refl) (from ! (stop !)) (init ! (for-none + 5) refl (tt, (tt, (record { fits = rooms .1 .1 .0 .0 }, tt)))) $
+          assigns ! (points ! (lent + 3) refl refl) (from ! (stop !)) (init ! (for-none + 6) refl (tt, tt)) $
+          assigns ! (slices ! (for-none + 6) (lent + 3) refl refl refl) (from ! (stop !)) (init ! (for-none + 7) refl (tt, (tt, (record { fits = rooms .1 .1 .1 .0 .0 }, tt)))) $
           lft-new ! tt (λ ν. nothing ! $ move ! ((3 + dies) ∷ 0 ∷ []) $ use2 W (later (some (λ (δs : Names Bs). ‵ (Lents Bs ν δs xs ftrue) ⊛ ‵ (Claims Bs ν δs xs))))
           (lend 𝓤 H A W ν Bs xs ftrue first) $ await ! tt $ pick ! (λ δs. split ! $ move ! (2 ∷ 0 ∷ []) $ use2 W (raw (RunNone 𝓤 H A at-mem go .pre (to-none ν δs))) (asks-none ν δs) $
           -- [what `run_none` asks; the claims; the locals; …]
           calls-at ! fm (RunNone 𝓤 H A at-mem go) known-none (to-none ν δs)
-          (and-then ! (load ! (from ! (stop !)) (look ! (2 + 1) refl)) (and-then ! (load ! (from ! (stop !)) (look ! (2 + 2) refl)) (and-then ! (load ! (from ! (stop !)) (look ! (2 + (for-none + 1)) refl)) (and-then ! (load ! (from ! (stop !)) (look ! (2 + (for-none + 3)) refl)) (and-then ! (load ! (from ! (stop !)) (look ! (2 + (for-none + 5)) refl)) (and-then ! (load ! (from ! (stop !)) (look ! (2 + (for-none + 7)) refl)) (no-more !))))))) (λ u.
+          (takes ! 3 refl (takes ! 4 refl (takes ! (for-none + 3) refl (takes ! (for-none + 5) refl (takes ! (for-none + 7) refl (takes ! (for-none + 9) refl (no-more !))))))) (λ u.
           use1 W (later (some (λ (a : RunAnswer). ((‵ (flft (ν ∷ []) fullShare) ⊛ ‵ ftrue) ⊛ ‵ (S.the-row .own a (u ∷ []))) ⊛ raw (ensured 𝓤 H A run-none.ended (run-none.clauses 𝓤 H A at-mem go) (ν ∷ [], tt) (none-args δs) tt a))))
           (id⊢ 𝓤 _) $ await ! tt $ pick ! (λ a. split ! $ move ! (1 ∷ []) $
           use1 W (some (λ (z : NoneLeft). ‵ (lasts run-none.ended (ν ∷ [], tt) (none-args δs) z) ⊛ raw (fact 𝓤 (NoneSaid n m ys ps xs a (none-left z))))) (id⊢ 𝓤 _) $
