@@ -172,7 +172,25 @@ abbrev pub Leaves : (Bs : List Buffer) → Names Bs → Lists Bs → Lists Bs �
 Leaves [] δs zs ws F = F
 Leaves (B ∷ Bs) δs zs ws F = fsep (fsep (finally (B .T) (δs .0) (ws .0)) (feq ℕ (length (ws .0)) (length (zs .0)))) (Leaves Bs (δs .1) (zs .1) (ws .1) F)
 
+-- what says their last lists, before F
+abbrev pub Finals : (Bs : List Buffer) → Names Bs → Lists Bs → Fml → Fml
+Finals [] δs ws F = F
+Finals (B ∷ Bs) δs ws F = fsep (finally (B .T) (δs .0) (ws .0)) (Finals Bs (δs .1) (ws .1) F)
+
 module _ {M : Type 1} (𝓤 : URA M) (H : Heap 𝓤) (A : Atoms 𝓤) (W : Given 𝓤 H A) where
+  pub last-token : (Bs : List Buffer) (L : Fml) → ent 𝓤 (sem 𝓤 H A (Tokens Bs L)) (sep 𝓤 (sem 𝓤 H A (Tokens Bs ftrue)) (sem 𝓤 H A L))
+  last-token [] L = qed W (‵ L ∷ []) ∵ nothing ! $ done !
+  last-token (B ∷ Bs) L =
+      qed W (‵ (Tokens (B ∷ Bs) L) ∷ []) ∵ fsplit ! $ move ! (1 ∷ []) $ use1 W (‵ (Tokens Bs ftrue) ⊛ ‵ L) (last-token Bs L) $ split ! $ move ! (2 ∷ 0 ∷ []) $ fjoin ! $ done !
+
+  pub finals : (Bs : List Buffer) (δs : Names Bs) (zs ws : Lists Bs) (F G : Fml)
+      → ent 𝓤 (sep 𝓤 (sem 𝓤 H A (Leaves Bs δs zs ws F)) (sem 𝓤 H A G)) (guard 𝓤 (Same Bs ws zs (Unit {0} × Unit {0})) (sem 𝓤 H A (Finals Bs δs ws G)))
+  finals [] δs zs ws F G = qed W (‵ F ∷ ‵ G ∷ []) ∵ check ! (tt, tt) $ drop ! $ done !
+  finals (B ∷ Bs) δs zs ws F G =
+      qed W (‵ (Leaves (B ∷ Bs) δs zs ws F) ∷ ‵ G ∷ []) ∵ fsplit ! $ fsplit ! $ move ! (1 ∷ []) $ feqL ! (λ e. move ! (1 ∷ 2 ∷ []) $
+      use2 W (given (Same Bs (ws .1) (zs .1) (Unit {0} × Unit {0})) (‵ (Finals Bs (δs .1) (ws .1) G))) (finals Bs (δs .1) (zs .1) (ws .1) F G) $ learn ! (λ es.
+      check ! (e, es) $ move ! (1 ∷ 0 ∷ []) $ fjoin ! $ done !))
+
   pub take : (Bs : List Buffer) (zs : Lists Bs) (L F : Fml)
       → ent 𝓤 (sep 𝓤 (sem 𝓤 H A (Tokens Bs L)) (sem 𝓤 H A (Owns Bs zs F))) (sep 𝓤 (sem 𝓤 H A (All Bs zs)) (sep 𝓤 (sem 𝓤 H A L) (sem 𝓤 H A F)))
   take [] zs L F = qed W (‵ L ∷ ‵ F ∷ []) ∵ nothing ! $ done !

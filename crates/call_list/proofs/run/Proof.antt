@@ -52,7 +52,7 @@ use denote.Triple.Walked.{says, Stays, stay-none, stay-none-slice, stay-slice, w
 use denote.Exit.{yes}
 use borrow.Author.Tests.{ltb-true, ltb-false}
 use Rattle.semantics.specs.CallList.{ListRun, runList}
-use Rattle.semantics.specs.State.{State, stateOf}
+use Rattle.semantics.specs.State.{State}
 use Rattle.semantics.specs.TwoLists.{ListMeans}
 use Rattle.semantics.proofs.CallLists.{counts-add-up, demand-3-lists, list-means}
 use Rattle.semantics.proofs.Demand3.{handed-in}
@@ -62,8 +62,9 @@ use Rattle.reducer.proofs.list.RunAnswer as S
 use Rattle.reducer.proofs.list.RunAnswer.Laws as S′
 use Rattle.call_list.specs.Records.{Runs, noCall, numbersOf, runNext}
 use Rattle.call_list.specs.declared.Call.{Call}
-use Rattle.call_list.proofs.Buffers.{All, Buffer, Claims, Left, Lents, Lists, Long, Names, Owns, Parts, Refs, Rooms, Spot, Times, Tokens, Values, give, left, lend, lists, locals, made, names, parts, refs, return-back, room, same, sliced, take, times, values}
+use Rattle.call_list.proofs.Buffers.{All, Buffer, Claims, Left, Lents, Long, Names, Owns, Refs, Rooms, Times, Tokens, give, left, lend, lists, locals, made, names, parts, refs, return-back, room, same, sliced, take, times, values}
 use Rattle.call_list.proofs.Locals.{Blocks, Cell, Dies, allocated, blockOf, cell, cells, envOf, first, free, freed, holds, settled}
+use Rattle.call_list.proofs.Parameters.{Spots, Texts, buffers, many, spot, state}
 use Rattle.call_list.proofs.Reborrow.{has, points, slices, takes}
 use Rattle.call_list.proofs.Running.{Running, running-end, running-next, running-room, running-start}
 use Rattle.call_list.proofs.Call as R
@@ -123,25 +124,6 @@ tells {𝓤 = 𝓤} t {φ} {ψ} {χ} {ω} {P} x y z w = step (λ s. record {
       (assoc∗ 𝓤 P (fact 𝓤 φ) (sep 𝓤 (fact 𝓤 ψ) (sep 𝓤 (fact 𝓤 χ) (fact 𝓤 ω))))));
 })
 
--- what the buffers hold: box, coefficients, right sides, table
-abbrev Texts : Type 0
-Texts = List ℤ × (List ℤ × (List ℤ × (List ℕ × Unit {0})))
-
-abbrev Spots : Type 0
-Spots = Spot × (Spot × (Spot × (Spot × Unit {0})))
-
--- the buffers, in the order of the parameters
-abbrev buffers : Spots → List Buffer
-buffers ps =
-    record { T = i32; ℓ = named 0; spot = ps .0 }
-    ∷ record { T = i32; ℓ = named 1; spot = ps .1 .0 }
-    ∷ record { T = i32; ℓ = named 2; spot = ps .1 .1 .0 }
-    ∷ record { T = u8; ℓ = named 3; spot = ps .1 .1 .1 .0 }
-    ∷ []
-
-abbrev many : ℕ
-many = 4
-
 -- ---- the locals by number: the result, n and m; the buffers from `lent`; then these
 abbrev lent : ℕ
 lent = 3
@@ -180,8 +162,8 @@ nearer : (m i : ℕ) → i < m → m - (i + 1) < m - i
 nearer m i h = omega arith
 
 module _ (n m : ℕ) (ys : List Call) (ps : Spots) (xs : Texts) where
-  abbrev state : Texts → State
-  state zs = stateOf n m (zs .0) (zs .1 .0) (zs .1 .1 .0) (zs .1 .1 .1 .0)
+  abbrev at : Texts → State
+  at = state n m
 
   -- the loop's state: i records are run, the answer is a with the machine value u, and the buffers hold zs
   record St : Type 0 where
@@ -191,7 +173,7 @@ module _ (n m : ℕ) (ys : List Call) (ps : Spots) (xs : Texts) where
     zs : Texts
     is : Is S.the-row a (u ∷ [])
     within : i ≤ length ys
-    inv : Running (state xs) ys (listRun a (state zs)) i
+    inv : Running (at xs) ys (listRun a (at zs)) i
     long : Long (buffers ps) zs
 
   abbrev less : St → St → Type 0
@@ -202,10 +184,10 @@ module _ (n m : ℕ) (ys : List Call) (ps : Spots) (xs : Texts) where
 
   -- what `run_none` and `run_next` say
   abbrev NoneSaid : RunAnswer → Texts → Type 0
-  NoneSaid a zs = listRun a (state zs) ≡ runList (state xs) []
+  NoneSaid a zs = listRun a (at zs) ≡ runList (at xs) []
 
   abbrev NextSaid : Texts → RunAnswer → Call → RunAnswer → Texts → Type 0
-  NextSaid zs a c a′ zs′ = listRun a′ (state zs′) ≡ runNext (listRun a (state zs)) c
+  NextSaid zs a c a′ zs′ = listRun a′ (at zs′) ≡ runNext (listRun a (at zs)) c
 
   abbrev starts : (a : RunAnswer) (u : Val) (zs : Texts) → Is S.the-row a (u ∷ []) → NoneSaid a zs → Long (buffers ps) zs → St
   starts a u zs is d long = record {
@@ -215,7 +197,7 @@ module _ (n m : ℕ) (ys : List Call) (ps : Spots) (xs : Texts) where
     zs = zs;
     is = is;
     within = omega arith;
-    inv = subst (λ (r : ListRun). Running (state xs) ys r 0) (sym d) (running-start (state xs) ys);
+    inv = subst (λ (r : ListRun). Running (at xs) ys r 0) (sym d) (running-start (at xs) ys);
     long = long;
   }
 
@@ -229,8 +211,8 @@ module _ (n m : ℕ) (ys : List Call) (ps : Spots) (xs : Texts) where
     zs = zs;
     is = is;
     within = omega arith;
-    inv = subst (λ (r : ListRun). Running (state xs) ys r (t .i + 1)) (sym d)
-        (running-next (state xs) ys (t .i) (listRun (t .a) (state (t .zs))) c (t .inv) h e);
+    inv = subst (λ (r : ListRun). Running (at xs) ys r (t .i + 1)) (sym d)
+        (running-next (at xs) ys (t .i) (listRun (t .a) (at (t .zs))) c (t .inv) h e);
     long = long;
   }
 
@@ -243,7 +225,7 @@ module _ {M : Type 1} (𝓤 : URA M) (H : Heap 𝓤) (A : Atoms 𝓤) (W : Given
   ys = s .now
 
   abbrev state′ : Texts → State
-  state′ = state n m ys ps xs
+  state′ = state n m
 
   -- the records
   abbrev v : Val
@@ -543,10 +525,6 @@ module _ {M : Type 1} (𝓤 : URA M) (H : Heap 𝓤) (A : Atoms 𝓤) (W : Given
         pass1 ! (init ! (lent + 3) refl (tt, (tt, (record { fits = rooms .1 .1 .1 .0 .0 }, tt)))) $
         pass1 ! (init ! calls refl (shr-slice-lawful 𝓤 H A W (named 4) κ R.the-row .typed s (v ∷ []) is-list .0)) $ pass0 ! $
         by ! (begins bs))
-
--- the place of a buffer that is passed
-abbrev spot : {X : Type 0} → Lft → Share → RefT (List X) → Spot
-spot κ q r = record { κ = κ; q = q; γ = r .name; b = r .ptr .0; o = r .ptr .1; k = length (r .now) }
 
 module _ {M : Type 1} (𝓤 : URA M) (H : Heap 𝓤) (A : Atoms 𝓤) (W : Given 𝓤 H A) (mem : Memory → SProp 𝓤) (go : Routine → Fun 𝓤) (𝓣 : Tables 𝓤 H)
     (known-record : Triple 𝓤 (𝓣 .C #call-list·record-at) (RecordAt 𝓤 H A mem go)) (known-none : Triple 𝓤 (𝓣 .C #call-list·run-none) (RunNone 𝓤 H A mem go))

@@ -1,0 +1,37 @@
+-- The buffers that `run` and `run_four` are passed, and the state that they hold: what a buffer more changes first. Assumes nothing.
+use Prim.Native.Nat.{ℕ}
+use mathlib.Core.List.{List, [], _∷_}
+use lib.IntN.{ℤ}
+use lib.ListN.{length}
+use mir.Syntax.{named}
+use base.Fml.{Lft, Share}
+use denote.Builtin.{i32, u8}
+use denote.Ref.{RefT}
+use Rattle.semantics.specs.State.{State, stateOf}
+use Rattle.call_list.proofs.Buffers.{Buffer, Spot}
+
+-- what the buffers hold: box, coefficients, right sides, table
+abbrev pub Texts : Type 0
+Texts = List ℤ × (List ℤ × (List ℤ × (List ℕ × Unit {0})))
+
+abbrev pub Spots : Type 0
+Spots = Spot × (Spot × (Spot × (Spot × Unit {0})))
+
+-- the buffers, in the order of the parameters
+abbrev pub buffers : Spots → List Buffer
+buffers ps =
+    record { T = i32; ℓ = named 0; spot = ps .0 }
+    ∷ record { T = i32; ℓ = named 1; spot = ps .1 .0 }
+    ∷ record { T = i32; ℓ = named 2; spot = ps .1 .1 .0 }
+    ∷ record { T = u8; ℓ = named 3; spot = ps .1 .1 .1 .0 }
+    ∷ []
+
+abbrev pub many : ℕ
+many = 4
+
+abbrev pub state : ℕ → ℕ → Texts → State
+state n m zs = stateOf n m (zs .0) (zs .1 .0) (zs .1 .1 .0) (zs .1 .1 .1 .0)
+
+-- the place of a buffer that is passed
+abbrev pub spot : {X : Type 0} → Lft → Share → RefT (List X) → Spot
+spot κ q r = record { κ = κ; q = q; γ = r .name; b = r .ptr .0; o = r .ptr .1; k = length (r .now) }
