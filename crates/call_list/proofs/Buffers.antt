@@ -211,8 +211,8 @@ module _ {M : Type 1} (𝓤 : URA M) (H : Heap 𝓤) (A : Atoms 𝓤) (W : Given
     lend-one B ys e =
         let p = B .spot in
         subst (λ (k : ℕ). let at = sliceVal (p .b, p .o) k ∷ [] in
-            ent 𝓤 (sep 𝓤 (sem 𝓤 H A (MutSlice (B .ℓ) (p .κ) (B .T) .own (under B (p .γ) ys) at)) (A .lft (p .κ) (p .q)))
-            (H .⇛ (ex 𝓤 (λ (δ : GName). sep 𝓤 (sem 𝓤 H A (MutSlice (named 0) (ν ∷ []) (B .T) .own (under B δ ys) at)) (sem 𝓤 H A (Claim B ν δ ys))))))
+        ent 𝓤 (sep 𝓤 (sem 𝓤 H A (MutSlice (B .ℓ) (p .κ) (B .T) .own (under B (p .γ) ys) at)) (A .lft (p .κ) (p .q)))
+        (H .⇛ (ex 𝓤 (λ (δ : GName). sep 𝓤 (sem 𝓤 H A (MutSlice (named 0) (ν ∷ []) (B .T) .own (under B δ ys) at)) (sem 𝓤 H A (Claim B ν δ ys))))))
         e (lends (B .T) (p .κ) (ν ∷ []) (p .q) (p .γ) (p .b) (p .o) 𝓤 H A W (B .ℓ) (named 0) ys)
 
     return-one : (B : Buffer) (ys : List (B .T .Denot)) → length ys ≡ B .spot .k → (δ : GName) (zs : List (B .T .Denot)) → Room (B .T) (B .spot .k) → length zs ≡ length ys
@@ -220,8 +220,8 @@ module _ {M : Type 1} (𝓤 : URA M) (H : Heap 𝓤) (A : Atoms 𝓤) (W : Given
     return-one B ys e δ zs room same =
         let p = B .spot in
         subst (λ (k : ℕ). let at = sliceVal (p .b, p .o) k ∷ [] in
-            ent 𝓤 (sep 𝓤 (A .dead (ν ∷ [])) (sep 𝓤 (sem 𝓤 H A (Claim B ν δ ys)) (sem 𝓤 H A (finally (B .T) δ zs))))
-            (H .⇛ (sep 𝓤 (sem 𝓤 H A (MutSlice (B .ℓ) (p .κ) (B .T) .own (under B (p .γ) zs) at)) (A .lft (p .κ) (p .q)))))
+        ent 𝓤 (sep 𝓤 (A .dead (ν ∷ [])) (sep 𝓤 (sem 𝓤 H A (Claim B ν δ ys)) (sem 𝓤 H A (finally (B .T) δ zs))))
+        (H .⇛ (sep 𝓤 (sem 𝓤 H A (MutSlice (B .ℓ) (p .κ) (B .T) .own (under B (p .γ) zs) at)) (A .lft (p .κ) (p .q)))))
         e (comes-back (B .T) (p .κ) (ν ∷ []) (p .q) (p .γ) (p .b) (p .o) 𝓤 H A W (B .ℓ) (named 0) ys δ zs (subst (Room (B .T)) (sym e) room) same)
 
     -- all are lent for ν, before F

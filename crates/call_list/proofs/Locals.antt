@@ -10,7 +10,7 @@ use base.Logic.{ent, id⊢, monoL, monoR, sep, via}
 use base.Fml.{Fml, fat, fdies, froom, fsep, ftrue}
 use prog.Wp.{Env, Heap}
 use ghost.Atoms.{Atoms, sem}
-use types.Kit.{Given, Go, Goal, Item, Seq, Step, allocs, frees, step, ‵, raw, _⊛_, ++⊢, ⊢++, mean, pop, push, ⋆, _$_, _∵_, !, by, qed, done, drop, fjoin, frame, fsplit, move, split, suffices, use1}
+use types.Kit.{Given, Goal, Item, Seq, Step, allocs, frees, step, ‵, raw, _⊛_, ++⊢, ⊢++, mean, pop, push, ⋆, _$_, _∵_, !, by, qed, done, drop, fjoin, frame, fsplit, move, split, suffices, use1}
 use types.Run.{alloc0, alloc1, free0, free1}
 use denote.Steps.{nothing}
 

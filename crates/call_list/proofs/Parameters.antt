@@ -32,6 +32,18 @@ many = 4
 abbrev pub state : ℕ → ℕ → Texts → State
 state n m zs = stateOf n m (zs .0) (zs .1 .0) (zs .1 .1 .0) (zs .1 .1 .1 .0)
 
--- the place of a buffer that is passed
-abbrev pub spot : {X : Type 0} → Lft → Share → RefT (List X) → Spot
+abbrev spot : {X : Type 0} → Lft → Share → RefT (List X) → Spot
 spot κ q r = record { κ = κ; q = q; γ = r .name; b = r .ptr .0; o = r .ptr .1; k = length (r .now) }
+
+-- where the buffers lie that are passed first in a, and what they hold
+abbrev Passed : Type 0 → Type 0
+Passed X = RefT (List ℤ) × (RefT (List ℤ) × (RefT (List ℤ) × (RefT (List ℕ) × X)))
+
+abbrev pub spots : {X Y Z : Type 0} → Lft × (Lft × (Lft × (Lft × X))) → Share × (Share × (Share × (Share × Y))) → Passed Z → Spots
+spots κs qs a = (
+  spot (κs .0) (qs .0) (a .0),
+  (spot (κs .1 .0) (qs .1 .0) (a .1 .0), (spot (κs .1 .1 .0) (qs .1 .1 .0) (a .1 .1 .0), (spot (κs .1 .1 .1 .0) (qs .1 .1 .1 .0) (a .1 .1 .1 .0), tt))),
+)
+
+abbrev pub texts : {Z : Type 0} → Passed Z → Texts
+texts a = (a .0 .now, (a .1 .0 .now, (a .1 .1 .0 .now, (a .1 .1 .1 .0 .now, tt))))
