@@ -23,11 +23,11 @@ use prog.Wp.{Heap, Out, Env, afterSeq, afterBlock, afterTurn, Calls, Loops, Wp, 
 use ghost.Atoms.{Atoms, sem}
 use contract.Monad.{Fun, fact}
 use contract.Running.{givenOf, tables, tablesOf}
-use types.Kit.{Given, Item, Step, prop, step, ‵, raw, some, later, given, _⊛_, ⋆, anyQ, atRet, _$_, _∵_, !, qed, by}
+use types.Kit.{Given, Item, Step, prop, step, ‵, raw, some, later, _⊛_, ⋆, anyQ, atRet, _$_, _∵_, !, qed, by}
 use types.Kit.{await, done, drop as lose, fjoin, frame, fsplit, join, keep, learn, move, pick, rewrite, split, suffices, use1, use2, use3}
 use types.Run.{look, store, init, stop, fld, from, load, lit, of-opd, bin, no-more, assigns, assigns-last, stays, leaves-loop, land, returns, enter, params1, pass1, pass0, exec}
 use types.Part.{whole, sub, look-in}
-use types.Tokens.{lft-new, lft-end}
+use types.Tokens.{lft-new}
 use sound.Laws.{∗emp}
 use sound.Loop.{loop-rule}
 use sound.WpLaws.{FmC, fmOf, WpFn-mono}
@@ -61,7 +61,7 @@ use Rattle.reducer.proofs.list.RunAnswer.Laws as S′
 use Rattle.call_list.specs.Records.{Runs, noCall, numbersOf, runNext}
 use Rattle.call_list.specs.declared.Call.{Call}
 use Rattle.call_list.proofs.Buffers.{All, Buffer, Claims, Left, Lents, Long, Names, Owns, Refs, Rooms, Times, Tokens}
-use Rattle.call_list.proofs.Buffers.{give, left, lend, lists, locals, made, names, parts, refs, return-back, room, same, sliced, take, times, values}
+use Rattle.call_list.proofs.Buffers.{Back, comes, give, left, lend, lists, locals, made, names, parts, refs, room, same, sliced, take, times, values}
 use Rattle.call_list.proofs.Locals.{Blocks, Cell, Dies, allocated, blockOf, cell, cells, envOf, first, free, freed, holds, settled}
 use Rattle.call_list.proofs.Parameters.{Spots, Texts, buffers, many, spots, state, texts}
 use Rattle.call_list.proofs.Reborrow.{has, points, slices, takes}
@@ -444,20 +444,13 @@ module _ {M : Type 1} (𝓤 : URA M) (H : Heap 𝓤) (A : Atoms 𝓤) (W : Given
           (takes ! 5 refl (takes ! 6 refl
           (takes ! (for-next + 5) refl (takes ! (for-next + 7) refl (takes ! (for-next + 9) refl (takes ! (for-next + 11) refl
           (takes ! (4 + answer) refl (takes ! (4 + call) refl (no-more !))))))))) (λ u.
-          use1 W (later (some (λ (a : RunAnswer). ((‵ (flft (ν ∷ []) fullShare) ⊛ ‵ ftrue) ⊛ ‵ (S.the-row .own a (u ∷ [])))
-          ⊛ raw (ensured 𝓤 H A run-next.ended (run-next.clauses 𝓤 H A at-mem go) (ν ∷ [], tt) (next-args (t .zs) (t .a) c δs) tt a))))
-          (id⊢ 𝓤 _) $ await ! tt $ pick ! (λ a. split ! $ move ! (1 ∷ []) $
-          use1 W (some (λ (z : NextLeft). ‵ (lasts run-next.ended (ν ∷ [], tt) (next-args (t .zs) (t .a) c δs) z) ⊛ raw (fact 𝓤 (NextSaid n m ys ps xs (t .zs) (t .a) c a (next-left z))))) (id⊢ 𝓤 _) $
-          pick ! (λ z. split ! $ move ! (1 ∷ []) $ heard ! (NextSaid n m ys ps xs (t .zs) (t .a) c a (next-left z)) (λ d. fsplit ! $ lose ! $ fsplit ! $ lose ! $
-          move ! (1 ∷ []) $ split ! $ move ! (1 ∷ []) $ peeks ! S.the-row (Is S.the-row) (shows 𝓤 H A S.the-row) a (u ∷ []) (λ is.
-          -- [the answer; ν; what is left; the claims; the token; the records; the locals; …]
-          land ! (from ! (stop !)) (store ! (6 + answer) refl (EL.lawful S.the-type S′.the-laws 𝓤 H A W tt .typed a _ is .0)) $
-          move ! (1 ∷ []) $ split ! $ lft-end ! tt $ move ! (0 ∷ 4 ∷ 3 ∷ []) $
-          use3 W (later (given (Long Bs (next-left z)) (‵ (All Bs (next-left z)))))
-          (return-back 𝓤 H A W ν Bs δs (t .zs) (next-left z) (fsep ftrue (fsep ftrue ftrue)) rooms (t .long)) $ await ! tt $ learn ! (λ long.
-          -- [the buffers; true; the answer; the token; the records; the locals; …]
-          assigns-last ! (bin ! (has ! (5 + index) refl) (lit ! tt) (record { fits = next-fits })) (from ! (stop !)) (store ! (5 + index) refl (tt, record { fits = next-fits })) $
-          move ! (3 ∷ []) $ split ! $ move ! (1 ∷ 3 ∷ 4 ∷ 2 ∷ 5 ∷ 0 ∷ []) $ lose ! $ lose ! $ lose ! $
+          use2 W (Back 𝓤 H A W ν Bs δs (t .zs) S.the-row next-left (λ a z. NextSaid n m ys ps xs (t .zs) (t .a) c a (next-left z)) (fsep ftrue (fsep ftrue ftrue)) u)
+          (comes 𝓤 H A W ν Bs δs (t .zs) S.the-row next-left (λ a z. NextSaid n m ys ps xs (t .zs) (t .a) c a (next-left z)) (fsep ftrue (fsep ftrue ftrue)) u rooms (t .long)) $ await ! tt $
+          pick ! (λ a. pick ! (λ z. learn ! (λ is. learn ! (λ d. learn ! (λ long.
+          -- [the buffers; the token; the records; the locals; …]
+          land ! (from ! (stop !)) (store ! (3 + answer) refl (EL.lawful S.the-type S′.the-laws 𝓤 H A W tt .typed a _ is .0)) $
+          assigns-last ! (bin ! (has ! (3 + index) refl) (lit ! tt) (record { fits = next-fits })) (from ! (stop !)) (store ! (3 + index) refl (tt, record { fits = next-fits })) $
+          move ! (1 ∷ []) $ split ! $ move ! (1 ∷ 2 ∷ 3 ∷ 0 ∷ []) $ lose ! $
           settled ! call En (told free (holds u ∷ holds (vint w64 (t .i + 1)) ∷ holds p ∷ room Bs (holds (vint w64 (length ys)) ∷ holds (vbool true) ∷ made Bs []))) (Beside (next-left z)) $
           by ! (again (next n m ys ps xs t c a u (next-left z) is e d inside long) (nearer (length ys) (t .i) inside))))))))))))))
         where
@@ -501,19 +494,13 @@ module _ {M : Type 1} (𝓤 : URA M) (H : Heap 𝓤) (A : Atoms 𝓤) (W : Given
           calls-at ! fm (RunNone 𝓤 H A at-mem go) known-none (to-none ν δs)
           (takes ! 3 refl (takes ! 4 refl
           (takes ! (for-none + 3) refl (takes ! (for-none + 5) refl (takes ! (for-none + 7) refl (takes ! (for-none + 9) refl (no-more !))))))) (λ u.
-          use1 W (later (some (λ (a : RunAnswer). ((‵ (flft (ν ∷ []) fullShare) ⊛ ‵ ftrue) ⊛ ‵ (S.the-row .own a (u ∷ [])))
-          ⊛ raw (ensured 𝓤 H A run-none.ended (run-none.clauses 𝓤 H A at-mem go) (ν ∷ [], tt) (none-args δs) tt a))))
-          (id⊢ 𝓤 _) $ await ! tt $ pick ! (λ a. split ! $ move ! (1 ∷ []) $
-          use1 W (some (λ (z : NoneLeft). ‵ (lasts run-none.ended (ν ∷ [], tt) (none-args δs) z) ⊛ raw (fact 𝓤 (NoneSaid n m ys ps xs a (none-left z))))) (id⊢ 𝓤 _) $
-          pick ! (λ z. split ! $ move ! (1 ∷ []) $ heard ! (NoneSaid n m ys ps xs a (none-left z)) (λ d. fsplit ! $ lose ! $ fsplit ! $ lose ! $
-          move ! (1 ∷ []) $ split ! $ move ! (1 ∷ []) $ peeks ! S.the-row (Is S.the-row) (shows 𝓤 H A S.the-row) a (u ∷ []) (λ is.
-          -- [the answer; ν; what is left; the claims; the locals; …]
-          land ! (from ! (stop !)) (init ! (4 + answer) refl (EL.lawful S.the-type S′.the-laws 𝓤 H A W tt .typed a _ is .0)) $
-          move ! (1 ∷ []) $ split ! $ lft-end ! tt $ move ! (0 ∷ 4 ∷ 3 ∷ []) $
-          use3 W (later (given (Long Bs (none-left z)) (‵ (All Bs (none-left z))))) (return-back 𝓤 H A W ν Bs δs xs (none-left z) ftrue rooms first) $ await ! tt $ learn ! (λ long.
-          -- [the buffers; true; the answer; the locals; …]
-          assigns ! (of-opd ! (lit ! tt)) (from ! (stop !)) (init ! (3 + index) refl (tt, record { fits = lit< tt })) $
-          move ! (1 ∷ 2 ∷ 0 ∷ (4 + dies) ∷ (5 + dies) ∷ []) $ lose ! $ lose ! $
+          use2 W (Back 𝓤 H A W ν Bs δs xs S.the-row none-left (λ a z. NoneSaid n m ys ps xs a (none-left z)) ftrue u)
+          (comes 𝓤 H A W ν Bs δs xs S.the-row none-left (λ a z. NoneSaid n m ys ps xs a (none-left z)) ftrue u rooms first) $ await ! tt $
+          pick ! (λ a. pick ! (λ z. learn ! (λ is. learn ! (λ d. learn ! (λ long.
+          -- [the buffers; the locals; …]
+          land ! (from ! (stop !)) (init ! (1 + answer) refl (EL.lawful S.the-type S′.the-laws 𝓤 H A W tt .typed a _ is .0)) $
+          assigns ! (of-opd ! (lit ! tt)) (from ! (stop !)) (init ! (1 + index) refl (tt, record { fits = lit< tt })) $
+          move ! (0 ∷ (2 + dies) ∷ (3 + dies) ∷ []) $
           settled ! call En (told free (holds u ∷ holds (vint w64 0) ∷ free ∷ made Bs [])) (Beside (none-left z)) $
           by ! (loops (starts n m ys ps xs a u (none-left z) is d long))))))))))
 
