@@ -64,7 +64,7 @@ use Rattle.call_list.proofs.Buffers.{All, Buffer, Claims, Left, Lents, 
 use Rattle.call_list.proofs.Buffers.{Back, comes, give, left, lend, lists, locals, made, names, parts, refs, room, same, sliced, take, times, values}
 use Rattle.call_list.proofs.Locals.{Blocks, Cell, Dies, allocated, blockOf, cell, cells, envOf, first, free, freed, holds, settled}
 use Rattle.call_list.proofs.Parameters.{Spots, Texts, buffers, many, spots, state, texts}
-use Rattle.call_list.proofs.Reborrow.{has, points, slices, takes}
+use Rattle.call_list.proofs.Reborrow.{has, reborrows, takes}
 use Rattle.call_list.proofs.Running.{Running, running-end, running-next, running-room, running-start}
 use Rattle.call_list.proofs.Call as R
 use Rattle.call_list.proofs.Call.Laws as R′
@@ -426,14 +426,10 @@ module _ {M : Type 1} (𝓤 : URA M) (H : Heap 𝓤) (A : Atoms 𝓤) (W : Given
           peeks ! R.the-row (Is R.the-row) (shows 𝓤 H A R.the-row) c (p ∷ []) (λ g.
           -- [record i; the token; the records; the locals; …]
           land ! (from ! (stop !)) (init ! (3 + call) refl (LL.lawful R.the-type R′.the-laws 𝓤 H A W .typed c _ g .0)) $
-          assigns ! (points ! (lent + 3) refl refl) (from ! (stop !)) (init ! (for-next + 3) refl (tt, tt)) $
-          assigns ! (slices ! (for-next + 3) (lent + 3) refl refl refl) (from ! (stop !)) (init ! (for-next + 4) refl (tt, (tt, (record { fits = rooms .0 .0 }, tt)))) $
-          assigns ! (points ! (lent + 4) refl refl) (from ! (stop !)) (init ! (for-next + 5) refl (tt, tt)) $
-          assigns ! (slices ! (for-next + 5) (lent + 4) refl refl refl) (from ! (stop !)) (init ! (for-next + 6) refl (tt, (tt, (record { fits = rooms .1 .0 .0 }, tt)))) $
-          assigns ! (points ! (lent + 5) refl refl) (from ! (stop !)) (init ! (for-next + 7) refl (tt, tt)) $
-          assigns ! (slices ! (for-next + 7) (lent + 5) refl refl refl) (from ! (stop !)) (init ! (for-next + 8) refl (tt, (tt, (record { fits = rooms .1 .1 .0 .0 }, tt)))) $
-          assigns ! (points ! (lent + 6) refl refl) (from ! (stop !)) (init ! (for-next + 9) refl (tt, tt)) $
-          assigns ! (slices ! (for-next + 9) (lent + 6) refl refl refl) (from ! (stop !)) (init ! (for-next + 10) refl (tt, (tt, (record { fits = rooms .1 .1 .1 .0 .0 }, tt)))) $
+          reborrows ! (lent + 3) (for-next + 3) (for-next + 4) refl refl refl (tt, tt) refl refl refl (tt, (tt, (record { fits = rooms .0 .0 }, tt))) $
+          reborrows ! (lent + 4) (for-next + 5) (for-next + 6) refl refl refl (tt, tt) refl refl refl (tt, (tt, (record { fits = rooms .1 .0 .0 }, tt))) $
+          reborrows ! (lent + 5) (for-next + 7) (for-next + 8) refl refl refl (tt, tt) refl refl refl (tt, (tt, (record { fits = rooms .1 .1 .0 .0 }, tt))) $
+          reborrows ! (lent + 6) (for-next + 9) (for-next + 10) refl refl refl (tt, tt) refl refl refl (tt, (tt, (record { fits = rooms .1 .1 .1 .0 .0 }, tt))) $
           lft-new ! tt (λ ν. nothing ! $ move ! (2 ∷ 0 ∷ []) $ fjoin ! $ owned ! S.the-row (Is S.the-row) (EL.makes S.the-type S′.the-plain 𝓤 H A) (t .a) _ (t .is) $ fjoin ! $
           -- [answer and record; ν; the token; the records; the locals; …]
           move ! ((5 + dies) ∷ 0 ∷ []) $ use2 W (later (some (λ (δs : Names Bs). ‵ (Lents Bs ν δs (t .zs) (Rest (t .a) (t .u) c p)) ⊛ ‵ (Claims Bs ν δs (t .zs)))))
@@ -480,14 +476,10 @@ module _ {M : Type 1} (𝓤 : URA M) (H : Heap 𝓤) (A : Atoms 𝓤) (W : Given
       begins : ent 𝓤 (⋆ 𝓤 H A (here (told free []) xs)) (Wp 𝓤 H C Λ En t-1 (atReturn 𝓤 H En Post))
       begins =
           qed W (here (told free []) xs) ∵ exec ! C Λ En t-1 (atRet En Post) $
-          assigns ! (points ! lent refl refl) (from ! (stop !)) (init ! for-none refl (tt, tt)) $
-          assigns ! (slices ! for-none lent refl refl refl) (from ! (stop !)) (init ! (for-none + 1) refl (tt, (tt, (record { fits = rooms .0 .0 }, tt)))) $
-          assigns ! (points ! (lent + 1) refl refl) (from ! (stop !)) (init ! (for-none + 2) refl (tt, tt)) $
-          assigns ! (slices ! (for-none + 2) (lent + 1) refl refl refl) (from ! (stop !)) (init ! (for-none + 3) refl (tt, (tt, (record { fits = rooms .1 .0 .0 }, tt)))) $
-          assigns ! (points ! (lent + 2) refl refl) (from ! (stop !)) (init ! (for-none + 4) refl (tt, tt)) $
-          assigns ! (slices ! (for-none + 4) (lent + 2) refl refl refl) (from ! (stop !)) (init ! (for-none + 5) refl (tt, (tt, (record { fits = rooms .1 .1 .0 .0 }, tt)))) $
-          assigns ! (points ! (lent + 3) refl refl) (from ! (stop !)) (init ! (for-none + 6) refl (tt, tt)) $
-          assigns ! (slices ! (for-none + 6) (lent + 3) refl refl refl) (from ! (stop !)) (init ! (for-none + 7) refl (tt, (tt, (record { fits = rooms .1 .1 .1 .0 .0 }, tt)))) $
+          reborrows ! lent for-none (for-none + 1) refl refl refl (tt, tt) refl refl refl (tt, (tt, (record { fits = rooms .0 .0 }, tt))) $
+          reborrows ! (lent + 1) (for-none + 2) (for-none + 3) refl refl refl (tt, tt) refl refl refl (tt, (tt, (record { fits = rooms .1 .0 .0 }, tt))) $
+          reborrows ! (lent + 2) (for-none + 4) (for-none + 5) refl refl refl (tt, tt) refl refl refl (tt, (tt, (record { fits = rooms .1 .1 .0 .0 }, tt))) $
+          reborrows ! (lent + 3) (for-none + 6) (for-none + 7) refl refl refl (tt, tt) refl refl refl (tt, (tt, (record { fits = rooms .1 .1 .1 .0 .0 }, tt))) $
           lft-new ! tt (λ ν. nothing ! $ move ! ((3 + dies) ∷ 0 ∷ []) $ use2 W (later (some (λ (δs : Names Bs). ‵ (Lents Bs ν δs xs ftrue) ⊛ ‵ (Claims Bs ν δs xs))))
           (lend 𝓤 H A W ν Bs xs ftrue first) $ await ! tt $ pick ! (λ δs. split ! $ move ! (2 ∷ 0 ∷ []) $ use2 W (raw (RunNone 𝓤 H A at-mem go .pre (to-none ν δs))) (asks-none ν δs) $
           -- [what `run_none` asks; the claims; the locals; …]

@@ -57,7 +57,7 @@ use Rattle.call_list.proofs.Buffers.{finals, give, last-token, left, li
 use Rattle.call_list.proofs.Held.{Claim, frees-array, lends-array}
 use Rattle.call_list.proofs.Locals.{Blocks, Cell, Dies, allocated, blockOf, cell, cells, envOf, free, freed, holds}
 use Rattle.call_list.proofs.Parameters.{Spots, Texts, buffers, many, spots, state, texts}
-use Rattle.call_list.proofs.Reborrow.{has, points, slices, takes}
+use Rattle.call_list.proofs.Reborrow.{has, reborrows, takes}
 use Rattle.call_list.proofs.Call as R
 use Rattle.call_list.proofs.Call.Laws as R′
 use Rattle.call_list.proofs.run as run
@@ -241,14 +241,10 @@ module _ {M : Type 1} (𝓤 : URA M) (H : Heap 𝓤) (A : Atoms 𝓤) (W : Given
       begins : ent 𝓤 (⋆ 𝓤 H A Start) (Wp 𝓤 H C Λ En t-1 (atReturn 𝓤 H En Post))
       begins =
           qed W Start ∵ exec ! C Λ En t-1 (atRet En Post) $ assigns ! (of-opd ! (has ! calls refl)) (from ! (stop !)) (init ! copy refl typed) $
-          assigns ! (points ! lent refl refl) (from ! (stop !)) (init ! for-run refl (tt, tt)) $
-          assigns ! (slices ! for-run lent refl refl refl) (from ! (stop !)) (init ! (for-run + 1) refl (tt, (tt, (record { fits = rooms .0 .0 }, tt)))) $
-          assigns ! (points ! (lent + 1) refl refl) (from ! (stop !)) (init ! (for-run + 2) refl (tt, tt)) $
-          assigns ! (slices ! (for-run + 2) (lent + 1) refl refl refl) (from ! (stop !)) (init ! (for-run + 3) refl (tt, (tt, (record { fits = rooms .1 .0 .0 }, tt)))) $
-          assigns ! (points ! (lent + 2) refl refl) (from ! (stop !)) (init ! (for-run + 4) refl (tt, tt)) $
-          assigns ! (slices ! (for-run + 4) (lent + 2) refl refl refl) (from ! (stop !)) (init ! (for-run + 5) refl (tt, (tt, (record { fits = rooms .1 .1 .0 .0 }, tt)))) $
-          assigns ! (points ! (lent + 3) refl refl) (from ! (stop !)) (init ! (for-run + 6) refl (tt, tt)) $
-          assigns ! (slices ! (for-run + 6) (lent + 3) refl refl refl) (from ! (stop !)) (init ! (for-run + 7) refl (tt, (tt, (record { fits = rooms .1 .1 .1 .0 .0 }, tt)))) $
+          reborrows ! lent for-run (for-run + 1) refl refl refl (tt, tt) refl refl refl (tt, (tt, (record { fits = rooms .0 .0 }, tt))) $
+          reborrows ! (lent + 1) (for-run + 2) (for-run + 3) refl refl refl (tt, tt) refl refl refl (tt, (tt, (record { fits = rooms .1 .0 .0 }, tt))) $
+          reborrows ! (lent + 2) (for-run + 4) (for-run + 5) refl refl refl (tt, tt) refl refl refl (tt, (tt, (record { fits = rooms .1 .1 .0 .0 }, tt))) $
+          reborrows ! (lent + 3) (for-run + 6) (for-run + 7) refl refl refl (tt, tt) refl refl refl (tt, (tt, (record { fits = rooms .1 .1 .1 .0 .0 }, tt))) $
           assigns ! (addr ! (from ! (stop !))) (from ! (stop !)) (init ! array refl (tt, tt)) $
           assigns ! (agg ! (takes ! array refl (and-then ! (lit ! tt) (no-more !)))) (from ! (stop !)) (init ! records refl (tt, (tt, (record { fits = lit< tt }, tt)))) $
           rewrite ! records (λ (k : ℕ). cell (rec, blockOf En records) (holds (sliceVal (l, 0) k))) (sym long) refl $
