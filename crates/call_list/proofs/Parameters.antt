@@ -1,4 +1,5 @@
--- The buffers that `run` and `run_four` are passed, and the state that they hold: what a buffer more changes first. Assumes nothing.
+-- The buffers that `run` and `run_four` are passed, and the state that they hold. A buffer more is an entry in each definition here, and in each of the two walks a
+-- `pass1`, an entry in `stayed`, in what is told at the end and in a call's operands, and a `reborrows` for each call. All else goes by the list. Assumes nothing.
 use Prim.Native.Nat.{ℕ}
 use mathlib.Core.List.{List, [], _∷_}
 use lib.IntN.{ℤ}
