@@ -45,7 +45,8 @@ module _ (T : RattleType) (one : Single (T .mir)) (k : ℕ) (κ : Lft) (b : ℕ)
         fpack ! (List Val) (λ vs. fsep (cellAt fullShare (Array T k .mir) vs b zero) (Array T k .own ys vs)) (v ∷ []) $
         use1 W (‵ (arr-parts (shares T) k .part fullShare ys b zero)) (array-apart 𝓤 H A W T fullShare one k ys b zero) $
         rewrite ! 0 (λ (m : ℕ). ‵ (arr-parts (shares T) m .part fullShare ys b zero)) (sym long) refl $
-        use1 W (later (some (λ (δ : GName). ‵ (ShrSlice ℓ κ T .own (slice δ) (sliceVal (b, zero) (length ys) ∷ [])) ⊛ ‵ (Claim ys)))) (lends-shr-slice 𝓤 H A W T ℓ κ fullShare ys b zero room) $ await ! tt $ pick ! (λ δ.
+        use1 W (later (some (λ (δ : GName). ‵ (ShrSlice ℓ κ T .own (slice δ) (sliceVal (b, zero) (length ys) ∷ [])) ⊛ ‵ (Claim ys))))
+        (lends-shr-slice 𝓤 H A W T ℓ κ fullShare ys b zero room) $ await ! tt $ pick ! (λ δ.
         at-once ! $ show ! (λ (ε : GName). sep 𝓤 (sem 𝓤 H A (ShrSlice ℓ κ T .own (slice ε) (sliceVal (b, zero) (length ys) ∷ []))) (sem 𝓤 H A (Claim ys))) δ $ split ! $ done !)
 
     pub frees-array : (vals : T .Denot → List Val) → Tells T (Is T) vals → ent 𝓤 (sep 𝓤 (A .dead κ) (sem 𝓤 H A (Claim ys))) (H .⇛ (H .room (lone (Array T k .mir)) b zero))
@@ -56,4 +57,5 @@ module _ (T : RattleType) (one : Single (T .mir)) (k : ℕ) (κ : Lft) (b : ℕ)
         use1 W (‵ (partAt (Array T k) fullShare ys b zero)) (array-whole 𝓤 H A W T fullShare k ys b zero) $ fpick ! (λ vs. fsplit ! $ move ! (1 ∷ []) $
         peeks ! (Array T k) (Is (Array T k)) (shows 𝓤 H A (Array T k)) ys vs (λ is. drop ! $
         rewrite ! 0 (λ (us : List Val). ‵ (cellAt fullShare (Array T k .mir) us b zero)) (array-tells T vals tells k ys vs is) refl $
-        at-once ! $ use1 W (‵ (froom (rawTy (lone (Array T k .mir))) b zero)) (W .laws .at-room _ _ _ _) $ use1 W (‵ (froom (lone (Array T k .mir)) b zero)) (W .laws .raw-room (lone (Array T k .mir)) b zero) $ done !))
+        at-once ! $ use1 W (‵ (froom (rawTy (lone (Array T k .mir))) b zero)) (W .laws .at-room _ _ _ _) $
+        use1 W (‵ (froom (lone (Array T k .mir)) b zero)) (W .laws .raw-room (lone (Array T k .mir)) b zero) $ done !))

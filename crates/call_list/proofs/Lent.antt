@@ -41,7 +41,8 @@ module _ (T : RattleType) (κ κ′ : Lft) (q : Share) (γ : GName) (b o : ℕ) 
     lends =
         qed W (‵ (MutSlice ℓ κ T .own (slice γ ys) at) ∷ ‵ (flft κ q) ∷ []) ∵ updating ! $ fsplit ! $ pureL ! (at-slice T (slice γ ys) at) (λ p. fsplit ! $ opens-slice ! tt T ys b o $
         use1 W (‵ (cells (mem T) ys b o)) (whole-in 𝓤 H A W T ys b o) $
-        use1 W (later (some (λ (δ : GName). ‵ (MutSlice ℓ′ κ′ T .own (slice δ ys) at) ⊛ ‵ (flent κ′ (Held T (length ys) b o δ))))) (lends-slice 𝓤 H A W T ℓ′ κ′ ys b o (p .1)) $ await ! tt $ pick ! (λ δ. split ! $
+        use1 W (later (some (λ (δ : GName). ‵ (MutSlice ℓ′ κ′ T .own (slice δ ys) at) ⊛ ‵ (flent κ′ (Held T (length ys) b o δ)))))
+        (lends-slice 𝓤 H A W T ℓ′ κ′ ys b o (p .1)) $ await ! tt $ pick ! (λ δ. split ! $
         at-once ! $ show ! (λ (ε : GName). sep 𝓤 (sem 𝓤 H A (MutSlice ℓ′ κ′ T .own (slice ε ys) at)) (sem 𝓤 H A (Kept ε ys))) δ $ frame ! $
         -- [the claim; the open borrow; both halves of γ]
         fjoin ! $ move ! (1 ∷ 2 ∷ []) $ fjoin ! $ move ! (1 ∷ 0 ∷ []) $ fjoin ! $ done !))

@@ -1,3 +1,7 @@
+pub mod Buffers
 pub mod Held
 pub mod Lent
+pub mod Locals
+pub mod Parameters
+pub mod Reborrow
 pub mod Running
