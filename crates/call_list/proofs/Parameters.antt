@@ -8,7 +8,7 @@ use mir.Syntax.{named}
 use base.Fml.{Lft, Share}
 use denote.Builtin.{i32, u8}
 use denote.Ref.{RefT}
-use Rattle.semantics.specs.State.{State, stateOf}
+use Rattle.model.specs.State.{State, stateOf}
 use Rattle.call_list.proofs.Buffers.{Buffer, Spot}
 
 -- what the buffers hold: box, coefficients, right sides, table

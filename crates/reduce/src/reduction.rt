@@ -20,7 +20,7 @@ pub enum Answer {
 }
 
 fn answer_of(rounds: RoundsAnswer) -> Answer
-    ensures { λ r. ⌜ ((s : State) → answerText r (s .n) (s .m) (s .box) (s .coefs) (s .rhs) (s .table) ≡ textOf (roundsAnswer rounds) s) ⌝ }
+    ensures { λ r. ⌜ ((s : State) → answerText r (s .model .n) (s .model .m) (s .model .box) (s .model .rows .coefs) (s .model .rows .rhs) (s .table) ≡ textOf (roundsAnswer rounds) s) ⌝ }
 {
     match rounds {
         RoundsAnswer::Refused(number) => Answer::Refused(number),

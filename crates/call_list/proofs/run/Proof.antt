@@ -50,7 +50,7 @@ use denote.Triple.Walked.{says, Stays, stay-none, stay-none-slice, stay-slice, w
 use denote.Exit.{yes}
 use borrow.Author.Tests.{ltb-true, ltb-false}
 use Rattle.semantics.specs.CallList.{ListRun, runList}
-use Rattle.semantics.specs.State.{State}
+use Rattle.model.specs.State.{State}
 use Rattle.semantics.specs.TwoLists.{ListMeans}
 use Rattle.semantics.proofs.CallLists.{counts-add-up, demand-3-lists, list-means}
 use Rattle.semantics.proofs.Demand3.{handed-in}
@@ -60,8 +60,7 @@ use Rattle.reducer.proofs.list.RunAnswer as S
 use Rattle.reducer.proofs.list.RunAnswer.Laws as S′
 use Rattle.call_list.specs.Records.{Runs, noCall, numbersOf, runNext}
 use Rattle.call_list.specs.declared.Call.{Call}
-use Rattle.call_list.proofs.Buffers.{All, Buffer, Claims, Left, Lents, Long, Names, Owns, Refs, Rooms, Times, Tokens}
-use Rattle.call_list.proofs.Buffers.{Back, comes, give, left, lend, lists, locals, made, names, parts, refs, room, same, sliced, take, times, values}
+use Rattle.call_list.proofs.Buffers.{All, Buffer, Claims, Left, Lents, Long, Names, Owns, Refs, Rooms, Times, Tokens, Back, comes, give, left, lend, lists, locals, made, names, parts, refs, room, same, sliced, take, times, values}
 use Rattle.call_list.proofs.Locals.{Blocks, Cell, Dies, allocated, blockOf, cell, cells, envOf, first, free, freed, holds, settled}
 use Rattle.call_list.proofs.Parameters.{Spots, Texts, buffers, many, spots, state, texts}
 use Rattle.call_list.proofs.Reborrow.{has, reborrows, takes}

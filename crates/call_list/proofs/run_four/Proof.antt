@@ -52,8 +52,7 @@ use Rattle.reducer.proofs.list.RunAnswer as S
 use Rattle.reducer.proofs.list.RunAnswer.Laws as S′
 use Rattle.call_list.specs.Records.{numbersOf}
 use Rattle.call_list.specs.declared.Call.{Call}
-use Rattle.call_list.proofs.Buffers.{All, Buffer, Finals, Leaves, Left, Owns, Refs, Rooms, Same, Times, Tokens}
-use Rattle.call_list.proofs.Buffers.{finals, give, last-token, left, lists, locals, made, names, parts, refs, sliced, take, times, values}
+use Rattle.call_list.proofs.Buffers.{All, Buffer, Finals, Leaves, Left, Owns, Refs, Rooms, Same, Times, Tokens, finals, give, last-token, left, lists, locals, made, names, parts, refs, sliced, take, times, values}
 use Rattle.call_list.proofs.Held.{Claim, frees-array, lends-array}
 use Rattle.call_list.proofs.Locals.{Blocks, Cell, Dies, allocated, blockOf, cell, cells, envOf, free, freed, holds}
 use Rattle.call_list.proofs.Parameters.{Spots, Texts, buffers, many, spots, state, texts}

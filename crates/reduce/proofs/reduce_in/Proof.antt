@@ -41,7 +41,7 @@ same-length-4 c = search needs
 
 returns : tie.Need-returns
 unfolding answerText
-returns c = λ t. c .refused .ensures t ∙ ap length (rw (c .before .before .before .number .given .1) at (c .before .before .before .before .before .before .before .before .before .before .solve .ensures))
+returns c = λ t. c .refused .ensures t ∙ ap length (rw (c .before .before .before .number .given .1) at (c .before .before .before .before .before .before .before .before .before .before .solve .ensures .0))
 
 same-length-5 : tie.Need-same-length-5
 same-length-5 c = search needs
@@ -57,7 +57,7 @@ same-length-8 c = search needs
 
 returns-2 : tie.Need-returns-2
 unfolding answerText
-returns-2 c = λ t. c .none .ensures t ∙ ap length (rw (c .before .before .enum-told .given .1) at (c .before .before .before .before .before .before .before .before .before .solve .ensures))
+returns-2 c = λ t. c .none .ensures t ∙ ap length (rw (c .before .before .enum-told .given .1) at (c .before .before .before .before .before .before .before .before .before .solve .ensures .0))
 
 same-length-9 : tie.Need-same-length-9
 same-length-9 c = search needs
@@ -73,7 +73,7 @@ same-length-12 c = search needs
 
 returns-3 : tie.Need-returns-3
 unfolding answerText
-returns-3 c = λ t. c .reduced .ensures t ∙ ap length (rw (c .before .before .before .before .before .before .before .made .given .1) at (c .before .before .before .before .before .before .before .before .before .before .before .before .before .before .solve .ensures))
+returns-3 c = λ t. c .reduced .ensures t ∙ ap length (rw (c .before .before .before .before .before .before .before .made .given .1) at (c .before .before .before .before .before .before .before .before .before .before .before .before .before .before .solve .ensures .0))
 
 pub reduce-in-spec : {M : Type 1} → statement M
 reduce-in-spec =
