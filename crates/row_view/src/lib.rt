@@ -18,6 +18,8 @@ ghost use Rattle.row.specs.ValidRow.{ValidCoefs, ValidRow};
 ghost use Rattle.row_view.specs.RowIn.{RowIn};
 ghost use Rattle.sweep.specs.Steps.{Steps};
 
+pub mod changes;
+
 pub struct Row<'a> {
     pub coefs: &'a [i32],
     pub b: i32,

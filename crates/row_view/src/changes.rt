@@ -1,0 +1,77 @@
+// Row r of a matrix that a call may change: the rule is lent its coefficients and its right side in place, and every other row
+// stays as it was.
+use row::activity::maximum_activity;
+use row::redundancy::RowRemoval;
+use row::redundancy::remove_redundant_row;
+use row::tightening::CoefficientTightening;
+use row::tightening::tighten_coefficient;
+ghost use mathlib.Core.Path.{_≡_};
+ghost use Prim.Native.Nat.{_*_, _+_, _<_, _≤_};
+ghost use lib.ListN.{length};
+ghost use Rattle.model.specs.Box.{at};
+ghost use Rattle.model.specs.Rows.{rowAt, rowOf, rowsOf, setRow};
+ghost use Rattle.row.specs.Activity.{maxActivity};
+ghost use Rattle.row.specs.Answers.{removalOutcome, tighteningOutcome};
+ghost use Rattle.row.specs.Redundancy.{removeRowOf};
+ghost use Rattle.row.specs.Tightening.{rowLeft, tightenRowOf};
+ghost use Rattle.row.specs.ValidRow.{ValidCoefs, ValidRow};
+ghost use Rattle.row_view.specs.RowIn.{RowIn};
+
+// Lmax of row r.
+pub fn maximum_activity_at(n: usize, coefs: &[i32], r: usize, bounds: &[i32]) -> i64
+    requires { ⌜ r * n + n ≤ length (now coefs) ⌝ }
+    requires { ⌜ ValidCoefs n (rowOf n (now coefs) r) (now bounds) ⌝ }
+    ensures { λ most. ⌜ most ≡ maxActivity n (rowOf n (now (coefs .entry)) r) (now (bounds .entry)) ⌝ }
+{
+    let start = r * n;
+    let end = start + n;
+    maximum_activity(&coefs[start..end], bounds)
+}
+
+// Tightens the coefficient of the free binary variable k in row r (01's sharpen).
+pub fn tighten_coefficient_at(
+    n: usize,
+    coefs: &mut [i32],
+    rhs: &mut [i32],
+    r: usize,
+    bounds: &[i32],
+    k: usize,
+) -> CoefficientTightening
+    requires { ⌜ RowIn n (now coefs) (now rhs) r ⌝ }
+    requires { ⌜ ValidRow n (rowOf n (now coefs) r) (at (now rhs) r) (now bounds) ⌝ }
+    requires { ⌜ k < n ⌝ }
+    ensures answer { λ t.
+        let A = rowsOf (now (coefs .entry)) (now (rhs .entry)) in
+        ⌜ tighteningOutcome t ≡ tightenRowOf n (rowAt n A r) (now (bounds .entry)) k .outcome ⌝ }
+    ensures left { λ t.
+        let A = rowsOf (now (coefs .entry)) (now (rhs .entry)) in
+        let new = tightenRowOf n (rowAt n A r) (now (bounds .entry)) k in
+        ⌜ rowsOf (now (coefs .exit)) (now (rhs .exit)) ≡ setRow n A r (rowLeft new) ⌝ }
+{
+    let start = r * n;
+    let end = start + n;
+    tighten_coefficient(&mut coefs[start..end], &mut rhs[r], bounds, k)
+}
+
+// Removes row r where the box implies it (01's drop).
+pub fn remove_redundant_row_at(
+    n: usize,
+    coefs: &mut [i32],
+    rhs: &mut [i32],
+    r: usize,
+    bounds: &[i32],
+) -> RowRemoval
+    requires { ⌜ RowIn n (now coefs) (now rhs) r ⌝ }
+    requires { ⌜ ValidRow n (rowOf n (now coefs) r) (at (now rhs) r) (now bounds) ⌝ }
+    ensures answer { λ t.
+        let A = rowsOf (now (coefs .entry)) (now (rhs .entry)) in
+        ⌜ removalOutcome t ≡ removeRowOf n (rowAt n A r) (now (bounds .entry)) .outcome ⌝ }
+    ensures left { λ t.
+        let A = rowsOf (now (coefs .entry)) (now (rhs .entry)) in
+        let new = removeRowOf n (rowAt n A r) (now (bounds .entry)) in
+        ⌜ rowsOf (now (coefs .exit)) (now (rhs .exit)) ≡ setRow n A r (rowLeft new) ⌝ }
+{
+    let start = r * n;
+    let end = start + n;
+    remove_redundant_row(&mut coefs[start..end], &mut rhs[r], bounds)
+}
