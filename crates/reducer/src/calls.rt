@@ -215,7 +215,7 @@ pub fn is_probing_fixpoint(
     ensures defined { λ r. ⌜ restVerdict r ≡ rest (stateOf n m (now (bounds .entry)) (now (coefs .entry)) (now (rhs .entry)) []) ⌝ }
     ensures meaning { λ r. ⌜ (restVerdict r ≡ atRest) ↔ ((restFault (stateOf n m (now (bounds .entry)) (now (coefs .entry)) (now (rhs .entry)) []) ≡ 0) × AtRest (stateOf n m (now (bounds .entry)) (now (coefs .entry)) (now (rhs .entry)) [])) ⌝ }
 {
-    let fault = model::model_fault(n, m, bounds, coefs, rhs);
+    let fault = model::model_fault(n, m, bounds, coefs, rhs, true);
     if fault != 0 {
         return RestAnswer::Refused(fault);
     }

@@ -23,7 +23,7 @@ pub fn call_fault(
     requires { ⌜ T (not (hasTable (kindOf kind))) ⌝ }
     ensures { λ r. ⌜ r ≡ callFault (stateOf n m (now (bounds .entry)) (now (coefs .entry)) (now (rhs .entry)) []) (callOf (stateOf n m (now (bounds .entry)) (now (coefs .entry)) (now (rhs .entry)) []) kind row variable budget) ⌝ }
 {
-    let fault = model::model_fault(n, m, bounds, coefs, rhs);
+    let fault = model::model_fault(n, m, bounds, coefs, rhs, true);
     if fault != 0 {
         return fault;
     }
@@ -43,7 +43,7 @@ pub fn probe_fault(
 ) -> u32
     ensures { λ r. ⌜ r ≡ callFault (stateOf n m (now (bounds .entry)) (now (coefs .entry)) (now (rhs .entry)) (now (table .entry))) (callOf (stateOf n m (now (bounds .entry)) (now (coefs .entry)) (now (rhs .entry)) (now (table .entry))) 3 0 variable budget) ⌝ }
 {
-    let fault = model::model_table_fault(n, m, bounds, coefs, rhs, table);
+    let fault = model::model_table_fault(n, m, bounds, coefs, rhs, table, true);
     if fault != 0 {
         return fault;
     }

@@ -28,29 +28,7 @@ fn list_fault(
 ) -> u32
     ensures { λ r. ⌜ r ≡ listFault (stateOf n m (now (bounds .entry)) (now (coefs .entry)) (now (rhs .entry)) (now (table .entry))) (now (calls .entry)) ⌝ }
 {
-    let size = model::size_fault(n, m);
-    if size != 0 {
-        return size;
-    }
-    let length = model::length_fault(n, m, bounds, coefs, rhs);
-    if length != 0 {
-        return length;
-    }
-    let table_length = model::table_length_fault(n, table);
-    if table_length != 0 {
-        return table_length;
-    }
-    if calls.len() % 4 != 0 {
-        return 5;
-    }
-    let number = model::number_fault(n, bounds, coefs, rhs);
-    if number != 0 {
-        return number;
-    }
-    if !model::is_bits(table) {
-        return 10;
-    }
-    0
+    model::model_table_fault(n, m, bounds, coefs, rhs, table, calls.len() % 4 == 0)
 }
 
 // Runs a flat list of call records, four numbers each: kind, row, variable, budget. It goes on after a refused call. `meaning`: what

@@ -21,7 +21,7 @@ use Rattle.semantics.specs.Run.{CallClass, classOf, run, step, isRefused}
 use Rattle.model.specs.Rows.{rowOf, setRow}
 use Rattle.row.specs.Activity.{maxActivity}
 use Rattle.row.specs.Outcome.{isChanged, isInfeasible}
-use Rattle.row.specs.Tightening.{NewRow, mayTighten, tightenCoefficient}
+use Rattle.row.specs.Tightening.{NewRow, mayTighten, rowLeft, tightenCoefficient}
 use Rattle.row.specs.ValidRow.{ValidCoefs}
 use Rattle.row.proofs.RowLoops.{coefs-small, max-activity-small}
 use Rattle.row.proofs.TighteningLaws.{tighten-coefficient-unchanged, tighten-fails}
@@ -64,12 +64,12 @@ leads-valid {s} {cs = cs} p v = subst ValidState (sym (p .left)) (run-preserves 
 
 -- calls keep the length of each buffer
 pub record SameLengths (s t : State) : Type 0 where
-  pub box : length (t .box) ≡ length (s .model .box)
-  pub coefs : length (t .coefs) ≡ length (s .model .rows .coefs)
-  pub rhs : length (t .rhs) ≡ length (s .model .rows .rhs)
+  pub box : length (t .model .box) ≡ length (s .model .box)
+  pub coefs : length (t .model .rows .coefs) ≡ length (s .model .rows .coefs)
+  pub rhs : length (t .model .rows .rhs) ≡ length (s .model .rows .rhs)
   pub table : length (t .table) ≡ length (s .table)
 
-pub valid-lengths : {s t : State} → ValidState s → ValidState t → (t .n ≡ s .model .n) × (t .m ≡ s .model .m) → SameLengths s t
+pub valid-lengths : {s t : State} → ValidState s → ValidState t → (t .model .n ≡ s .model .n) × (t .model .m ≡ s .model .m) → SameLengths s t
 valid-lengths v w e = record {
   box = w .model .box .len ∙ ap (λ (x : ℕ). 2 * x) (e .0) ∙ sym (v .model .box .len);
   coefs = w .model .coefsLen ∙ ap₂ _*_ (e .1) (e .0) ∙ sym (v .model .coefsLen);
@@ -174,7 +174,7 @@ module _ (s : State) (r k : ℕ) where
       let t = tighten-fails (s .model .n) row (at (s .model .rows .rhs) r) (s .model .box) k h in
       let u = tighten-coefficient-unchanged (s .model .n) row (at (s .model .rows .rhs) r) (s .model .box) k t in
       record {
-        left = sym (step-ind s (callOf s 4 r k 0) (λ x. x ≡ s) (λ _. withRow-same s r _ _ (u .0) (u .1)) refl);
+        left = sym (step-ind s (callOf s 4 r k 0) (λ x. x ≡ s) (λ _. withRow-same s r (rowLeft tightening) (u .0) (u .1)) refl);
         changed = sym (or-false (isChange (classOf s (callOf s 4 r k 0))) ∙ quiet-class t);
       }
 
@@ -191,7 +191,7 @@ module _ (s : State) (r k : ℕ) where
 -- what is asked where the greatest activity of a row is found, and where a coefficient is tested
 module _ {s : State} (v : ValidState s) {r : ℕ} (h : r < s .model .m) where
   pub row-ready : (r * s .model .n + s .model .n ≤ length (s .model .rows .coefs)) × ValidCoefs (s .model .n) (rowOf (s .model .n) (s .model .rows .coefs) r) (s .model .box)
-  row-ready = (row-fits (v .model) r h, row-valid s r (v .model) h .coefs)
+  row-ready = (row-fits (v .model) r h, row-valid (s .model) r (v .model) h .coefs)
 
   pub looked-at : {k : ℕ} {most : ℤ} → k < s .model .n → most ≡ maxActivity (s .model .n) (rowOf (s .model .n) (s .model .rows .coefs) r) (s .model .box)
       → TightenedAt (s .model .n) (s .model .box) (s .model .rows .coefs) (s .model .rows .rhs) r k most
@@ -206,19 +206,19 @@ module _ {s : State} (v : ValidState s) {r : ℕ} (h : r < s .model .m) where
 -- ---- the phases of a round
 
 -- a drop leaves the box
-drop-box : (s : State) (r : ℕ) → step s (callOf s 5 r 0 0) .box ≡ s .model .box
+drop-box : (s : State) (r : ℕ) → step s (callOf s 5 r 0 0) .model .box ≡ s .model .box
 unfolding act callOf kindOf withRow setRow
-drop-box s r = step-ind s (callOf s 5 r 0 0) (λ u. u .box ≡ s .model .box) (λ _. refl) refl
+drop-box s r = step-ind s (callOf s 5 r 0 0) (λ u. u .model .box ≡ s .model .box) (λ _. refl) refl
 
 -- so the box of a loop over drops stays one that is not empty
 pub drop-turn : {count r : ℕ} {s t u : State} {k : CallClass} {b d e : Bool}
-    → Turns count dropCall s t b r → isEmpty (t .n) (t .box) ≡ false → r < count
+    → Turns count dropCall s t b r → isEmpty (t .model .n) (t .model .box) ≡ false → r < count
     → (k ≡ classOf t (callOf t 5 r 0 0)) × (u ≡ step t (callOf t 5 r 0 0)) → d ≡ isChange k → e ≡ (b || d)
-    → Turns count dropCall s u e (r + 1) × (isEmpty (t .n) (u .box) ≡ false)
+    → Turns count dropCall s u e (r + 1) × (isEmpty (t .model .n) (u .model .box) ≡ false)
 unfolding dropCall unlessEmpty
 drop-turn {count} {r} {t = t} w z h o g k = (
   turn count dropCall w h (rw z (one-call (callOf t 5 r 0 0) o g)) k,
-  ap (λ (B : List ℤ). isEmpty (t .n) B) (ap (λ (x : State). x .box) (o .1) ∙ drop-box t r) ∙ z,
+  ap (λ (B : List ℤ). isEmpty (t .model .n) B) (ap (λ (x : State). x .model .box) (o .1) ∙ drop-box t r) ∙ z,
 )
 
 -- "at None" no row is dropped
@@ -259,12 +259,12 @@ finishes-refl s all = record { ending = refl; rounds = refl; left = refl }
 
 -- after a round that leads to u, where b says whether it changed something
 abbrev restAfter : (left made : ℕ) → State → Bool → Rounds
-restAfter left made u b = cond (isEmpty (u .n) (u .box)) (halt infeasible made) (cond b (roundsFrom left made u) (halt nothingChanged made))
+restAfter left made u b = cond (isEmpty (u .model .n) (u .model .box)) (halt infeasible made) (cond b (roundsFrom left made u) (halt nothingChanged made))
 
 rounds-next : (left made : ℕ) (s : State)
     → roundsFrom (suc left) made s ≡ after (round s) (restAfter left (suc made) (run s (round s)) (anyChange s (round s)))
 unfolding roundsFrom after halt
-rounds-next left made s = go (isEmpty (run s (round s) .n) (run s (round s) .box)) (anyChange s (round s)) (append-nil (round s))
+rounds-next left made s = go (isEmpty (run s (round s) .model .n) (run s (round s) .model .box)) (anyChange s (round s)) (append-nil (round s))
   where
     go : (a b : Bool) → round s ++ [] ≡ round s
         → cond a (record { ending = infeasible; rounds = suc made; calls = round s })
@@ -304,13 +304,13 @@ module _ {s t u : State} {limit made : ℕ} {b : Bool} (w : Rest s limit made t)
       subst (λ (k : ℕ). Finishes s (roundsFrom limit 0 s) u (restAfter (limit - (made + 1)) k u b)) (sym (add-one made))
       (rest-after (limit - (made + 1)) made p (rw e at (w .finishes)))
 
-  pub ends-empty : isEmpty (u .n) (u .box) ≡ true → Finishes s (roundsFrom limit 0 s) u (halt infeasible (made + 1))
+  pub ends-empty : isEmpty (u .model .n) (u .model .box) ≡ true → Finishes s (roundsFrom limit 0 s) u (halt infeasible (made + 1))
   ends-empty e = rw e at round-made
 
-  pub ends-unchanged : isEmpty (u .n) (u .box) ≡ false → b ≡ false → Finishes s (roundsFrom limit 0 s) u (halt nothingChanged (made + 1))
+  pub ends-unchanged : isEmpty (u .model .n) (u .model .box) ≡ false → b ≡ false → Finishes s (roundsFrom limit 0 s) u (halt nothingChanged (made + 1))
   ends-unchanged e f = rw (e, f) at round-made
 
-  pub goes-on : isEmpty (u .n) (u .box) ≡ false → b ≡ true → Rest s limit (made + 1) u
+  pub goes-on : isEmpty (u .model .n) (u .model .box) ≡ false → b ≡ true → Rest s limit (made + 1) u
   goes-on e f = record { within = omega arith; valid = leads-valid p (w .valid); finishes = rw (e, f) at round-made }
 
 -- ---- what they mean
@@ -323,7 +323,7 @@ NotNone atLimit = Unit {0}
 
 -- r ends at None only where its calls leave an empty box
 abbrev NoneEmpty : State → Rounds → Type 0
-NoneEmpty s r = r .ending ≡ infeasible → T (isEmpty (run s (r .calls) .n) (run s (r .calls) .box))
+NoneEmpty s r = r .ending ≡ infeasible → T (isEmpty (run s (r .calls) .model .n) (run s (r .calls) .model .box))
 
 none-empty : (left made : ℕ) (s : State) → NoneEmpty s (roundsFrom left made s)
 unfolding roundsFrom after
@@ -331,7 +331,7 @@ none-empty zero made s = λ e. absurd (subst NotNone e tt)
 none-empty (suc left) made s =
     let r = run s (round s) in
     let more = roundsFrom left (suc made) r in
-    cond-ind (isEmpty (r .n) (r .box)) _ _ (NoneEmpty s) (λ t _. t)
+    cond-ind (isEmpty (r .model .n) (r .model .box)) _ _ (NoneEmpty s) (λ t _. t)
     (λ _. cond-ind (anyChange s (round s)) _ _ (NoneEmpty s)
     (λ _ e. rw (run-append s (round s) (more .calls)) (none-empty left (suc made) r e)) (λ _ e. absurd (subst NotNone e tt)))
 
@@ -351,7 +351,7 @@ rounds-none limit s k = cond-ind (eqb (roundsFault s) 0) _ _ (λ (r : RoundsRun)
     let cs = roundsFrom limit 0 s .calls in
     let o = run-preserves s cs in
     let v = o .valid (accepted-valid s (eqb→eq (roundsFault s) 0 t)) in
-    no-point (v .model .some) (isEmpty-test (run s cs .n) (run s cs .box) .0 (none-empty limit 0 s (ap endingOf e))) (o .points x .1 p))
+    no-point (v .model .some) (isEmpty-test (run s cs .model .n) (run s cs .model .box) .0 (none-empty limit 0 s (ap endingOf e))) (o .points x .1 p))
     (λ _ e. absurd (subst Ended (sym e) tt))
 
 pub rounds-mean : (limit : ℕ) (s : State) → SamePoints s (run s (runRounds limit s .calls)) (runRounds limit s .answer)

@@ -94,7 +94,7 @@ roundsFrom (suc left) made s =
     let cs = round s in
     let r = run s cs in
     let more : Rounds = after cs (roundsFrom left (suc made) r) in
-    cond (isEmpty (r .n) (r .box)) (record { ending = infeasible; rounds = suc made; calls = cs })
+    cond (isEmpty (r .model .n) (r .model .box)) (record { ending = infeasible; rounds = suc made; calls = cs })
     (cond (anyChange s cs) more (record { ending = nothingChanged; rounds = suc made; calls = cs }))
 
 -- ---- the call

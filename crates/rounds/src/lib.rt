@@ -270,7 +270,7 @@ pub fn run(
     ensures left { λ r. ⌜ stateOf n m (now (bounds .exit)) (now (coefs .exit)) (now (rhs .exit)) (now (table .exit)) ≡ ran (stateOf n m (now (bounds .entry)) (now (coefs .entry)) (now (rhs .entry)) (now (table .entry))) (runRounds limit (stateOf n m (now (bounds .entry)) (now (coefs .entry)) (now (rhs .entry)) (now (table .entry))) .calls) ⌝ }
     ensures meaning { λ r. ⌜ SamePoints (stateOf n m (now (bounds .entry)) (now (coefs .entry)) (now (rhs .entry)) (now (table .entry))) (stateOf n m (now (bounds .exit)) (now (coefs .exit)) (now (rhs .exit)) (now (table .exit))) (roundsAnswer r) ⌝ }
 {
-    let fault = model::model_table_fault(n, m, bounds, coefs, rhs, table);
+    let fault = model::model_table_fault(n, m, bounds, coefs, rhs, table, true);
     if fault != 0 {
         return RoundsAnswer::Refused(fault);
     }

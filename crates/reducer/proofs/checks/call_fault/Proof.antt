@@ -1,8 +1,9 @@
 -- `reducer::checks::call_fault`: the model's checks, then the record's, which do not look at the rows. Assumes nothing.
 use borrow.Author.Needs.{needs}
+use mathlib.Core.Bool.{true}
 use mathlib.Core.List.{[]}
 use mathlib.Core.Path.{_∙_, _≡_, ap, sym}
-use Rattle.model.specs.Checks.{modelFault}
+use Rattle.model.specs.Checks.{LentTable, modelFault}
 use Rattle.model.specs.Valid.{ValidModel}
 use Rattle.model.proofs.CheckLaws.{fault-none}
 use Rattle.semantics.specs.CallChecks.{recordChecks}
@@ -26,7 +27,7 @@ unfolding stateOf
 fault-is c =
     let a = c .before .args in
     c .model-fault .ensures
-    ∙ sym (ap (modelFault (modelOf (a .n) (a .m) (a .bounds .now) (a .coefs .now) (a .rhs .now))) (no-table (kindOf (a .kind)) (state (c .before)) (c .before .pre)))
+    ∙ sym (ap (λ (t : LentTable). modelFault (modelOf (a .n) (a .m) (a .bounds .now) (a .coefs .now) (a .rhs .now)) t true) (no-table (kindOf (a .kind)) (state (c .before)) (c .before .pre)))
 
 returns : tie.Need-returns
 returns c =
