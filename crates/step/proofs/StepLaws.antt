@@ -1,18 +1,17 @@
 -- What the functions of one call share: when two boxes are the same, and what an accepted call's own rule answered and left, as
 -- the class and the state that the semantics gives it. Assumes nothing.
-use Prim.Native.Nat.{_*_, _+_, _-_, _<_, ℕ}
+use Prim.Native.Nat.{_<_, ℕ}
 use lib.Dec.{T, eqb}
 use lib.IntN.{pos, ℤ}
-use lib.ListN.{drop, length, set, take}
-use lib.Seq.{drop-drop, ext-getD}
+use lib.ListN.{length}
+use lib.Seq.{ext-getD}
 use mathlib.Core.Bool.{_&&_, not}
-use mathlib.Core.List.{List, _++_}
+use mathlib.Core.List.{List}
 use mathlib.Core.Logic.{_↔_, ⊎-elim}
 use mathlib.Core.Path.{_∙_, _≡_, ap, refl, sym}
-use native.Mathlib.Omega.{arith}
 use Rattle.integer.proofs.Tests.{decide, eqb-test, neqb→ne, test-false}
 use Rattle.model.specs.Box.{at, sameList}
-use Rattle.model.specs.Rows.{rowOf, rowsOf, setRow, splice}
+use Rattle.model.specs.Rows.{Rows, rowOf, rowsOf, setRow}
 use Rattle.model.proofs.BoxLaws.{sameList-refl, sameList→eq}
 use Rattle.row.specs.Outcome as outcomes
 use Rattle.row.specs.Outcome.{Outcome, isChanged, isInfeasible}
@@ -60,16 +59,6 @@ unfolding propagationOf
 propagation-box (Infeasible p) Q = refl
 propagation-box (Converged p) Q = refl
 propagation-box (BudgetSpent p) Q = refl
-
--- ---- a row that the code was lent a part of
-
--- the matrix with the numbers A in the part that the code lent of row r
-abbrev pub withPart : List ℤ → ℕ → ℕ → List ℤ → List ℤ
-withPart C r n A = take (r * n) C ++ (A ++ drop (r * n + n - r * n) (drop (r * n) C))
-
-pub part-spliced : (C A : List ℤ) (r n : ℕ) → length A ≡ n → withPart C r n A ≡ splice C A (r * n)
-unfolding splice
-part-spliced C A r n e = let k : r * n + n - r * n ≡ n = omega arith in rw (k, drop-drop n (r * n) C, e)
 
 -- ---- an accepted call
 
@@ -136,26 +125,25 @@ module _ (n m : ℕ) (B C R : List ℤ) (t : List ℕ) (kind row variable budget
       sym (step-accepted s call f ∙ rw (q, h)),
     )
 
-    -- p is what the rule of a sharpen or a drop says of the row
-    changed-row : (p : NewRow) {o : Outcome} {A : List ℤ} {b : ℤ} → act (kindOf kind) s call .state ≡ withRow s row (rowLeft p)
+    -- p is what the rule of a sharpen or a drop says of the row, and D and S are the rows with it
+    changed-row : (p : NewRow) {o : Outcome} {D S : List ℤ} → act (kindOf kind) s call .state ≡ withRow s row (rowLeft p)
         → classOf s call ≡ classBy (isInfeasible (p .outcome)) (not (isChanged (p .outcome)))
-        → k ≡ outcomeClass o → length A ≡ n → (o ≡ p .outcome) × ((A ≡ p .coefs) × (b ≡ p .rhs))
-        → Ran k (stateOf n m B (withPart C row n A) (set R row b) t)
-    unfolding stateOf callOf withRow setRow
-    changed-row p {o} {A} {b} a d e l h = (
+        → k ≡ outcomeClass o → (o ≡ p .outcome) × (rowsOf D S ≡ setRow n (rowsOf C R) row (rowLeft p)) → Ran k (stateOf n m B D S t)
+    unfolding stateOf callOf withRow
+    changed-row p {o} {D} {S} a d e h = (
       e ∙ ap outcomeClass (h .0) ∙ outcome-class _ ∙ sym d,
-      sym (step-accepted s call f ∙ a ∙ rw (part-spliced C A row n l, h .1 .0, h .1 .1)),
+      sym (step-accepted s call f ∙ a ∙ ap (λ (A : Rows). record { model = record { n = n; m = m; box = B; rows = A }; table = t }) (sym (h .1))),
     )
 
-    pub ran-tighten : {o : Outcome} {A : List ℤ} {b : ℤ} → kindOf kind ≡ tightening → k ≡ outcomeClass o → length A ≡ n
-        → let p = tightenCoefficient n (rowOf n C row) (at R row) B variable in (o ≡ p .outcome) × ((A ≡ p .coefs) × (b ≡ p .rhs))
-        → Ran k (stateOf n m B (withPart C row n A) (set R row b) t)
+    pub ran-tighten : {o : Outcome} {D S : List ℤ} → kindOf kind ≡ tightening → k ≡ outcomeClass o
+        → let p = tightenCoefficient n (rowOf n C row) (at R row) B variable in
+        (o ≡ p .outcome) × (rowsOf D S ≡ setRow n (rowsOf C R) row (rowLeft p)) → Ran k (stateOf n m B D S t)
     unfolding stateOf callOf act
     ran-tighten q = changed-row (tightenCoefficient n (rowOf n C row) (at R row) B variable) (rw q) (tighten-class s call f q)
 
-    pub ran-remove : {o : Outcome} {A : List ℤ} {b : ℤ} → kindOf kind ≡ removal → k ≡ outcomeClass o → length A ≡ n
-        → let p = removeRedundantRow n (rowOf n C row) (at R row) B in (o ≡ p .outcome) × ((A ≡ p .coefs) × (b ≡ p .rhs))
-        → Ran k (stateOf n m B (withPart C row n A) (set R row b) t)
+    pub ran-remove : {o : Outcome} {D S : List ℤ} → kindOf kind ≡ removal → k ≡ outcomeClass o
+        → let p = removeRedundantRow n (rowOf n C row) (at R row) B in
+        (o ≡ p .outcome) × (rowsOf D S ≡ setRow n (rowsOf C R) row (rowLeft p)) → Ran k (stateOf n m B D S t)
     unfolding stateOf callOf act
     ran-remove q = changed-row (removeRedundantRow n (rowOf n C row) (at R row) B) (rw q) (remove-class s call f q)
 

@@ -1,4 +1,10 @@
 // The checks of a call's own fields, on a model that passed its checks (11 to 15).
+use crate::call::Call;
+use crate::call::PROBE;
+use crate::call::PROPAGATE;
+use crate::call::PROPAGATE_ROW;
+use crate::call::REMOVE_ROW;
+use crate::call::TIGHTEN_COEFFICIENT;
 use probing::is_free;
 use propagation::MAX_BUDGET;
 ghost use mathlib.Core.List.{[]};
@@ -7,8 +13,9 @@ ghost use Prim.Native.Nat.{_<_};
 ghost use Rattle.model.specs.Checks.{first};
 ghost use Rattle.model.specs.Valid.{ValidBox};
 ghost use Rattle.semantics.specs.CallChecks.{recordChecks};
-ghost use Rattle.semantics.specs.Call.{callOf, kindOf};
+ghost use Rattle.semantics.specs.Call.{kindOf};
 ghost use Rattle.model.specs.State.{stateOf};
+ghost use Rattle.step.specs.Calls.{callOn};
 ghost use Rattle.step.specs.FieldChecks.{budgetChecks, rowChecks, variableChecks};
 
 // 12: the row is not below m.
@@ -52,37 +59,31 @@ fn budget_fault(budget: u32) -> u32
     0
 }
 
-// The call's own checks by its kind: 1 visit, 2 settle, 3 probe, 4 sharpen, 5 drop; 11 for any other. A field that the kind lacks
-// is not looked at.
-pub fn record_fault(
-    n: usize,
-    m: usize,
-    bounds: &[i32],
-    kind: u32,
-    row: u32,
-    variable: u32,
-    budget: u32,
-) -> u32
+// The call's own checks by its kind; 11 for a number that is no kind. A field that the kind lacks is not looked at.
+pub fn record_fault(n: usize, m: usize, bounds: &[i32], call: Call) -> u32
     requires { ⌜ ValidBox n (now bounds) ⌝ }
     requires { ⌜ 0 < n ⌝ }
-    ensures { λ r. ⌜ r ≡ first (recordChecks (kindOf kind) (stateOf n m (now (bounds .entry)) [] [] []) (callOf (stateOf n m (now (bounds .entry)) [] [] []) kind row variable budget)) ⌝ }
+    ensures { λ r.
+        let s = stateOf n m (now (bounds .entry)) [] [] [] in
+        ⌜ r ≡ first (recordChecks (kindOf (call .kind)) s (callOn s call)) ⌝ }
 {
+    let kind = call.kind;
     match kind {
-        1 | 5 => row_fault(m, row),
-        2 => budget_fault(budget),
-        3 => {
-            let fault = variable_fault(n, bounds, variable);
+        PROPAGATE_ROW | REMOVE_ROW => row_fault(m, call.row),
+        PROPAGATE => budget_fault(call.budget),
+        PROBE => {
+            let fault = variable_fault(n, bounds, call.variable);
             if fault != 0 {
                 return fault;
             }
-            budget_fault(budget)
+            budget_fault(call.budget)
         }
-        4 => {
-            let fault = row_fault(m, row);
+        TIGHTEN_COEFFICIENT => {
+            let fault = row_fault(m, call.row);
             if fault != 0 {
                 return fault;
             }
-            variable_fault(n, bounds, variable)
+            variable_fault(n, bounds, call.variable)
         }
         _ => 11,
     }

@@ -1,5 +1,5 @@
-// One call of a list: its own checks, then what its kind asks for, on a model that passed its checks. Each call leaves the model
-// valid, so a list or a round of calls checks the model once.
+// One call of a list: its own checks, then what its kind asks for, on a model that passed its checks. Each call
+// leaves the model valid, so a list or a round of calls checks the model once.
 use probing::sides::Probing;
 use probing::sides::probe_marked;
 use propagation::Propagation;
@@ -7,9 +7,9 @@ use propagation::marks::copy_box;
 use propagation::propagate;
 use row::propagation::RowPropagation;
 use row::redundancy::RowRemoval;
-use row::redundancy::remove_redundant_row;
 use row::tightening::CoefficientTightening;
-use row::tightening::tighten_coefficient;
+use row_view::changes::remove_redundant_row_at;
+use row_view::changes::tighten_coefficient_at;
 use row_view::propagate_row_at;
 ghost use mathlib.Core.Path.{_≡_};
 ghost use Prim.Native.Nat.{_+_, _<_, _^_};
@@ -22,10 +22,17 @@ ghost use Rattle.model.specs.Valid.{ValidState};
 ghost use Rattle.semantics.specs.Run.{classOf, countCall, step};
 ghost use Rattle.semantics.specs.Call.{callOf};
 ghost use Rattle.model.specs.State.{stateOf};
+ghost use Rattle.step.specs.Calls.{callOn};
 ghost use Rattle.step.specs.Classes.{classIs, countsOf, outcomeClass, propagationClass};
 
+pub mod call;
 pub mod checks;
 
+use crate::call::Call;
+use crate::call::PROBE;
+use crate::call::PROPAGATE;
+use crate::call::PROPAGATE_ROW;
+use crate::call::TIGHTEN_COEFFICIENT;
 use crate::checks::record_fault;
 
 // How a call counts: 01's refused, None, changed (a bound, row or table byte), unchanged.
@@ -98,8 +105,9 @@ fn same_box(xs: &[i32], ys: &[i32]) -> bool
     true
 }
 
-// An accepted probe, by the index of the rows and the marks of the box, which become those of the box that is left. Where both sides
-// are feasible it changed something if a table byte became 1 or the hull is smaller than the box before, of which a copy is kept.
+// An accepted probe, by the index of the rows and the marks of the box, which become those of the box that is left.
+// Where both sides are feasible it changed something if a table byte became 1 or the hull is smaller than the box
+// before, of which a copy is kept.
 fn run_probe_marked(
     n: usize,
     m: usize,
@@ -114,11 +122,19 @@ fn run_probe_marked(
     marks: &mut [u8],
 ) -> CallClass
     requires { ⌜ ValidState (stateOf n m (now bounds) (now coefs) (now rhs) (now table)) ⌝ }
-    requires { ⌜ callFault (stateOf n m (now bounds) (now coefs) (now rhs) (now table)) (callOf (stateOf n m (now bounds) (now coefs) (now rhs) (now table)) 3 0 variable budget) ≡ 0 ⌝ }
+    requires { let s = stateOf n m (now bounds) (now coefs) (now rhs) (now table) in
+        ⌜ callFault s (callOf s 3 0 variable budget) ≡ 0 ⌝ }
     requires { ⌜ Marked n m (now bounds) (now coefs) (now rhs) (now across) (now signs) (now marks) ⌝ }
-    ensures class { λ r. ⌜ classIs r ≡ classOf (stateOf n m (now (bounds .entry)) (now (coefs .entry)) (now (rhs .entry)) (now (table .entry))) (callOf (stateOf n m (now (bounds .entry)) (now (coefs .entry)) (now (rhs .entry)) (now (table .entry))) 3 0 variable budget) ⌝ }
-    ensures left { λ r. ⌜ stateOf n m (now (bounds .exit)) (now (coefs .entry)) (now (rhs .entry)) (now (table .exit)) ≡ step (stateOf n m (now (bounds .entry)) (now (coefs .entry)) (now (rhs .entry)) (now (table .entry))) (callOf (stateOf n m (now (bounds .entry)) (now (coefs .entry)) (now (rhs .entry)) (now (table .entry))) 3 0 variable budget) ⌝ }
-    ensures marks { λ r. ⌜ Marked n m (now (bounds .exit)) (now (coefs .entry)) (now (rhs .entry)) (now (across .exit)) (now (signs .exit)) (now (marks .exit)) ⌝ }
+    ensures class { λ r.
+        let s = stateOf n m (now (bounds .entry)) (now (coefs .entry)) (now (rhs .entry)) (now (table .entry)) in
+        ⌜ classIs r ≡ classOf s (callOf s 3 0 variable budget) ⌝ }
+    ensures left { λ r.
+        let s = stateOf n m (now (bounds .entry)) (now (coefs .entry)) (now (rhs .entry)) (now (table .entry)) in
+        let r' = stateOf n m (now (bounds .exit)) (now (coefs .entry)) (now (rhs .entry)) (now (table .exit)) in
+        ⌜ r' ≡ step s (callOf s 3 0 variable budget) ⌝ }
+    ensures marks { λ r.
+        let B = now (bounds .exit) in
+        ⌜ Marked n m B (now (coefs .entry)) (now (rhs .entry)) (now (across .exit)) (now (signs .exit)) (now (marks .exit)) ⌝ }
 {
     let len = bounds.len();
     let mut before = [0i32; 256];
@@ -162,9 +178,15 @@ fn run_probe(
     budget: u32,
 ) -> CallClass
     requires { ⌜ ValidState (stateOf n m (now bounds) (now coefs) (now rhs) (now table)) ⌝ }
-    requires { ⌜ callFault (stateOf n m (now bounds) (now coefs) (now rhs) (now table)) (callOf (stateOf n m (now bounds) (now coefs) (now rhs) (now table)) 3 0 variable budget) ≡ 0 ⌝ }
-    ensures class { λ r. ⌜ classIs r ≡ classOf (stateOf n m (now (bounds .entry)) (now (coefs .entry)) (now (rhs .entry)) (now (table .entry))) (callOf (stateOf n m (now (bounds .entry)) (now (coefs .entry)) (now (rhs .entry)) (now (table .entry))) 3 0 variable budget) ⌝ }
-    ensures left { λ r. ⌜ stateOf n m (now (bounds .exit)) (now (coefs .entry)) (now (rhs .entry)) (now (table .exit)) ≡ step (stateOf n m (now (bounds .entry)) (now (coefs .entry)) (now (rhs .entry)) (now (table .entry))) (callOf (stateOf n m (now (bounds .entry)) (now (coefs .entry)) (now (rhs .entry)) (now (table .entry))) 3 0 variable budget) ⌝ }
+    requires { let s = stateOf n m (now bounds) (now coefs) (now rhs) (now table) in
+        ⌜ callFault s (callOf s 3 0 variable budget) ≡ 0 ⌝ }
+    ensures class { λ r.
+        let s = stateOf n m (now (bounds .entry)) (now (coefs .entry)) (now (rhs .entry)) (now (table .entry)) in
+        ⌜ classIs r ≡ classOf s (callOf s 3 0 variable budget) ⌝ }
+    ensures left { λ r.
+        let s = stateOf n m (now (bounds .entry)) (now (coefs .entry)) (now (rhs .entry)) (now (table .entry)) in
+        let r' = stateOf n m (now (bounds .exit)) (now (coefs .entry)) (now (rhs .entry)) (now (table .exit)) in
+        ⌜ r' ≡ step s (callOf s 3 0 variable budget) ⌝ }
 {
     let mut across = [0u8; 15360];
     let mut signs = [0u8; 15360];
@@ -192,36 +214,34 @@ fn run_accepted(
     coefs: &mut [i32],
     rhs: &mut [i32],
     table: &mut [u8],
-    kind: u32,
-    row: u32,
-    variable: u32,
-    budget: u32,
+    call: Call,
 ) -> CallClass
     requires { ⌜ ValidState (stateOf n m (now bounds) (now coefs) (now rhs) (now table)) ⌝ }
-    requires { ⌜ callFault (stateOf n m (now bounds) (now coefs) (now rhs) (now table)) (callOf (stateOf n m (now bounds) (now coefs) (now rhs) (now table)) kind row variable budget) ≡ 0 ⌝ }
-    ensures class { λ r. ⌜ classIs r ≡ classOf (stateOf n m (now (bounds .entry)) (now (coefs .entry)) (now (rhs .entry)) (now (table .entry))) (callOf (stateOf n m (now (bounds .entry)) (now (coefs .entry)) (now (rhs .entry)) (now (table .entry))) kind row variable budget) ⌝ }
-    ensures left { λ r. ⌜ stateOf n m (now (bounds .exit)) (now (coefs .exit)) (now (rhs .exit)) (now (table .exit)) ≡ step (stateOf n m (now (bounds .entry)) (now (coefs .entry)) (now (rhs .entry)) (now (table .entry))) (callOf (stateOf n m (now (bounds .entry)) (now (coefs .entry)) (now (rhs .entry)) (now (table .entry))) kind row variable budget) ⌝ }
+    requires { let s = stateOf n m (now bounds) (now coefs) (now rhs) (now table) in
+        ⌜ callFault s (callOn s call) ≡ 0 ⌝ }
+    ensures class { λ r.
+        let s = stateOf n m (now (bounds .entry)) (now (coefs .entry)) (now (rhs .entry)) (now (table .entry)) in
+        ⌜ classIs r ≡ classOf s (callOn s call) ⌝ }
+    ensures left { λ r.
+        let s = stateOf n m (now (bounds .entry)) (now (coefs .entry)) (now (rhs .entry)) (now (table .entry)) in
+        let r' = stateOf n m (now (bounds .exit)) (now (coefs .exit)) (now (rhs .exit)) (now (table .exit)) in
+        ⌜ r' ≡ step s (callOn s call) ⌝ }
 {
-    let r = row as usize;
+    let r = call.row as usize;
+    let kind = call.kind;
     match kind {
-        1 => class_of_row(propagate_row_at(n, coefs, rhs, r, bounds)),
-        2 => class_of_propagation(propagate(n, m, bounds, coefs, rhs, budget)),
-        3 => run_probe(n, m, bounds, coefs, rhs, table, variable, budget),
-        4 => {
-            let start = r * n;
-            let end = start + n;
-            class_of_tightening(tighten_coefficient(
-                &mut coefs[start..end],
-                &mut rhs[r],
-                bounds,
-                variable as usize,
-            ))
-        }
-        _ => {
-            let start = r * n;
-            let end = start + n;
-            class_of_removal(remove_redundant_row(&mut coefs[start..end], &mut rhs[r], bounds))
-        }
+        PROPAGATE_ROW => class_of_row(propagate_row_at(n, coefs, rhs, r, bounds)),
+        PROPAGATE => class_of_propagation(propagate(n, m, bounds, coefs, rhs, call.budget)),
+        PROBE => run_probe(n, m, bounds, coefs, rhs, table, call.variable, call.budget),
+        TIGHTEN_COEFFICIENT => class_of_tightening(tighten_coefficient_at(
+            n,
+            coefs,
+            rhs,
+            r,
+            bounds,
+            call.variable as usize,
+        )),
+        _ => class_of_removal(remove_redundant_row_at(n, coefs, rhs, r, bounds)),
     }
 }
 
@@ -233,20 +253,22 @@ pub fn run_record(
     coefs: &mut [i32],
     rhs: &mut [i32],
     table: &mut [u8],
-    kind: u32,
-    row: u32,
-    variable: u32,
-    budget: u32,
+    call: Call,
 ) -> CallClass
     requires { ⌜ ValidState (stateOf n m (now bounds) (now coefs) (now rhs) (now table)) ⌝ }
-    ensures class { λ r. ⌜ classIs r ≡ classOf (stateOf n m (now (bounds .entry)) (now (coefs .entry)) (now (rhs .entry)) (now (table .entry))) (callOf (stateOf n m (now (bounds .entry)) (now (coefs .entry)) (now (rhs .entry)) (now (table .entry))) kind row variable budget) ⌝ }
-    ensures left { λ r. ⌜ stateOf n m (now (bounds .exit)) (now (coefs .exit)) (now (rhs .exit)) (now (table .exit)) ≡ step (stateOf n m (now (bounds .entry)) (now (coefs .entry)) (now (rhs .entry)) (now (table .entry))) (callOf (stateOf n m (now (bounds .entry)) (now (coefs .entry)) (now (rhs .entry)) (now (table .entry))) kind row variable budget) ⌝ }
+    ensures class { λ r.
+        let s = stateOf n m (now (bounds .entry)) (now (coefs .entry)) (now (rhs .entry)) (now (table .entry)) in
+        ⌜ classIs r ≡ classOf s (callOn s call) ⌝ }
+    ensures left { λ r.
+        let s = stateOf n m (now (bounds .entry)) (now (coefs .entry)) (now (rhs .entry)) (now (table .entry)) in
+        let r' = stateOf n m (now (bounds .exit)) (now (coefs .exit)) (now (rhs .exit)) (now (table .exit)) in
+        ⌜ r' ≡ step s (callOn s call) ⌝ }
 {
-    let fault = record_fault(n, m, bounds, kind, row, variable, budget);
+    let fault = record_fault(n, m, bounds, call);
     if fault != 0 {
         return CallClass::Refused;
     }
-    run_accepted(n, m, bounds, coefs, rhs, table, kind, row, variable, budget)
+    run_accepted(n, m, bounds, coefs, rhs, table, call)
 }
 
 // A record that asks for a probe, by the index of the rows and the marks of the box: refused by its own checks, or run.
@@ -265,11 +287,24 @@ pub fn run_probe_record(
 ) -> CallClass
     requires { ⌜ ValidState (stateOf n m (now bounds) (now coefs) (now rhs) (now table)) ⌝ }
     requires { ⌜ Marked n m (now bounds) (now coefs) (now rhs) (now across) (now signs) (now marks) ⌝ }
-    ensures class { λ r. ⌜ classIs r ≡ classOf (stateOf n m (now (bounds .entry)) (now (coefs .entry)) (now (rhs .entry)) (now (table .entry))) (callOf (stateOf n m (now (bounds .entry)) (now (coefs .entry)) (now (rhs .entry)) (now (table .entry))) 3 0 variable budget) ⌝ }
-    ensures left { λ r. ⌜ stateOf n m (now (bounds .exit)) (now (coefs .entry)) (now (rhs .entry)) (now (table .exit)) ≡ step (stateOf n m (now (bounds .entry)) (now (coefs .entry)) (now (rhs .entry)) (now (table .entry))) (callOf (stateOf n m (now (bounds .entry)) (now (coefs .entry)) (now (rhs .entry)) (now (table .entry))) 3 0 variable budget) ⌝ }
-    ensures marks { λ r. ⌜ Marked n m (now (bounds .exit)) (now (coefs .entry)) (now (rhs .entry)) (now (across .exit)) (now (signs .exit)) (now (marks .exit)) ⌝ }
+    ensures class { λ r.
+        let s = stateOf n m (now (bounds .entry)) (now (coefs .entry)) (now (rhs .entry)) (now (table .entry)) in
+        ⌜ classIs r ≡ classOf s (callOf s 3 0 variable budget) ⌝ }
+    ensures left { λ r.
+        let s = stateOf n m (now (bounds .entry)) (now (coefs .entry)) (now (rhs .entry)) (now (table .entry)) in
+        let r' = stateOf n m (now (bounds .exit)) (now (coefs .entry)) (now (rhs .entry)) (now (table .exit)) in
+        ⌜ r' ≡ step s (callOf s 3 0 variable budget) ⌝ }
+    ensures marks { λ r.
+        let B = now (bounds .exit) in
+        ⌜ Marked n m B (now (coefs .entry)) (now (rhs .entry)) (now (across .exit)) (now (signs .exit)) (now (marks .exit)) ⌝ }
 {
-    let fault = record_fault(n, m, bounds, 3, 0, variable, budget);
+    let call = Call {
+        kind: PROBE,
+        row: 0,
+        variable,
+        budget,
+    };
+    let fault = record_fault(n, m, bounds, call);
     if fault != 0 {
         return CallClass::Refused;
     }

@@ -4,14 +4,13 @@ use borrow.Author.Needs.{needs}
 use lib.IntN.{ℤ}
 use mathlib.Core.List.{List}
 use mathlib.Core.Path.{_≡_, refl}
-use native.Mathlib.Omega.{arith}
 use Rattle.model.specs.Valid.{ValidModel}
 use Rattle.semantics.specs.Call.{callOf, hasRow, hasVariable, Kind, kindOf, rowPropagation, removal, tightening}
 use Rattle.model.specs.State.{stateOf}
 use Rattle.model.specs.Model.{modelOf}
 use Rattle.semantics.proofs.Accepted.{Accepted, accepted}
 use Rattle.step.proofs.StepLaws.{fault-probed, kind-removes, ran-probed, ran-remove, ran-settle, ran-tighten, ran-visit}
-use Rattle.propagation.proofs.PropagationLoops.{part-is, row-fits, row-in, row-length, valid-row}
+use Rattle.propagation.proofs.PropagationLoops.{row-in, valid-row}
 use Rattle.step.proofs.run_accepted.Statement.{statement}
 use Rattle.step.proofs.run_accepted.Tie as tie
 
@@ -24,7 +23,7 @@ module _ (s : tie.Start) where
   m = s .args .m
 
   abbrev r : ℕ
-  r = s .args .row
+  r = s .args .call .row
 
   abbrev B : List ℤ
   B = s .args .bounds .now
@@ -42,25 +41,28 @@ module _ (s : tie.Start) where
   unfolding stateOf
   valid = s .pre .0 .model
 
-  is-accepted : (K : Kind) → kindOf (s .args .kind) ≡ K → let w = stateOf n m B C R t in
-      Accepted K w (callOf w (s .args .kind) r (s .args .variable) (s .args .budget))
+  is-accepted : (K : Kind) → kindOf (s .args .call .kind) ≡ K → let w = stateOf n m B C R t in
+      Accepted K w (callOf w (s .args .call .kind) r (s .args .call .variable) (s .args .call .budget))
   unfolding callOf
   is-accepted K q = rw q at (accepted _ _ (s .pre .1))
 
+cast-r : tie.Need-cast-r
+cast-r c = search needs
+
 -- ---- a visit
 
-visits : (c : tie.At-match-keys1) → kindOf (c .before .before .args .kind) ≡ rowPropagation
+visits : (c : tie.At-match-keys1) → kindOf (c .before .before .before .args .call .kind) ≡ rowPropagation
 unfolding kindOf
 visits c = rw (c .match .keys1)
 
-visit-row : (c : tie.At-match-keys1) → r (c .before .before) < m (c .before .before)
+visit-row : (c : tie.At-match-keys1) → r (c .before .before .before) < m (c .before .before .before)
 unfolding stateOf callOf hasRow
-visit-row c = is-accepted (c .before .before) rowPropagation (visits c) .row tt
+visit-row c = is-accepted (c .before .before .before) rowPropagation (visits c) .row tt
 
 propagate-row-at-requires : tie.Need-propagate-row-at-requires
 propagate-row-at-requires c κs =
     let a = c .before .before .before in
-    let s = a .before .before in
+    let s = a .before .before .before in
     let v = valid s in
     let h = visit-row a in
     (row-in v (r s) h, valid-row v (r s) h (v .box))
@@ -71,7 +73,7 @@ class-of-row-requires c κs = search needs
 -- ---- a settle
 
 propagate-requires : tie.Need-propagate-requires
-propagate-requires c κs = valid (c .before .before .before .before .before)
+propagate-requires c κs = valid (c .before .before .before .before .before .before)
 
 class-of-propagation-requires : tie.Need-class-of-propagation-requires
 class-of-propagation-requires c κs = search needs
@@ -81,101 +83,56 @@ class-of-propagation-requires c κs = search needs
 run-probe-requires : tie.Need-run-probe-requires
 run-probe-requires c κs =
     let a = c .before .before .before .before in
-    let s = a .before .before in
-    (s .pre .0, fault-probed (n s) (m s) (B s) (C s) (R s) (t s) (s .args .kind) (r s) (s .args .variable) (s .args .budget) (a .match .keys3) (s .pre .1))
+    let s = a .before .before .before in
+    (s .pre .0, fault-probed (n s) (m s) (B s) (C s) (R s) (t s) (s .args .call .kind) (r s) (s .args .call .variable) (s .args .call .budget) (a .match .keys3) (s .pre .1))
 
 -- ---- a sharpen
 
-tighten-is : (c : tie.At-match-keys4) → kindOf (c .before .before .args .kind) ≡ tightening
+tighten-is : (c : tie.At-match-keys4) → kindOf (c .before .before .before .args .call .kind) ≡ tightening
 unfolding kindOf
 tighten-is c = rw (c .match .keys4)
 
-tighten-row : (c : tie.At-match-keys4) → r (c .before .before) < m (c .before .before)
+tighten-row : (c : tie.At-match-keys4) → r (c .before .before .before) < m (c .before .before .before)
 unfolding stateOf callOf hasRow
-tighten-row c = is-accepted (c .before .before) tightening (tighten-is c) .row tt
+tighten-row c = is-accepted (c .before .before .before) tightening (tighten-is c) .row tt
 
-tighten-variable : (c : tie.At-match-keys4) → c .before .before .args .variable < n (c .before .before)
+tighten-variable : (c : tie.At-match-keys4) → c .before .before .before .args .call .variable < n (c .before .before .before)
 unfolding stateOf callOf hasVariable
-tighten-variable c = is-accepted (c .before .before) tightening (tighten-is c) .variable tt
+tighten-variable c = is-accepted (c .before .before .before) tightening (tighten-is c) .variable tt
 
-mul-start : tie.Need-mul-start
-mul-start c = let s = c .before .before in omega (arith, row-fits (valid s) (r s) (tighten-row c))
+cast-tighten-coefficient-at : tie.Need-cast-tighten-coefficient-at
+cast-tighten-coefficient-at c = search needs
 
-add-end : tie.Need-add-end
-add-end c = let s = c .before .before in omega (arith, row-fits (valid s) (r s) (tighten-row c))
-
-mul-tighten-coefficient : tie.Need-mul-tighten-coefficient
-mul-tighten-coefficient c = let s = c .before .before in omega (arith, row-fits (valid s) (r s) (tighten-row c))
-
-sub-tighten-coefficient : tie.Need-sub-tighten-coefficient
-sub-tighten-coefficient c = search needs
-
-part-tighten-coefficient-start : tie.Need-part-tighten-coefficient-start
-part-tighten-coefficient-start c = search needs
-
-part-tighten-coefficient-end : tie.Need-part-tighten-coefficient-end
-part-tighten-coefficient-end c = let s = c .before .before in omega (arith, row-fits (valid s) (r s) (tighten-row c))
-
-mul-tighten-coefficient-2 : tie.Need-mul-tighten-coefficient-2
-mul-tighten-coefficient-2 c = search needs
-
-index-1-tighten-coefficient : tie.Need-index-1-tighten-coefficient
-index-1-tighten-coefficient c = let a = c .before in omega (arith, tighten-row a, valid (a .before .before) .rhsLen)
-
-tighten-coefficient-requires : tie.Need-tighten-coefficient-requires
-tighten-coefficient-requires c κs =
-    let a = c .before .before .before in
-    let s = a .before .before in
+tighten-coefficient-at-requires : tie.Need-tighten-coefficient-at-requires
+tighten-coefficient-at-requires c κs =
+    let a = c .before .before .before .before in
+    let s = a .before .before .before in
     let v = valid s in
     let h = tighten-row a in
-    rw (part-is (r s) (n s) (C s), row-length v (r s) h) (valid-row v (r s) h (v .box), tighten-variable a)
+    (row-in v (r s) h, (valid-row v (r s) h (v .box), tighten-variable a))
 
 class-of-tightening-requires : tie.Need-class-of-tightening-requires
 class-of-tightening-requires c κs = search needs
 
 -- ---- a drop
 
-remove-is : (c : tie.At-match-rest) → kindOf (c .before .before .args .kind) ≡ removal
+remove-is : (c : tie.At-match-rest) → kindOf (c .before .before .before .args .call .kind) ≡ removal
 remove-is c =
-    let s = c .before .before in
+    let s = c .before .before .before in
     let o = c .match .rest in
-    kind-removes (s .args .kind) (is-accepted s (kindOf (s .args .kind)) refl .kind) (o .0 .0 .0 .1) (o .0 .0 .1) (o .0 .1) (o .1)
+    kind-removes (s .args .call .kind) (is-accepted s (kindOf (s .args .call .kind)) refl .kind) (o .0 .0 .0 .1) (o .0 .0 .1) (o .0 .1) (o .1)
 
-remove-row : (c : tie.At-match-rest) → r (c .before .before) < m (c .before .before)
+remove-row : (c : tie.At-match-rest) → r (c .before .before .before) < m (c .before .before .before)
 unfolding stateOf callOf hasRow
-remove-row c = is-accepted (c .before .before) removal (remove-is c) .row tt
+remove-row c = is-accepted (c .before .before .before) removal (remove-is c) .row tt
 
-mul-start-2 : tie.Need-mul-start-2
-mul-start-2 c = let s = c .before .before in omega (arith, row-fits (valid s) (r s) (remove-row c))
-
-add-end-2 : tie.Need-add-end-2
-add-end-2 c = let s = c .before .before in omega (arith, row-fits (valid s) (r s) (remove-row c))
-
-mul-remove-redundant-row : tie.Need-mul-remove-redundant-row
-mul-remove-redundant-row c = let s = c .before .before in omega (arith, row-fits (valid s) (r s) (remove-row c))
-
-sub-remove-redundant-row : tie.Need-sub-remove-redundant-row
-sub-remove-redundant-row c = search needs
-
-part-remove-redundant-row-start : tie.Need-part-remove-redundant-row-start
-part-remove-redundant-row-start c = search needs
-
-part-remove-redundant-row-end : tie.Need-part-remove-redundant-row-end
-part-remove-redundant-row-end c = let s = c .before .before in omega (arith, row-fits (valid s) (r s) (remove-row c))
-
-mul-remove-redundant-row-2 : tie.Need-mul-remove-redundant-row-2
-mul-remove-redundant-row-2 c = search needs
-
-index-1-remove-redundant-row : tie.Need-index-1-remove-redundant-row
-index-1-remove-redundant-row c = let a = c .before in omega (arith, remove-row a, valid (a .before .before) .rhsLen)
-
-remove-redundant-row-requires : tie.Need-remove-redundant-row-requires
-remove-redundant-row-requires c κs =
+remove-redundant-row-at-requires : tie.Need-remove-redundant-row-at-requires
+remove-redundant-row-at-requires c κs =
     let a = c .before .before .before in
-    let s = a .before .before in
+    let s = a .before .before .before in
     let v = valid s in
     let h = remove-row a in
-    rw (part-is (r s) (n s) (C s), row-length v (r s) h) (valid-row v (r s) h (v .box))
+    (row-in v (r s) h, valid-row v (r s) h (v .box))
 
 class-of-removal-requires : tie.Need-class-of-removal-requires
 class-of-removal-requires c κs = search needs
@@ -194,8 +151,8 @@ same-length-3 c = search needs
 returns : tie.Need-returns
 returns c =
     let a = c .before .before .before .before .before .before in
-    let s = a .before .before in
-    ran-visit (n s) (m s) (B s) (C s) (R s) (t s) (s .args .kind) (r s) (s .args .variable) (s .args .budget) (s .pre .1) (visits a)
+    let s = a .before .before .before in
+    ran-visit (n s) (m s) (B s) (C s) (R s) (t s) (s .args .call .kind) (r s) (s .args .call .variable) (s .args .call .budget) (s .pre .1) (visits a)
     (c .class-of-row .ensures)
     (c .before .before .propagate-row-at .ensures)
 
@@ -212,8 +169,8 @@ returns-2 : tie.Need-returns-2
 unfolding kindOf
 returns-2 c =
     let a = c .before .before .before .before .before .before in
-    let s = a .before .before in
-    ran-settle (n s) (m s) (B s) (C s) (R s) (t s) (s .args .kind) (r s) (s .args .variable) (s .args .budget) (s .pre .1) _ _ (rw (a .match .keys2))
+    let s = a .before .before .before in
+    ran-settle (n s) (m s) (B s) (C s) (R s) (t s) (s .args .call .kind) (r s) (s .args .call .variable) (s .args .call .budget) (s .pre .1) _ _ (rw (a .match .keys2))
     (c .class-of-propagation .ensures) (c .before .before .propagate .ensures)
 
 same-length-7 : tie.Need-same-length-7
@@ -231,8 +188,8 @@ same-length-10 c = search needs
 returns-3 : tie.Need-returns-3
 returns-3 c =
     let a = c .before .before .before .before .before .before .before .before in
-    let s = a .before .before in
-    ran-probed (n s) (m s) (B s) (C s) (R s) (t s) (s .args .kind) (r s) (s .args .variable) (s .args .budget) (a .match .keys3)
+    let s = a .before .before .before in
+    ran-probed (n s) (m s) (B s) (C s) (R s) (t s) (s .args .call .kind) (r s) (s .args .call .variable) (s .args .call .budget) (a .match .keys3)
     (c .before .before .before .run-probe .ensures)
 
 same-length-11 : tie.Need-same-length-11
@@ -246,14 +203,12 @@ same-length-13 c = search needs
 
 returns-4 : tie.Need-returns-4
 returns-4 c =
-    let a = c .before .before .before .before .before .before in
-    let s = a .before .before in
-    let h = tighten-row a in
-    let d = c .before .before .tighten-coefficient in
-    ran-tighten (n s) (m s) (B s) (C s) (R s) (t s) (s .args .kind) (r s) (s .args .variable) (s .args .budget) (s .pre .1) (tighten-is a)
+    let a = c .before .before .before .before .before .before .before .before in
+    let s = a .before .before .before in
+    ran-tighten (n s) (m s) (B s) (C s) (R s) (t s) (s .args .call .kind) (r s) (s .args .call .variable) (s .args .call .budget) (s .pre .1)
+    (tighten-is a)
     (c .class-of-tightening .ensures)
-    (rw (part-is (r s) (n s) (C s), row-length (valid s) (r s) h) at (d .kept .0))
-    (rw (part-is (r s) (n s) (C s), row-length (valid s) (r s) h) at (d .ensures))
+    (c .before .before .before .tighten-coefficient-at .ensures)
 
 same-length-14 : tie.Need-same-length-14
 same-length-14 c = search needs
@@ -266,43 +221,27 @@ same-length-16 c = search needs
 
 returns-5 : tie.Need-returns-5
 returns-5 c =
-    let a = c .before .before .before .before .before .before in
-    let s = a .before .before in
-    let h = remove-row a in
-    let d = c .before .before .remove-redundant-row in
-    ran-remove (n s) (m s) (B s) (C s) (R s) (t s) (s .args .kind) (r s) (s .args .variable) (s .args .budget) (s .pre .1) (remove-is a)
+    let a = c .before .before .before .before .before .before .before in
+    let s = a .before .before .before in
+    ran-remove (n s) (m s) (B s) (C s) (R s) (t s) (s .args .call .kind) (r s) (s .args .call .variable) (s .args .call .budget) (s .pre .1)
+    (remove-is a)
     (c .class-of-removal .ensures)
-    (rw (part-is (r s) (n s) (C s), row-length (valid s) (r s) h) at (d .kept .0))
-    (rw (part-is (r s) (n s) (C s), row-length (valid s) (r s) h) at (d .ensures))
+    (c .before .before .before .remove-redundant-row-at .ensures)
 
 pub run-accepted-spec : {M : Type 1} → statement M
 run-accepted-spec =
     tie.close
     (tie.spec
+    cast-r
     propagate-row-at-requires
     class-of-row-requires
     propagate-requires
     class-of-propagation-requires
     run-probe-requires
-    mul-start
-    add-end
-    mul-tighten-coefficient
-    sub-tighten-coefficient
-    part-tighten-coefficient-start
-    part-tighten-coefficient-end
-    mul-tighten-coefficient-2
-    index-1-tighten-coefficient
-    tighten-coefficient-requires
+    cast-tighten-coefficient-at
+    tighten-coefficient-at-requires
     class-of-tightening-requires
-    mul-start-2
-    add-end-2
-    mul-remove-redundant-row
-    sub-remove-redundant-row
-    part-remove-redundant-row-start
-    part-remove-redundant-row-end
-    mul-remove-redundant-row-2
-    index-1-remove-redundant-row
-    remove-redundant-row-requires
+    remove-redundant-row-at-requires
     class-of-removal-requires
     same-length
     same-length-2

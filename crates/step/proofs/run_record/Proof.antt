@@ -15,7 +15,7 @@ abbrev state : tie.Start → State
 state s = let a = s .args in stateOf (a .n) (a .m) (a .bounds .now) (a .coefs .now) (a .rhs .now) (a .table .now)
 
 abbrev call : tie.Start → Call
-call s = callOf (state s) (s .args .kind) (s .args .row) (s .args .variable) (s .args .budget)
+call s = callOf (state s) (s .args .call .kind) (s .args .call .row) (s .args .call .variable) (s .args .call .budget)
 
 record-fault-requires : tie.Need-record-fault-requires
 unfolding stateOf

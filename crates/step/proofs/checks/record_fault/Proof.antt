@@ -26,7 +26,7 @@ unfolding recordChecks kindOf isUnknown hasRow hasVariable hasBudget first state
 returns c =
     let a = c .before .before .before .args in
     rw (c .before .before .match .keys3)
-    (stops (variableChecks (a .n) (a .bounds .now) (a .variable)) (budgetChecks (a .budget)) (c .before .variable-fault .ensures) (c .if1 .taken))
+    (stops (variableChecks (a .n) (a .bounds .now) (a .call .variable)) (budgetChecks (a .call .budget)) (c .before .variable-fault .ensures) (c .if1 .taken))
 
 budget-fault-requires-2 : tie.Need-budget-fault-requires-2
 budget-fault-requires-2 c κs = search needs
@@ -39,7 +39,7 @@ unfolding recordChecks kindOf isUnknown hasRow hasVariable hasBudget first state
 returns-2 c =
     let a = c .before .before .before .args in
     rw (c .before .before .match .keys4)
-    (stops (rowChecks (a .m) (a .row)) (variableChecks (a .n) (a .bounds .now) (a .variable)) (c .before .row-fault2 .ensures) (c .if2 .taken))
+    (stops (rowChecks (a .m) (a .call .row)) (variableChecks (a .n) (a .bounds .now) (a .call .variable)) (c .before .row-fault2 .ensures) (c .if2 .taken))
 
 variable-fault-requires-2 : tie.Need-variable-fault-requires-2
 variable-fault-requires-2 c κs = search needs
@@ -58,7 +58,7 @@ returns-5 c =
     let e = c .before in
     let a = e .before .before .before .args in
     rw (e .before .before .match .keys3)
-    (goes (variableChecks (a .n) (a .bounds .now) (a .variable)) (budgetChecks (a .budget)) tt (e .before .variable-fault .ensures) (e .if1 .left)
+    (goes (variableChecks (a .n) (a .bounds .now) (a .call .variable)) (budgetChecks (a .call .budget)) tt (e .before .variable-fault .ensures) (e .if1 .left)
     (c .budget-fault2 .ensures))
 
 returns-6 : tie.Need-returns-6
@@ -67,7 +67,7 @@ returns-6 c =
     let e = c .before in
     let a = e .before .before .before .args in
     rw (e .before .before .match .keys4)
-    (goes (rowChecks (a .m) (a .row)) (variableChecks (a .n) (a .bounds .now) (a .variable)) tt (e .before .row-fault2 .ensures) (e .if2 .left)
+    (goes (rowChecks (a .m) (a .call .row)) (variableChecks (a .n) (a .bounds .now) (a .call .variable)) tt (e .before .row-fault2 .ensures) (e .if2 .left)
     (c .variable-fault2 .ensures))
 
 returns-7 : tie.Need-returns-7
@@ -75,7 +75,7 @@ unfolding recordChecks kindOf isUnknown hasRow hasVariable hasBudget first state
 returns-7 c =
     let r = c .match .rest in
     let a = c .before .args in
-    rw (kind-other (a .kind) (λ k. r .0 .0 .0 .1 (inl k)) (r .0 .0 .1) (r .0 .1) (r .1) (λ k. r .0 .0 .0 .1 (inr k)))
+    rw (kind-other (a .call .kind) (λ k. r .0 .0 .0 .1 (inl k)) (r .0 .0 .1) (r .0 .1) (r .1) (λ k. r .0 .0 .0 .1 (inr k)))
 
 pub record-fault-spec : {M : Type 1} → statement M
 record-fault-spec =
