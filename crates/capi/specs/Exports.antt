@@ -42,7 +42,7 @@ exported number A s = record { returned = number; answer = A; state = s }
 -- a call on the state s that replies q and leaves r; "3 comes first"
 unfoldable pub answered : List ℕ → State → Reply → State → Exported
 answered A s q r =
-    cond (eqb (length A) answerLength) (exported (returned q) (written q A) r) (exported (wrongLength (sizeChecks (s .n) (s .m))) A s)
+    cond (eqb (length A) answerLength) (exported (returned q) (written q A) r) (exported (wrongLength (sizeChecks (s .model .n) (s .model .m))) A s)
 
 -- one of the five calls: kind, row, variable, budget
 unfoldable pub callExport : List ℕ → State → ℕ → ℕ → ℕ → ℕ → Exported

@@ -35,7 +35,7 @@ book-handed-in : (bs : List ℕ) → bookFault bs ≡ 0 → HandedIn (stateRead 
 unfolding stateRead zeros EveryModelHandedIn
 book-handed-in bs e =
     let M = decode bs in
-    handed-in (M .n) (M .m) (M .bounds) (M .coefs) (M .rhs) (fault-none (modelOf (M .n) (M .m) (M .bounds) (M .coefs) (M .rhs)) .1 (book-test bs .0 e .1))
+    handed-in M (fault-none M .1 (book-test bs .0 e .1))
 
 -- ---- the `i` lines
 
@@ -69,11 +69,11 @@ module _ (n i : ℕ) (b : i < 4 * (n * n)) where
   second-known : q / 2 < n
   second-known = let k : q < 2 * n = mod-lt i some in omega arith
 
-implication : (s left : State) → ((x : List ℤ) → PointOf s x → TableHolds (left .n) (left .table) x)
-    → (i : ℕ) → i < 4 * (left .n * left .n) → (implicationAt (left .n) (left .table) i ≡ []) ⊎ Implied s left i
+implication : (s left : State) → ((x : List ℤ) → PointOf s x → TableHolds (left .model .n) (left .table) x)
+    → (i : ℕ) → i < 4 * (left .model .n * left .model .n) → (implicationAt (left .model .n) (left .table) i ≡ []) ⊎ Implied s left i
 unfolding implicationAt byteLine Recorded
 implication s left h i b =
-    let n = left .n in
+    let n = left .model .n in
     let k = p n i b in
     let j = q n i b in
     let byte = eqb (getD (left .table) i 0) 1 in
@@ -94,7 +94,7 @@ implication s left h i b =
 -- ---- the text of the rounds
 
 text-means : (s left : State) (a : RoundsAnswer) → ((number : ℕ) → a ≡ refusedRounds number → ⊥) → SamePoints s left a
-    → ((i : ℕ) → i < 4 * (left .n * left .n) → (implicationAt (left .n) (left .table) i ≡ []) ⊎ Implied s left i)
+    → ((i : ℕ) → i < 4 * (left .model .n * left .model .n) → (implicationAt (left .model .n) (left .table) i ≡ []) ⊎ Implied s left i)
     → NonePrinted s (textOf a left) ⊎ Reported s (textOf a left)
 unfolding textOf
 text-means s left (refusedRounds number) n p l = absurd (n number refl)

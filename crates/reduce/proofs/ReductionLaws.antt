@@ -81,11 +81,11 @@ module _ {n m : ℕ} {bs : List ℕ} {B C R : List ℤ} {t : List ℕ} (h : Read
 
     pub accepted-state : {B′ C′ R′ : List ℤ} → B′ ≡ boundsRead bs B C R → C′ ≡ coefsRead bs B C R → R′ ≡ rhsRead bs B C R
         → stateOf n m B′ C′ R′ t ≡ stateRead bs
-    unfolding stateRead boundsRead coefsRead rhsRead
+    unfolding stateRead stateOf boundsRead coefsRead rhsRead
     accepted-state b c r =
-        let b′ = b ∙ sym (becomes passed B (decode bs .bounds)) in
-        let c′ = c ∙ sym (becomes passed C (decode bs .coefs)) in
-        let r′ = r ∙ sym (becomes passed R (decode bs .rhs)) in
+        let b′ = b ∙ sym (becomes passed B (decode bs .box)) in
+        let c′ = c ∙ sym (becomes passed C (decode bs .rows .coefs)) in
+        let r′ = r ∙ sym (becomes passed R (decode bs .rows .rhs)) in
         rw (b′, c′, r′, h .table, h .sized .variables, h .sized .rows)
 
 -- an input that is refused by its last 16 bytes and its length: so is the book

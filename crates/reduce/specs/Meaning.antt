@@ -17,17 +17,17 @@ pub record Implied (s left : State) (i : ℕ) : Type 0 where
   pub v : ℕ
   pub j : ℕ
   pub w : ℕ
-  pub line : implicationAt (left .n) (left .table) i ≡ implicationLine k v j w
+  pub line : implicationAt (left .model .n) (left .table) i ≡ implicationLine k v j w
   pub holds : (x : List ℤ) → PointOf s x → ImplicationHolds k v j w x
 
 -- the text is a report on a state that has the integer points of s, no fractional point more, and no `i` line that fails at one
 pub record Reported (s : State) (text : List ℕ) : Type 0 where
   pub left : State
   pub rounds : ℕ
-  pub printed : text ≡ report (left .n) (left .m) rounds (left .box) (left .coefs) (left .rhs) (left .table)
+  pub printed : text ≡ report (left .model .n) (left .model .m) rounds (left .model .box) (left .model .rows .coefs) (left .model .rows .rhs) (left .table)
   pub points : (x : List ℤ) → PointOf left x ↔ PointOf s x
   pub fractional : (x : List ℤ) (d : ℕ) → FractionalPointOf left x d → FractionalPointOf s x d
-  pub implications : (i : ℕ) → i < 4 * (left .n * left .n) → (implicationAt (left .n) (left .table) i ≡ []) ⊎ Implied s left i
+  pub implications : (i : ℕ) → i < 4 * (left .model .n * left .model .n) → (implicationAt (left .model .n) (left .table) i ≡ []) ⊎ Implied s left i
 
 -- `none` is printed only where no integer point exists
 pub record NonePrinted (s : State) (text : List ℕ) : Type 0 where

@@ -8,7 +8,7 @@ use Rattle.book.specs.Book.{decode}
 use Rattle.book.specs.BookChecks.{bookFault}
 use Rattle.report.specs.Report.{noneLine, refusedLine, report}
 use Rattle.semantics.specs.Run.{run}
-use Rattle.model.specs.State.{State, stateOf}
+use Rattle.model.specs.State.{State}
 use Rattle.rounds.specs.Rounds.{RoundsAnswer, atLimit, ended, infeasible, nothingChanged, refusedRounds, runRounds}
 
 unfoldable pub zeros : ℕ → List ℕ
@@ -16,14 +16,14 @@ zeros k = replicate k 0
 
 -- the model of a book, with a table all 0 (D-13)
 unfoldable pub stateRead : List ℕ → State
-stateRead bs = let M = decode bs in stateOf (M .n) (M .m) (M .bounds) (M .coefs) (M .rhs) (zeros (4 * (M .n * M .n)))
+stateRead bs = let M = decode bs in record { model = M; table = zeros (4 * (M .n * M .n)) }
 
 -- what is printed of rounds that end so and leave the state s
 unfoldable pub textOf : RoundsAnswer → State → List ℕ
 textOf (refusedRounds number) s = refusedLine number
 textOf (ended infeasible rounds) s = noneLine
-textOf (ended nothingChanged rounds) s = report (s .n) (s .m) rounds (s .box) (s .coefs) (s .rhs) (s .table)
-textOf (ended atLimit rounds) s = report (s .n) (s .m) rounds (s .box) (s .coefs) (s .rhs) (s .table)
+textOf (ended nothingChanged rounds) s = report (s .model .n) (s .model .m) rounds (s .model .box) (s .model .rows .coefs) (s .model .rows .rhs) (s .table)
+textOf (ended atLimit rounds) s = report (s .model .n) (s .model .m) rounds (s .model .box) (s .model .rows .coefs) (s .model .rows .rhs) (s .table)
 
 -- "It ends after a round that changed nothing, after 8 rounds, or at None."
 unfoldable pub roundsText : State → List ℕ
