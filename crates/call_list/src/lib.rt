@@ -1,5 +1,6 @@
-// A call list as records (01's run sheet): the calls that `reducer::list` reads from flat numbers, one struct each. No function over a
-// slice of structs is covered, so reading a record and the loop over them are proved by hand; all else is in covered functions.
+// A call list as records (01's run sheet): the calls that `reducer::list` reads from flat numbers, one struct each.
+// No function over a slice of structs is covered, so reading a record and the loop over them are proved by hand; all
+// else is in covered functions.
 use reducer::list::RunAnswer;
 use step::count;
 use step::run_record;
@@ -14,7 +15,8 @@ ghost use Rattle.semantics.specs.TwoRuns.{EveryModelHandedIn};
 ghost use Rattle.reducer.specs.CallLists.{listRun};
 ghost use Rattle.call_list.specs.Records.{Runs, noCall, numbersOf, runNext};
 
-// kind, 1 propagate a row, 2 propagate, 3 probe, 4 tighten a coefficient, 5 remove a redundant row; row; variable; budget.
+// kind, 1 propagate a row, 2 propagate, 3 probe, 4 tighten a coefficient, 5 remove a redundant row; row; variable;
+// budget.
 pub struct Call {
     pub kind: u32,
     pub row: u32,
@@ -38,7 +40,10 @@ fn run_none<'a>(
     rhs: &'a mut [i32],
     table: &'a mut [u8],
 ) -> RunAnswer
-    ensures { λ r. ⌜ listRun r (stateOf n m (now (bounds .exit)) (now (coefs .exit)) (now (rhs .exit)) (now (table .exit))) ≡ runList (stateOf n m (now (bounds .entry)) (now (coefs .entry)) (now (rhs .entry)) (now (table .entry))) [] ⌝ }
+    ensures { λ r.
+        let s = stateOf n m (now (bounds .entry)) (now (coefs .entry)) (now (rhs .entry)) (now (table .entry)) in
+        let r' = stateOf n m (now (bounds .exit)) (now (coefs .exit)) (now (rhs .exit)) (now (table .exit)) in
+        ⌜ listRun r r' ≡ runList s [] ⌝ }
 {
     let none: [u32; 0] = [];
     reducer::list::run(n, m, bounds, coefs, rhs, table, &none)
@@ -55,8 +60,12 @@ fn run_next<'a>(
     answer: RunAnswer,
     call: Call,
 ) -> RunAnswer
-    requires { ⌜ Runs (listRun answer (stateOf n m (now bounds) (now coefs) (now rhs) (now table))) ⌝ }
-    ensures { λ r. ⌜ listRun r (stateOf n m (now (bounds .exit)) (now (coefs .exit)) (now (rhs .exit)) (now (table .exit))) ≡ runNext (listRun answer (stateOf n m (now (bounds .entry)) (now (coefs .entry)) (now (rhs .entry)) (now (table .entry)))) call ⌝ }
+    requires { let s = stateOf n m (now bounds) (now coefs) (now rhs) (now table) in
+        ⌜ Runs (listRun answer s) ⌝ }
+    ensures { λ r.
+        let s = stateOf n m (now (bounds .entry)) (now (coefs .entry)) (now (rhs .entry)) (now (table .entry)) in
+        let r' = stateOf n m (now (bounds .exit)) (now (coefs .exit)) (now (rhs .exit)) (now (table .exit)) in
+        ⌜ listRun r r' ≡ runNext (listRun answer s) call ⌝ }
 {
     let RunAnswer::Ran(counts) = answer else {
         return answer;
@@ -86,8 +95,14 @@ pub fn run(
     table: &mut [u8],
     calls: &[Call],
 ) -> RunAnswer
-    ensures defined { λ r. ⌜ listRun r (stateOf n m (now (bounds .exit)) (now (coefs .exit)) (now (rhs .exit)) (now (table .exit))) ≡ runList (stateOf n m (now (bounds .entry)) (now (coefs .entry)) (now (rhs .entry)) (now (table .entry))) (numbersOf (now (calls .entry))) ⌝ }
-    ensures meaning { λ r. ⌜ ListMeans (stateOf n m (now (bounds .entry)) (now (coefs .entry)) (now (rhs .entry)) (now (table .entry))) (listRun r (stateOf n m (now (bounds .exit)) (now (coefs .exit)) (now (rhs .exit)) (now (table .exit)))) ⌝ }
+    ensures defined { λ r.
+        let s = stateOf n m (now (bounds .entry)) (now (coefs .entry)) (now (rhs .entry)) (now (table .entry)) in
+        let r' = stateOf n m (now (bounds .exit)) (now (coefs .exit)) (now (rhs .exit)) (now (table .exit)) in
+        ⌜ listRun r r' ≡ runList s (numbersOf (now (calls .entry))) ⌝ }
+    ensures meaning { λ r.
+        let s = stateOf n m (now (bounds .entry)) (now (coefs .entry)) (now (rhs .entry)) (now (table .entry)) in
+        let r' = stateOf n m (now (bounds .exit)) (now (coefs .exit)) (now (rhs .exit)) (now (table .exit)) in
+        ⌜ ListMeans s (listRun r r') ⌝ }
     ensures demand3 { λ r. ⌜ EveryModelHandedIn × Demand3Lists ⌝ }
     ensures sum { λ r. ⌜ CountsAddUp ⌝ }
 {
@@ -101,8 +116,8 @@ pub fn run(
     answer
 }
 
-// Runs four records that the caller holds by value: a function that lends a slice of records is proved by hand, and a caller of
-// this one is covered.
+// Runs four records that the caller holds by value: a function that lends a slice of records is proved by hand, and a
+// caller of this one is covered.
 pub fn run_four(
     n: usize,
     m: usize,
@@ -112,7 +127,10 @@ pub fn run_four(
     table: &mut [u8],
     calls: [Call; 4],
 ) -> RunAnswer
-    ensures defined { λ r. ⌜ listRun r (stateOf n m (now (bounds .exit)) (now (coefs .exit)) (now (rhs .exit)) (now (table .exit))) ≡ runList (stateOf n m (now (bounds .entry)) (now (coefs .entry)) (now (rhs .entry)) (now (table .entry))) (numbersOf calls) ⌝ }
+    ensures defined { λ r.
+        let s = stateOf n m (now (bounds .entry)) (now (coefs .entry)) (now (rhs .entry)) (now (table .entry)) in
+        let r' = stateOf n m (now (bounds .exit)) (now (coefs .exit)) (now (rhs .exit)) (now (table .exit)) in
+        ⌜ listRun r r' ≡ runList s (numbersOf calls) ⌝ }
 {
     run(n, m, bounds, coefs, rhs, table, &calls)
 }

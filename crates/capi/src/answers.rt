@@ -15,7 +15,8 @@ use rounds::RoundsAnswer;
 ghost use mathlib.Core.Path.{_≡_};
 ghost use Rattle.book.specs.Answers.{sizesAnswer};
 ghost use Rattle.reducer.specs.CallLists.{listAnswer};
-ghost use Rattle.reducer.specs.OpenCalls.{probeAnswer, propagateAnswer, removeAnswer, restVerdict, rowAnswer, tightenAnswer};
+ghost use Rattle.reducer.specs.OpenCalls.{probeAnswer, propagateAnswer, removeAnswer, restVerdict, rowAnswer};
+ghost use Rattle.reducer.specs.OpenCalls.{tightenAnswer};
 ghost use Rattle.rounds.specs.Answers.{roundsAnswer};
 ghost use Rattle.capi.specs.Replies.{bookReply, callReply, listReply, restReply, roundsReply};
 

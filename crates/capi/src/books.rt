@@ -28,8 +28,8 @@ pub extern "C" fn astrolabe_book_trailer(bytes: &[u8], answer: &mut [u64]) -> u3
     put(sizes_reply(trailer(bytes)), answer)
 }
 
-// The number by which reading refuses an answer buffer of a wrong length: 1 to 4, else 5. It is the number that buffers of length 0
-// are refused by, since every book has a variable.
+// The number by which reading refuses an answer buffer of a wrong length: 1 to 4, else 5. It is the number that
+// buffers of length 0 are refused by, since every book has a variable.
 fn read_fault(book: &[u8]) -> u32
     ensures { λ r. ⌜ r ≡ wrongLength (headChecks (now (book .entry))) ⌝ }
 {
@@ -81,8 +81,12 @@ pub extern "C" fn astrolabe_book_write(
     rhs: &[i32],
     book: &mut [u8],
 ) -> u32
-    ensures number { λ r. ⌜ r ≡ returned (bookReply (writeCall (modelOf n m (now (bounds .entry)) (now (coefs .entry)) (now (rhs .entry))) (now (book .entry)))) ⌝ }
-    ensures book_written { λ r. ⌜ now (book .exit) ≡ bookWritten (modelOf n m (now (bounds .entry)) (now (coefs .entry)) (now (rhs .entry))) (now (book .entry)) ⌝ }
+    ensures number { λ r.
+        let M = modelOf n m (now (bounds .entry)) (now (coefs .entry)) (now (rhs .entry)) in
+        ⌜ r ≡ returned (bookReply (writeCall M (now (book .entry)))) ⌝ }
+    ensures book_written { λ r.
+        let M = modelOf n m (now (bounds .entry)) (now (coefs .entry)) (now (rhs .entry)) in
+        ⌜ now (book .exit) ≡ bookWritten M (now (book .entry)) ⌝ }
 {
     write_number(write(n, m, bounds, coefs, rhs, book))
 }

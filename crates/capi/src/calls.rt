@@ -32,7 +32,10 @@ pub extern "C" fn astrolabe_propagate_row(
     row: u32,
     answer: &mut [u64],
 ) -> u32
-    ensures { λ r. ⌜ exported r (now (answer .exit)) (stateOf n m (now (bounds .exit)) (now (coefs .entry)) (now (rhs .entry)) []) ≡ callExport (now (answer .entry)) (stateOf n m (now (bounds .entry)) (now (coefs .entry)) (now (rhs .entry)) []) 1 row 0 0 ⌝ }
+    ensures { λ r.
+        let s = stateOf n m (now (bounds .entry)) (now (coefs .entry)) (now (rhs .entry)) [] in
+        let r' = stateOf n m (now (bounds .exit)) (now (coefs .entry)) (now (rhs .entry)) [] in
+        ⌜ exported r (now (answer .exit)) r' ≡ callExport (now (answer .entry)) s 1 row 0 0 ⌝ }
 {
     if answer.len() != ANSWER {
         return answer_fault(n, m);
@@ -54,7 +57,10 @@ pub extern "C" fn astrolabe_propagate(
     budget: u32,
     answer: &mut [u64],
 ) -> u32
-    ensures { λ r. ⌜ exported r (now (answer .exit)) (stateOf n m (now (bounds .exit)) (now (coefs .entry)) (now (rhs .entry)) []) ≡ callExport (now (answer .entry)) (stateOf n m (now (bounds .entry)) (now (coefs .entry)) (now (rhs .entry)) []) 2 0 0 budget ⌝ }
+    ensures { λ r.
+        let s = stateOf n m (now (bounds .entry)) (now (coefs .entry)) (now (rhs .entry)) [] in
+        let r' = stateOf n m (now (bounds .exit)) (now (coefs .entry)) (now (rhs .entry)) [] in
+        ⌜ exported r (now (answer .exit)) r' ≡ callExport (now (answer .entry)) s 2 0 0 budget ⌝ }
 {
     if answer.len() != ANSWER {
         return answer_fault(n, m);
@@ -65,7 +71,8 @@ pub extern "C" fn astrolabe_propagate(
     )
 }
 
-// 01's probe: {0 None | 1 Fixed | 2 Both, v or new bytes, passes0, spent0, passes1, spent1}. Refused by 3, 5 to 10, 13 to 15.
+// 01's probe: {0 None | 1 Fixed | 2 Both, v or new bytes, passes0, spent0, passes1, spent1}. Refused by 3, 5 to 10,
+// 13 to 15.
 #[no_mangle]
 pub extern "C" fn astrolabe_probe(
     n: usize,
@@ -78,7 +85,10 @@ pub extern "C" fn astrolabe_probe(
     budget: u32,
     answer: &mut [u64],
 ) -> u32
-    ensures { λ r. ⌜ exported r (now (answer .exit)) (stateOf n m (now (bounds .exit)) (now (coefs .entry)) (now (rhs .entry)) (now (table .exit))) ≡ callExport (now (answer .entry)) (stateOf n m (now (bounds .entry)) (now (coefs .entry)) (now (rhs .entry)) (now (table .entry))) 3 0 variable budget ⌝ }
+    ensures { λ r.
+        let s = stateOf n m (now (bounds .entry)) (now (coefs .entry)) (now (rhs .entry)) (now (table .entry)) in
+        let r' = stateOf n m (now (bounds .exit)) (now (coefs .entry)) (now (rhs .entry)) (now (table .exit)) in
+        ⌜ exported r (now (answer .exit)) r' ≡ callExport (now (answer .entry)) s 3 0 variable budget ⌝ }
 {
     if answer.len() != ANSWER {
         return answer_fault(n, m);
@@ -101,7 +111,10 @@ pub extern "C" fn astrolabe_tighten_coefficient(
     variable: u32,
     answer: &mut [u64],
 ) -> u32
-    ensures { λ r. ⌜ exported r (now (answer .exit)) (stateOf n m (now (bounds .entry)) (now (coefs .exit)) (now (rhs .exit)) []) ≡ callExport (now (answer .entry)) (stateOf n m (now (bounds .entry)) (now (coefs .entry)) (now (rhs .entry)) []) 4 row variable 0 ⌝ }
+    ensures { λ r.
+        let s = stateOf n m (now (bounds .entry)) (now (coefs .entry)) (now (rhs .entry)) [] in
+        let r' = stateOf n m (now (bounds .entry)) (now (coefs .exit)) (now (rhs .exit)) [] in
+        ⌜ exported r (now (answer .exit)) r' ≡ callExport (now (answer .entry)) s 4 row variable 0 ⌝ }
 {
     if answer.len() != ANSWER {
         return answer_fault(n, m);
@@ -123,7 +136,10 @@ pub extern "C" fn astrolabe_remove_redundant_row(
     row: u32,
     answer: &mut [u64],
 ) -> u32
-    ensures { λ r. ⌜ exported r (now (answer .exit)) (stateOf n m (now (bounds .entry)) (now (coefs .exit)) (now (rhs .exit)) []) ≡ callExport (now (answer .entry)) (stateOf n m (now (bounds .entry)) (now (coefs .entry)) (now (rhs .entry)) []) 5 row 0 0 ⌝ }
+    ensures { λ r.
+        let s = stateOf n m (now (bounds .entry)) (now (coefs .entry)) (now (rhs .entry)) [] in
+        let r' = stateOf n m (now (bounds .entry)) (now (coefs .exit)) (now (rhs .exit)) [] in
+        ⌜ exported r (now (answer .exit)) r' ≡ callExport (now (answer .entry)) s 5 row 0 0 ⌝ }
 {
     if answer.len() != ANSWER {
         return answer_fault(n, m);
@@ -144,7 +160,9 @@ pub extern "C" fn astrolabe_is_probing_fixpoint(
     rhs: &[i32],
     answer: &mut [u64],
 ) -> u32
-    ensures { λ r. ⌜ exported r (now (answer .exit)) (stateOf n m (now (bounds .entry)) (now (coefs .entry)) (now (rhs .entry)) []) ≡ restExport (now (answer .entry)) (stateOf n m (now (bounds .entry)) (now (coefs .entry)) (now (rhs .entry)) []) ⌝ }
+    ensures { λ r.
+        let s = stateOf n m (now (bounds .entry)) (now (coefs .entry)) (now (rhs .entry)) [] in
+        ⌜ exported r (now (answer .exit)) s ≡ restExport (now (answer .entry)) s ⌝ }
 {
     if answer.len() != ANSWER {
         return answer_fault(n, m);
@@ -167,7 +185,10 @@ pub extern "C" fn astrolabe_run(
     calls: &[u32],
     answer: &mut [u64],
 ) -> u32
-    ensures { λ r. ⌜ exported r (now (answer .exit)) (stateOf n m (now (bounds .exit)) (now (coefs .exit)) (now (rhs .exit)) (now (table .exit))) ≡ listExport (now (answer .entry)) (stateOf n m (now (bounds .entry)) (now (coefs .entry)) (now (rhs .entry)) (now (table .entry))) (now (calls .entry)) ⌝ }
+    ensures { λ r.
+        let s = stateOf n m (now (bounds .entry)) (now (coefs .entry)) (now (rhs .entry)) (now (table .entry)) in
+        let r' = stateOf n m (now (bounds .exit)) (now (coefs .exit)) (now (rhs .exit)) (now (table .exit)) in
+        ⌜ exported r (now (answer .exit)) r' ≡ listExport (now (answer .entry)) s (now (calls .entry)) ⌝ }
 {
     if answer.len() != ANSWER {
         return answer_fault(n, m);
@@ -190,7 +211,10 @@ pub extern "C" fn astrolabe_rounds(
     limit: u32,
     answer: &mut [u64],
 ) -> u32
-    ensures { λ r. ⌜ exported r (now (answer .exit)) (stateOf n m (now (bounds .exit)) (now (coefs .exit)) (now (rhs .exit)) (now (table .exit))) ≡ roundsExport (now (answer .entry)) (stateOf n m (now (bounds .entry)) (now (coefs .entry)) (now (rhs .entry)) (now (table .entry))) limit ⌝ }
+    ensures { λ r.
+        let s = stateOf n m (now (bounds .entry)) (now (coefs .entry)) (now (rhs .entry)) (now (table .entry)) in
+        let r' = stateOf n m (now (bounds .exit)) (now (coefs .exit)) (now (rhs .exit)) (now (table .exit)) in
+        ⌜ exported r (now (answer .exit)) r' ≡ roundsExport (now (answer .entry)) s limit ⌝ }
 {
     if answer.len() != ANSWER {
         return answer_fault(n, m);

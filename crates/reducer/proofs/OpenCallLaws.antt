@@ -3,7 +3,6 @@
 use Prim.Native.Nat.{_<_, ℕ}
 use lib.Dec.{T, eqb}
 use lib.IntN.{ℤ}
-use lib.ListN.{length, set}
 use mathlib.Core.Bool.{Bool, cond, false, not, true}
 use mathlib.Core.List.{List, []}
 use mathlib.Core.Logic.{_↔_, ⊎-elim}
@@ -11,7 +10,7 @@ use mathlib.Core.Path.{_∙_, _≡_, ap, refl, subst, sym}
 use Rattle.integer.proofs.Tests.{T→false, decide, eqb-test, test-false, test-true}
 use Rattle.model.specs.Box.{at}
 use Rattle.model.specs.Checks.{first, none}
-use Rattle.model.specs.Rows.{rowOf, rowsOf, setRow}
+use Rattle.model.specs.Rows.{Rows, rowOf, rowsOf, setRow}
 use Rattle.model.specs.Valid.{ValidModel}
 use Rattle.model.proofs.CheckLaws.{fault-none}
 use Rattle.row.specs.Outcome.{Outcome}
@@ -39,7 +38,6 @@ use Rattle.semantics.proofs.Convergence.{rest-test}
 use Rattle.semantics.proofs.Demand2.{demand-2}
 use Rattle.semantics.proofs.Demand3.{handed-in}
 use Rattle.semantics.proofs.Preserved.{Preserves, step-preserves}
-use Rattle.step.proofs.StepLaws.{part-spliced, withPart}
 use Rattle.reducer.specs.OpenCalls.{Ends, Means, RestVerdict, atRest, notAtRest, performed, refusedRest, rest}
 
 -- ---- the number that refuses
@@ -85,15 +83,18 @@ module _ (n m : ℕ) (B C R : List ℤ) (row : ℕ) {x : Answer} {o : Outcome} {
   row-propagated f e h =
       let s = stateOf n m B C R [] in sym (perform-accepted s (callOf s 1 row 0 0) f ∙ rw (e, h .0, h .1))
 
--- the same of a call c that may change its row: p is what its rule says of the row
-module _ (n m : ℕ) (B C R : List ℤ) (row : ℕ) (p : NewRow) (F : Outcome → Answer) (c : Call) {x : Answer} {o : Outcome} {A : List ℤ} {b : ℤ} where
+-- the same of a call c that may change its row: p is what its rule says of the row, and D and S are the rows with it
+module _ (n m : ℕ) (B C R : List ℤ) (row : ℕ) (p : NewRow) (F : Outcome → Answer) (c : Call) {x : Answer} {o : Outcome} {D S : List ℤ} where
   pub row-changed : let s = stateOf n m B C R [] in
       act (kindOf (c .kind)) s c ≡ record { answer = F (p .outcome); state = withRow s row (rowLeft p) }
-      → callFault s c ≡ 0 → x ≡ F o → length A ≡ n → (o ≡ p .outcome) × ((A ≡ p .coefs) × (b ≡ p .rhs))
-      → performed x (stateOf n m B (withPart C row n A) (set R row b) []) ≡ perform s c
-  unfolding stateOf performed withRow setRow
-  row-changed k f e l h =
-      sym (perform-accepted (stateOf n m B C R []) c f ∙ k ∙ rw (part-spliced C A row n l, e, h .0, h .1 .0, h .1 .1))
+      → callFault s c ≡ 0 → x ≡ F o → (o ≡ p .outcome) × (rowsOf D S ≡ setRow n (rowsOf C R) row (rowLeft p))
+      → performed x (stateOf n m B D S []) ≡ perform s c
+  unfolding stateOf performed withRow
+  row-changed k f e h =
+      sym (perform-accepted (stateOf n m B C R []) c f ∙ k ∙ rw (e, h .0) (ap (λ (A : Rows). record {
+        answer = F (p .outcome);
+        state = record { model = record { n = n; m = m; box = B; rows = A }; table = [] };
+      }) (sym (h .1))))
 
 -- the same of a settle and of a probe: w is what the rows' propagation, or the probing, came to
 module _ (n m : ℕ) (B C R : List ℤ) (budget : ℕ) where

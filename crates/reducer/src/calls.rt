@@ -1,7 +1,7 @@
-// The open calls: any n and m, any buffers with any contents, any numbers. Each refuses by the number of the first check that
-// fails and then changes nothing; everything else is accepted. `defined`: the answer and every lent buffer afterwards are what
-// `perform` gives for the call made of the very n, m, numbers and buffer lengths handed over. `meaning`: what the answer means
-// for the points, and that the call ended within its budget.
+// The open calls: any n and m, any buffers with any contents, any numbers. Each refuses by the number of the first
+// check that fails and then changes nothing; everything else is accepted. `defined`: the answer and every lent buffer
+// afterwards are what `perform` gives for the call made of the very n, m, numbers and buffer lengths handed over.
+// `meaning`: what the answer means for the points, and that the call ended within its budget.
 use crate::checks::call_fault;
 use crate::checks::probe_fault;
 use probing::sides::Probing;
@@ -10,7 +10,14 @@ use propagation::Propagation;
 use row::propagation::RowPropagation;
 use row::redundancy::RowRemoval;
 use row::tightening::CoefficientTightening;
+use row_view::changes::remove_redundant_row_at;
+use row_view::changes::tighten_coefficient_at;
 use row_view::propagate_row_at;
+use step::call::Call;
+use step::call::PROPAGATE;
+use step::call::PROPAGATE_ROW;
+use step::call::REMOVE_ROW;
+use step::call::TIGHTEN_COEFFICIENT;
 ghost use mathlib.Core.List.{[]};
 ghost use mathlib.Core.Logic.{_↔_};
 ghost use mathlib.Core.Path.{_≡_};
@@ -19,7 +26,8 @@ ghost use Rattle.semantics.specs.Points.{AtRest};
 ghost use Rattle.semantics.specs.RestTest.{restFault};
 ghost use Rattle.semantics.specs.Call.{callOf};
 ghost use Rattle.model.specs.State.{stateOf};
-ghost use Rattle.reducer.specs.OpenCalls.{Ends, Means, atRest, performed, probeAnswer, propagateAnswer, removeAnswer, rest, restVerdict, rowAnswer, tightenAnswer};
+ghost use Rattle.reducer.specs.OpenCalls.{Ends, Means, atRest, performed, probeAnswer, propagateAnswer};
+ghost use Rattle.reducer.specs.OpenCalls.{removeAnswer, rest, restVerdict, rowAnswer, tightenAnswer};
 
 // 01's visit: refused N, None, Narrowed, Same.
 pub enum PropagateRowAnswer {
@@ -37,8 +45,8 @@ pub enum PropagateAnswer {
     BudgetSpent(u32),
 }
 
-// 01's probe: refused N, None, Fixed with the surviving value, Both with the number of new table bytes; with the reports of the
-// sides at 0 and at 1.
+// 01's probe: refused N, None, Fixed with the surviving value, Both with the number of new table bytes; with the
+// reports of the sides at 0 and at 1.
 pub enum ProbeAnswer {
     Refused(u32),
     Infeasible(Side, Side),
@@ -78,10 +86,22 @@ pub fn propagate_row(
     rhs: &[i32],
     row: u32,
 ) -> PropagateRowAnswer
-    ensures defined { λ r. ⌜ performed (rowAnswer r) (stateOf n m (now (bounds .exit)) (now (coefs .entry)) (now (rhs .entry)) []) ≡ perform (stateOf n m (now (bounds .entry)) (now (coefs .entry)) (now (rhs .entry)) []) (callOf (stateOf n m (now (bounds .entry)) (now (coefs .entry)) (now (rhs .entry)) []) 1 row 0 0) ⌝ }
-    ensures meaning { λ r. ⌜ Means (stateOf n m (now (bounds .entry)) (now (coefs .entry)) (now (rhs .entry)) []) (stateOf n m (now (bounds .exit)) (now (coefs .entry)) (now (rhs .entry)) []) (rowAnswer r) ⌝ }
+    ensures defined { λ r.
+        let s = stateOf n m (now (bounds .entry)) (now (coefs .entry)) (now (rhs .entry)) [] in
+        let r' = stateOf n m (now (bounds .exit)) (now (coefs .entry)) (now (rhs .entry)) [] in
+        ⌜ performed (rowAnswer r) r' ≡ perform s (callOf s 1 row 0 0) ⌝ }
+    ensures meaning { λ r.
+        let s = stateOf n m (now (bounds .entry)) (now (coefs .entry)) (now (rhs .entry)) [] in
+        let r' = stateOf n m (now (bounds .exit)) (now (coefs .entry)) (now (rhs .entry)) [] in
+        ⌜ Means s r' (rowAnswer r) ⌝ }
 {
-    let fault = call_fault(n, m, bounds, coefs, rhs, 1, row, 0, 0);
+    let call = Call {
+        kind: PROPAGATE_ROW,
+        row,
+        variable: 0,
+        budget: 0,
+    };
+    let fault = call_fault(n, m, bounds, coefs, rhs, call);
     if fault != 0 {
         return PropagateRowAnswer::Refused(fault);
     }
@@ -101,11 +121,25 @@ pub fn propagate(
     rhs: &[i32],
     budget: u32,
 ) -> PropagateAnswer
-    ensures defined { λ r. ⌜ performed (propagateAnswer r) (stateOf n m (now (bounds .exit)) (now (coefs .entry)) (now (rhs .entry)) []) ≡ perform (stateOf n m (now (bounds .entry)) (now (coefs .entry)) (now (rhs .entry)) []) (callOf (stateOf n m (now (bounds .entry)) (now (coefs .entry)) (now (rhs .entry)) []) 2 0 0 budget) ⌝ }
-    ensures meaning { λ r. ⌜ Means (stateOf n m (now (bounds .entry)) (now (coefs .entry)) (now (rhs .entry)) []) (stateOf n m (now (bounds .exit)) (now (coefs .entry)) (now (rhs .entry)) []) (propagateAnswer r) ⌝ }
-    ensures ending { λ r. ⌜ Ends budget (stateOf n m (now (bounds .entry)) (now (coefs .entry)) (now (rhs .entry)) []) (propagateAnswer r) ⌝ }
+    ensures defined { λ r.
+        let s = stateOf n m (now (bounds .entry)) (now (coefs .entry)) (now (rhs .entry)) [] in
+        let r' = stateOf n m (now (bounds .exit)) (now (coefs .entry)) (now (rhs .entry)) [] in
+        ⌜ performed (propagateAnswer r) r' ≡ perform s (callOf s 2 0 0 budget) ⌝ }
+    ensures meaning { λ r.
+        let s = stateOf n m (now (bounds .entry)) (now (coefs .entry)) (now (rhs .entry)) [] in
+        let r' = stateOf n m (now (bounds .exit)) (now (coefs .entry)) (now (rhs .entry)) [] in
+        ⌜ Means s r' (propagateAnswer r) ⌝ }
+    ensures ending { λ r.
+        let s = stateOf n m (now (bounds .entry)) (now (coefs .entry)) (now (rhs .entry)) [] in
+        ⌜ Ends budget s (propagateAnswer r) ⌝ }
 {
-    let fault = call_fault(n, m, bounds, coefs, rhs, 2, 0, 0, budget);
+    let call = Call {
+        kind: PROPAGATE,
+        row: 0,
+        variable: 0,
+        budget,
+    };
+    let fault = call_fault(n, m, bounds, coefs, rhs, call);
     if fault != 0 {
         return PropagateAnswer::Refused(fault);
     }
@@ -116,7 +150,8 @@ pub fn propagate(
     }
 }
 
-// Probes the free binary variable `variable`, each side with `budget` passes (01's probe). Refused by 3, 5 to 10, 13 to 15.
+// Probes the free binary variable `variable`, each side with `budget` passes (01's probe). Refused by 3, 5 to 10, 13
+// to 15.
 pub fn probe(
     n: usize,
     m: usize,
@@ -127,9 +162,17 @@ pub fn probe(
     variable: u32,
     budget: u32,
 ) -> ProbeAnswer
-    ensures defined { λ r. ⌜ performed (probeAnswer r) (stateOf n m (now (bounds .exit)) (now (coefs .entry)) (now (rhs .entry)) (now (table .exit))) ≡ perform (stateOf n m (now (bounds .entry)) (now (coefs .entry)) (now (rhs .entry)) (now (table .entry))) (callOf (stateOf n m (now (bounds .entry)) (now (coefs .entry)) (now (rhs .entry)) (now (table .entry))) 3 0 variable budget) ⌝ }
-    ensures meaning { λ r. ⌜ Means (stateOf n m (now (bounds .entry)) (now (coefs .entry)) (now (rhs .entry)) (now (table .entry))) (stateOf n m (now (bounds .exit)) (now (coefs .entry)) (now (rhs .entry)) (now (table .exit))) (probeAnswer r) ⌝ }
-    ensures ending { λ r. ⌜ Ends budget (stateOf n m (now (bounds .entry)) (now (coefs .entry)) (now (rhs .entry)) (now (table .entry))) (probeAnswer r) ⌝ }
+    ensures defined { λ r.
+        let s = stateOf n m (now (bounds .entry)) (now (coefs .entry)) (now (rhs .entry)) (now (table .entry)) in
+        let r' = stateOf n m (now (bounds .exit)) (now (coefs .entry)) (now (rhs .entry)) (now (table .exit)) in
+        ⌜ performed (probeAnswer r) r' ≡ perform s (callOf s 3 0 variable budget) ⌝ }
+    ensures meaning { λ r.
+        let s = stateOf n m (now (bounds .entry)) (now (coefs .entry)) (now (rhs .entry)) (now (table .entry)) in
+        let r' = stateOf n m (now (bounds .exit)) (now (coefs .entry)) (now (rhs .entry)) (now (table .exit)) in
+        ⌜ Means s r' (probeAnswer r) ⌝ }
+    ensures ending { λ r.
+        let s = stateOf n m (now (bounds .entry)) (now (coefs .entry)) (now (rhs .entry)) (now (table .entry)) in
+        ⌜ Ends budget s (probeAnswer r) ⌝ }
 {
     let fault = probe_fault(n, m, bounds, coefs, rhs, table, variable, budget);
     if fault != 0 {
@@ -146,7 +189,8 @@ pub fn probe(
     }
 }
 
-// Tightens the coefficient of the free binary variable `variable` in row `row` (01's sharpen). Refused by 3, 5 to 9, 12 to 14.
+// Tightens the coefficient of the free binary variable `variable` in row `row` (01's sharpen). Refused by 3, 5 to 9,
+// 12 to 14.
 pub fn tighten_coefficient(
     n: usize,
     m: usize,
@@ -156,22 +200,26 @@ pub fn tighten_coefficient(
     row: u32,
     variable: u32,
 ) -> TightenAnswer
-    ensures defined { λ r. ⌜ performed (tightenAnswer r) (stateOf n m (now (bounds .entry)) (now (coefs .exit)) (now (rhs .exit)) []) ≡ perform (stateOf n m (now (bounds .entry)) (now (coefs .entry)) (now (rhs .entry)) []) (callOf (stateOf n m (now (bounds .entry)) (now (coefs .entry)) (now (rhs .entry)) []) 4 row variable 0) ⌝ }
-    ensures meaning { λ r. ⌜ Means (stateOf n m (now (bounds .entry)) (now (coefs .entry)) (now (rhs .entry)) []) (stateOf n m (now (bounds .entry)) (now (coefs .exit)) (now (rhs .exit)) []) (tightenAnswer r) ⌝ }
+    ensures defined { λ r.
+        let s = stateOf n m (now (bounds .entry)) (now (coefs .entry)) (now (rhs .entry)) [] in
+        let r' = stateOf n m (now (bounds .entry)) (now (coefs .exit)) (now (rhs .exit)) [] in
+        ⌜ performed (tightenAnswer r) r' ≡ perform s (callOf s 4 row variable 0) ⌝ }
+    ensures meaning { λ r.
+        let s = stateOf n m (now (bounds .entry)) (now (coefs .entry)) (now (rhs .entry)) [] in
+        let r' = stateOf n m (now (bounds .entry)) (now (coefs .exit)) (now (rhs .exit)) [] in
+        ⌜ Means s r' (tightenAnswer r) ⌝ }
 {
-    let fault = call_fault(n, m, bounds, coefs, rhs, 4, row, variable, 0);
+    let call = Call {
+        kind: TIGHTEN_COEFFICIENT,
+        row,
+        variable,
+        budget: 0,
+    };
+    let fault = call_fault(n, m, bounds, coefs, rhs, call);
     if fault != 0 {
         return TightenAnswer::Refused(fault);
     }
-    let r = row as usize;
-    let start = r * n;
-    let end = start + n;
-    match row::tightening::tighten_coefficient(
-        &mut coefs[start..end],
-        &mut rhs[r],
-        bounds,
-        variable as usize,
-    ) {
+    match tighten_coefficient_at(n, coefs, rhs, row as usize, bounds, variable as usize) {
         CoefficientTightening::Infeasible => TightenAnswer::Infeasible,
         CoefficientTightening::Tightened => TightenAnswer::Tightened,
         CoefficientTightening::Unchanged => TightenAnswer::Unchanged,
@@ -187,17 +235,26 @@ pub fn remove_redundant_row(
     rhs: &mut [i32],
     row: u32,
 ) -> RemoveAnswer
-    ensures defined { λ r. ⌜ performed (removeAnswer r) (stateOf n m (now (bounds .entry)) (now (coefs .exit)) (now (rhs .exit)) []) ≡ perform (stateOf n m (now (bounds .entry)) (now (coefs .entry)) (now (rhs .entry)) []) (callOf (stateOf n m (now (bounds .entry)) (now (coefs .entry)) (now (rhs .entry)) []) 5 row 0 0) ⌝ }
-    ensures meaning { λ r. ⌜ Means (stateOf n m (now (bounds .entry)) (now (coefs .entry)) (now (rhs .entry)) []) (stateOf n m (now (bounds .entry)) (now (coefs .exit)) (now (rhs .exit)) []) (removeAnswer r) ⌝ }
+    ensures defined { λ r.
+        let s = stateOf n m (now (bounds .entry)) (now (coefs .entry)) (now (rhs .entry)) [] in
+        let r' = stateOf n m (now (bounds .entry)) (now (coefs .exit)) (now (rhs .exit)) [] in
+        ⌜ performed (removeAnswer r) r' ≡ perform s (callOf s 5 row 0 0) ⌝ }
+    ensures meaning { λ r.
+        let s = stateOf n m (now (bounds .entry)) (now (coefs .entry)) (now (rhs .entry)) [] in
+        let r' = stateOf n m (now (bounds .entry)) (now (coefs .exit)) (now (rhs .exit)) [] in
+        ⌜ Means s r' (removeAnswer r) ⌝ }
 {
-    let fault = call_fault(n, m, bounds, coefs, rhs, 5, row, 0, 0);
+    let call = Call {
+        kind: REMOVE_ROW,
+        row,
+        variable: 0,
+        budget: 0,
+    };
+    let fault = call_fault(n, m, bounds, coefs, rhs, call);
     if fault != 0 {
         return RemoveAnswer::Refused(fault);
     }
-    let r = row as usize;
-    let start = r * n;
-    let end = start + n;
-    match row::redundancy::remove_redundant_row(&mut coefs[start..end], &mut rhs[r], bounds) {
+    match remove_redundant_row_at(n, coefs, rhs, row as usize, bounds) {
         RowRemoval::Infeasible => RemoveAnswer::Infeasible,
         RowRemoval::Removed => RemoveAnswer::Removed,
         RowRemoval::Unchanged => RemoveAnswer::Unchanged,
@@ -212,8 +269,12 @@ pub fn is_probing_fixpoint(
     coefs: &[i32],
     rhs: &[i32],
 ) -> RestAnswer
-    ensures defined { λ r. ⌜ restVerdict r ≡ rest (stateOf n m (now (bounds .entry)) (now (coefs .entry)) (now (rhs .entry)) []) ⌝ }
-    ensures meaning { λ r. ⌜ (restVerdict r ≡ atRest) ↔ ((restFault (stateOf n m (now (bounds .entry)) (now (coefs .entry)) (now (rhs .entry)) []) ≡ 0) × AtRest (stateOf n m (now (bounds .entry)) (now (coefs .entry)) (now (rhs .entry)) [])) ⌝ }
+    ensures defined { λ r.
+        let s = stateOf n m (now (bounds .entry)) (now (coefs .entry)) (now (rhs .entry)) [] in
+        ⌜ restVerdict r ≡ rest s ⌝ }
+    ensures meaning { λ r.
+        let s = stateOf n m (now (bounds .entry)) (now (coefs .entry)) (now (rhs .entry)) [] in
+        ⌜ (restVerdict r ≡ atRest) ↔ ((restFault s ≡ 0) × AtRest s) ⌝ }
 {
     let fault = model::model_fault(n, m, bounds, coefs, rhs, true);
     if fault != 0 {

@@ -1,4 +1,6 @@
 // The checks of an open call, in 01's order: those of the model that it is lent, then its own (11 to 15).
+use step::call::Call;
+use step::call::PROBE;
 use step::checks::record_fault;
 ghost use mathlib.Core.Bool.{not};
 ghost use mathlib.Core.List.{[]};
@@ -7,27 +9,20 @@ ghost use lib.Dec.{T};
 ghost use Rattle.semantics.specs.CallChecks.{callFault};
 ghost use Rattle.semantics.specs.Call.{callOf, hasTable, kindOf};
 ghost use Rattle.model.specs.State.{stateOf};
+ghost use Rattle.step.specs.Calls.{callOn};
 
 // The number by which a call that is lent no table is refused, 0 where it is accepted.
-pub fn call_fault(
-    n: usize,
-    m: usize,
-    bounds: &[i32],
-    coefs: &[i32],
-    rhs: &[i32],
-    kind: u32,
-    row: u32,
-    variable: u32,
-    budget: u32,
-) -> u32
-    requires { ⌜ T (not (hasTable (kindOf kind))) ⌝ }
-    ensures { λ r. ⌜ r ≡ callFault (stateOf n m (now (bounds .entry)) (now (coefs .entry)) (now (rhs .entry)) []) (callOf (stateOf n m (now (bounds .entry)) (now (coefs .entry)) (now (rhs .entry)) []) kind row variable budget) ⌝ }
+pub fn call_fault(n: usize, m: usize, bounds: &[i32], coefs: &[i32], rhs: &[i32], call: Call) -> u32
+    requires { ⌜ T (not (hasTable (kindOf (call .kind)))) ⌝ }
+    ensures { λ r.
+        let s = stateOf n m (now (bounds .entry)) (now (coefs .entry)) (now (rhs .entry)) [] in
+        ⌜ r ≡ callFault s (callOn s call) ⌝ }
 {
     let fault = model::model_fault(n, m, bounds, coefs, rhs, true);
     if fault != 0 {
         return fault;
     }
-    record_fault(n, m, bounds, kind, row, variable, budget)
+    record_fault(n, m, bounds, call)
 }
 
 // The same for a probe, which is lent a table.
@@ -41,11 +36,19 @@ pub fn probe_fault(
     variable: u32,
     budget: u32,
 ) -> u32
-    ensures { λ r. ⌜ r ≡ callFault (stateOf n m (now (bounds .entry)) (now (coefs .entry)) (now (rhs .entry)) (now (table .entry))) (callOf (stateOf n m (now (bounds .entry)) (now (coefs .entry)) (now (rhs .entry)) (now (table .entry))) 3 0 variable budget) ⌝ }
+    ensures { λ r.
+        let s = stateOf n m (now (bounds .entry)) (now (coefs .entry)) (now (rhs .entry)) (now (table .entry)) in
+        ⌜ r ≡ callFault s (callOf s 3 0 variable budget) ⌝ }
 {
     let fault = model::model_table_fault(n, m, bounds, coefs, rhs, table, true);
     if fault != 0 {
         return fault;
     }
-    record_fault(n, m, bounds, 3, 0, variable, budget)
+    let call = Call {
+        kind: PROBE,
+        row: 0,
+        variable,
+        budget,
+    };
+    record_fault(n, m, bounds, call)
 }

@@ -1,6 +1,7 @@
-// Call lists (01's run sheet): many calls on one model. The model and the table are checked once, before the first record; each
-// call leaves them valid, so only a record's own checks are made after that.
+// Call lists (01's run sheet): many calls on one model. The model and the table are checked once, before the first
+// record; each call leaves them valid, so only a record's own checks are made after that.
 use step::Counts;
+use step::call::Call;
 use step::count;
 use step::run_record;
 ghost use mathlib.Core.Path.{_≡_};
@@ -26,13 +27,16 @@ fn list_fault(
     table: &[u8],
     calls: &[u32],
 ) -> u32
-    ensures { λ r. ⌜ r ≡ listFault (stateOf n m (now (bounds .entry)) (now (coefs .entry)) (now (rhs .entry)) (now (table .entry))) (now (calls .entry)) ⌝ }
+    ensures { λ r.
+        let s = stateOf n m (now (bounds .entry)) (now (coefs .entry)) (now (rhs .entry)) (now (table .entry)) in
+        ⌜ r ≡ listFault s (now (calls .entry)) ⌝ }
 {
     model::model_table_fault(n, m, bounds, coefs, rhs, table, calls.len() % 4 == 0)
 }
 
-// Runs a flat list of call records, four numbers each: kind, row, variable, budget. It goes on after a refused call. `meaning`: what
-// the whole list means for the points and the table. `demand3` and `sum` hold of any lists, so that a caller can take them from here.
+// Runs a flat list of call records, four numbers each: kind, row, variable, budget. It goes on after a refused call.
+// `meaning`: what the whole list means for the points and the table. `demand3` and `sum` hold of any lists, so that a
+// caller can take them from here.
 pub fn run(
     n: usize,
     m: usize,
@@ -42,8 +46,14 @@ pub fn run(
     table: &mut [u8],
     calls: &[u32],
 ) -> RunAnswer
-    ensures defined { λ r. ⌜ listRun r (stateOf n m (now (bounds .exit)) (now (coefs .exit)) (now (rhs .exit)) (now (table .exit))) ≡ runList (stateOf n m (now (bounds .entry)) (now (coefs .entry)) (now (rhs .entry)) (now (table .entry))) (now (calls .entry)) ⌝ }
-    ensures meaning { λ r. ⌜ ListMeans (stateOf n m (now (bounds .entry)) (now (coefs .entry)) (now (rhs .entry)) (now (table .entry))) (listRun r (stateOf n m (now (bounds .exit)) (now (coefs .exit)) (now (rhs .exit)) (now (table .exit)))) ⌝ }
+    ensures defined { λ r.
+        let s = stateOf n m (now (bounds .entry)) (now (coefs .entry)) (now (rhs .entry)) (now (table .entry)) in
+        let r' = stateOf n m (now (bounds .exit)) (now (coefs .exit)) (now (rhs .exit)) (now (table .exit)) in
+        ⌜ listRun r r' ≡ runList s (now (calls .entry)) ⌝ }
+    ensures meaning { λ r.
+        let s = stateOf n m (now (bounds .entry)) (now (coefs .entry)) (now (rhs .entry)) (now (table .entry)) in
+        let r' = stateOf n m (now (bounds .exit)) (now (coefs .exit)) (now (rhs .exit)) (now (table .exit)) in
+        ⌜ ListMeans s (listRun r r') ⌝ }
     ensures demand3 { λ r. ⌜ EveryModelHandedIn × Demand3Lists ⌝ }
     ensures sum { λ r. ⌜ CountsAddUp ⌝ }
 {
@@ -60,18 +70,13 @@ pub fn run(
     let records = calls.len() / 4;
     let mut i = 0;
     while i < records {
-        let class = run_record(
-            n,
-            m,
-            bounds,
-            coefs,
-            rhs,
-            table,
-            calls[4 * i],
-            calls[4 * i + 1],
-            calls[4 * i + 2],
-            calls[4 * i + 3],
-        );
+        let call = Call {
+            kind: calls[4 * i],
+            row: calls[4 * i + 1],
+            variable: calls[4 * i + 2],
+            budget: calls[4 * i + 3],
+        };
+        let class = run_record(n, m, bounds, coefs, rhs, table, call);
         counts = count(counts, class);
         i += 1;
     }

@@ -1,5 +1,5 @@
-// The rounds of `reduce`: propagate, remove redundant rows, tighten coefficients and probe, again until a round changes nothing.
-// The model and the table are checked once; each call leaves them valid.
+// The rounds of `reduce`: propagate, remove redundant rows, tighten coefficients and probe, again until a round
+// changes nothing. The model and the table are checked once; each call leaves them valid.
 use probing::is_free;
 use row::activity::maximum_activity;
 use row::tightening::may_tighten;
@@ -22,11 +22,13 @@ ghost use Rattle.step.specs.Classes.{classIs};
 ghost use Rattle.model.specs.State.{stateOf};
 ghost use Rattle.rounds.specs.Answers.{roundsAnswer};
 ghost use Rattle.rounds.specs.TightenedAt.{TightenedAt};
-ghost use Rattle.rounds.specs.Rounds.{SamePoints, anyChange, drops, isChange, probes, round as roundOf, runRounds, sharpenRow, sharpens};
+ghost use Rattle.rounds.specs.Rounds.{SamePoints, anyChange, drops, isChange, probes, round as roundOf};
+ghost use Rattle.rounds.specs.Rounds.{runRounds, sharpenRow, sharpens};
 
 const PASSES: u32 = 1_000;
 
-// How the rounds ended, with the number of rounds made: refused N; at None; after a round that changed nothing; at the limit.
+// How the rounds ended, with the number of rounds made: refused N; at None; after a round that changed nothing; at
+// the limit.
 pub enum RoundsAnswer {
     Refused(u32),
     Infeasible(u32),
@@ -54,8 +56,13 @@ fn remove_rows(
     table: &mut [u8],
 ) -> bool
     requires { ⌜ ValidState (stateOf n m (now bounds) (now coefs) (now rhs) (now table)) ⌝ }
-    ensures left { λ r. ⌜ stateOf n m (now (bounds .exit)) (now (coefs .exit)) (now (rhs .exit)) (now (table .exit)) ≡ ran (stateOf n m (now (bounds .entry)) (now (coefs .entry)) (now (rhs .entry)) (now (table .entry))) (drops (stateOf n m (now (bounds .entry)) (now (coefs .entry)) (now (rhs .entry)) (now (table .entry)))) ⌝ }
-    ensures changed { λ r. ⌜ r ≡ anyChange (stateOf n m (now (bounds .entry)) (now (coefs .entry)) (now (rhs .entry)) (now (table .entry))) (drops (stateOf n m (now (bounds .entry)) (now (coefs .entry)) (now (rhs .entry)) (now (table .entry)))) ⌝ }
+    ensures left { λ r.
+        let s = stateOf n m (now (bounds .entry)) (now (coefs .entry)) (now (rhs .entry)) (now (table .entry)) in
+        let r' = stateOf n m (now (bounds .exit)) (now (coefs .exit)) (now (rhs .exit)) (now (table .exit)) in
+        ⌜ r' ≡ ran s (drops s) ⌝ }
+    ensures changed { λ r.
+        let s = stateOf n m (now (bounds .entry)) (now (coefs .entry)) (now (rhs .entry)) (now (table .entry)) in
+        ⌜ r ≡ anyChange s (drops s) ⌝ }
 {
     if model::is_empty(bounds) {
         return false;
@@ -101,8 +108,9 @@ fn may_tighten_at(
     may_tighten(coefs[row * n + k], rhs[row], most)
 }
 
-// Tightens row `row` at each variable that is free when its turn comes, upwards; says whether a number changed. A coefficient that
-// fails the rule's test stays, so only the others are called for; Lmax is found once, and anew after each of them.
+// Tightens row `row` at each variable that is free when its turn comes, upwards; says whether a number changed. A
+// coefficient that fails the rule's test stays, so only the others are called for; Lmax is found once, and anew after
+// each of them.
 fn tighten_row(
     n: usize,
     m: usize,
@@ -114,8 +122,13 @@ fn tighten_row(
 ) -> bool
     requires { ⌜ row < m ⌝ }
     requires { ⌜ ValidState (stateOf n m (now bounds) (now coefs) (now rhs) (now table)) ⌝ }
-    ensures left { λ r. ⌜ stateOf n m (now (bounds .exit)) (now (coefs .exit)) (now (rhs .exit)) (now (table .exit)) ≡ ran (stateOf n m (now (bounds .entry)) (now (coefs .entry)) (now (rhs .entry)) (now (table .entry))) (sharpenRow row (stateOf n m (now (bounds .entry)) (now (coefs .entry)) (now (rhs .entry)) (now (table .entry)))) ⌝ }
-    ensures changed { λ r. ⌜ r ≡ anyChange (stateOf n m (now (bounds .entry)) (now (coefs .entry)) (now (rhs .entry)) (now (table .entry))) (sharpenRow row (stateOf n m (now (bounds .entry)) (now (coefs .entry)) (now (rhs .entry)) (now (table .entry)))) ⌝ }
+    ensures left { λ r.
+        let s = stateOf n m (now (bounds .entry)) (now (coefs .entry)) (now (rhs .entry)) (now (table .entry)) in
+        let r' = stateOf n m (now (bounds .exit)) (now (coefs .exit)) (now (rhs .exit)) (now (table .exit)) in
+        ⌜ r' ≡ ran s (sharpenRow row s) ⌝ }
+    ensures changed { λ r.
+        let s = stateOf n m (now (bounds .entry)) (now (coefs .entry)) (now (rhs .entry)) (now (table .entry)) in
+        ⌜ r ≡ anyChange s (sharpenRow row s) ⌝ }
 {
     let mut most = row_maximum(n, coefs, bounds, row as usize);
     let mut changed = false;
@@ -142,8 +155,13 @@ fn tighten_rows(
     table: &mut [u8],
 ) -> bool
     requires { ⌜ ValidState (stateOf n m (now bounds) (now coefs) (now rhs) (now table)) ⌝ }
-    ensures left { λ r. ⌜ stateOf n m (now (bounds .exit)) (now (coefs .exit)) (now (rhs .exit)) (now (table .exit)) ≡ ran (stateOf n m (now (bounds .entry)) (now (coefs .entry)) (now (rhs .entry)) (now (table .entry))) (sharpens (stateOf n m (now (bounds .entry)) (now (coefs .entry)) (now (rhs .entry)) (now (table .entry)))) ⌝ }
-    ensures changed { λ r. ⌜ r ≡ anyChange (stateOf n m (now (bounds .entry)) (now (coefs .entry)) (now (rhs .entry)) (now (table .entry))) (sharpens (stateOf n m (now (bounds .entry)) (now (coefs .entry)) (now (rhs .entry)) (now (table .entry)))) ⌝ }
+    ensures left { λ r.
+        let s = stateOf n m (now (bounds .entry)) (now (coefs .entry)) (now (rhs .entry)) (now (table .entry)) in
+        let r' = stateOf n m (now (bounds .exit)) (now (coefs .exit)) (now (rhs .exit)) (now (table .exit)) in
+        ⌜ r' ≡ ran s (sharpens s) ⌝ }
+    ensures changed { λ r.
+        let s = stateOf n m (now (bounds .entry)) (now (coefs .entry)) (now (rhs .entry)) (now (table .entry)) in
+        ⌜ r ≡ anyChange s (sharpens s) ⌝ }
 {
     let mut changed = false;
     let mut r: u32 = 0;
@@ -156,8 +174,8 @@ fn tighten_rows(
     changed
 }
 
-// Probes each variable that is free when its turn comes, upwards, by the index of the rows and the marks of the box; says whether a
-// bound or a table byte changed.
+// Probes each variable that is free when its turn comes, upwards, by the index of the rows and the marks of the box;
+// says whether a bound or a table byte changed.
 fn probe_variables_marked(
     n: usize,
     m: usize,
@@ -171,8 +189,13 @@ fn probe_variables_marked(
 ) -> bool
     requires { ⌜ ValidState (stateOf n m (now bounds) (now coefs) (now rhs) (now table)) ⌝ }
     requires { ⌜ Marked n m (now bounds) (now coefs) (now rhs) (now across) (now signs) (now marks) ⌝ }
-    ensures left { λ r. ⌜ stateOf n m (now (bounds .exit)) (now (coefs .entry)) (now (rhs .entry)) (now (table .exit)) ≡ ran (stateOf n m (now (bounds .entry)) (now (coefs .entry)) (now (rhs .entry)) (now (table .entry))) (probes (stateOf n m (now (bounds .entry)) (now (coefs .entry)) (now (rhs .entry)) (now (table .entry)))) ⌝ }
-    ensures changed { λ r. ⌜ r ≡ anyChange (stateOf n m (now (bounds .entry)) (now (coefs .entry)) (now (rhs .entry)) (now (table .entry))) (probes (stateOf n m (now (bounds .entry)) (now (coefs .entry)) (now (rhs .entry)) (now (table .entry)))) ⌝ }
+    ensures left { λ r.
+        let s = stateOf n m (now (bounds .entry)) (now (coefs .entry)) (now (rhs .entry)) (now (table .entry)) in
+        let r' = stateOf n m (now (bounds .exit)) (now (coefs .entry)) (now (rhs .entry)) (now (table .exit)) in
+        ⌜ r' ≡ ran s (probes s) ⌝ }
+    ensures changed { λ r.
+        let s = stateOf n m (now (bounds .entry)) (now (coefs .entry)) (now (rhs .entry)) (now (table .entry)) in
+        ⌜ r ≡ anyChange s (probes s) ⌝ }
 {
     let mut changed = false;
     let mut k: u32 = 0;
@@ -199,8 +222,8 @@ fn probe_variables_marked(
     changed
 }
 
-// The same, of rows of which nothing is known yet. No probe changes a row, and each leaves a box inside the one before: what is
-// known is kept from probe to probe.
+// The same, of rows of which nothing is known yet. No probe changes a row, and each leaves a box inside the one
+// before: what is known is kept from probe to probe.
 fn probe_variables(
     n: usize,
     m: usize,
@@ -210,8 +233,13 @@ fn probe_variables(
     table: &mut [u8],
 ) -> bool
     requires { ⌜ ValidState (stateOf n m (now bounds) (now coefs) (now rhs) (now table)) ⌝ }
-    ensures left { λ r. ⌜ stateOf n m (now (bounds .exit)) (now (coefs .exit)) (now (rhs .exit)) (now (table .exit)) ≡ ran (stateOf n m (now (bounds .entry)) (now (coefs .entry)) (now (rhs .entry)) (now (table .entry))) (probes (stateOf n m (now (bounds .entry)) (now (coefs .entry)) (now (rhs .entry)) (now (table .entry)))) ⌝ }
-    ensures changed { λ r. ⌜ r ≡ anyChange (stateOf n m (now (bounds .entry)) (now (coefs .entry)) (now (rhs .entry)) (now (table .entry))) (probes (stateOf n m (now (bounds .entry)) (now (coefs .entry)) (now (rhs .entry)) (now (table .entry)))) ⌝ }
+    ensures left { λ r.
+        let s = stateOf n m (now (bounds .entry)) (now (coefs .entry)) (now (rhs .entry)) (now (table .entry)) in
+        let r' = stateOf n m (now (bounds .exit)) (now (coefs .exit)) (now (rhs .exit)) (now (table .exit)) in
+        ⌜ r' ≡ ran s (probes s) ⌝ }
+    ensures changed { λ r.
+        let s = stateOf n m (now (bounds .entry)) (now (coefs .entry)) (now (rhs .entry)) (now (table .entry)) in
+        ⌜ r ≡ anyChange s (probes s) ⌝ }
 {
     let mut across = [0u8; 15360];
     let mut signs = [0u8; 15360];
@@ -239,8 +267,13 @@ fn round(
     table: &mut [u8],
 ) -> bool
     requires { ⌜ ValidState (stateOf n m (now bounds) (now coefs) (now rhs) (now table)) ⌝ }
-    ensures left { λ r. ⌜ stateOf n m (now (bounds .exit)) (now (coefs .exit)) (now (rhs .exit)) (now (table .exit)) ≡ ran (stateOf n m (now (bounds .entry)) (now (coefs .entry)) (now (rhs .entry)) (now (table .entry))) (roundOf (stateOf n m (now (bounds .entry)) (now (coefs .entry)) (now (rhs .entry)) (now (table .entry)))) ⌝ }
-    ensures changed { λ r. ⌜ r ≡ anyChange (stateOf n m (now (bounds .entry)) (now (coefs .entry)) (now (rhs .entry)) (now (table .entry))) (roundOf (stateOf n m (now (bounds .entry)) (now (coefs .entry)) (now (rhs .entry)) (now (table .entry)))) ⌝ }
+    ensures left { λ r.
+        let s = stateOf n m (now (bounds .entry)) (now (coefs .entry)) (now (rhs .entry)) (now (table .entry)) in
+        let r' = stateOf n m (now (bounds .exit)) (now (coefs .exit)) (now (rhs .exit)) (now (table .exit)) in
+        ⌜ r' ≡ ran s (roundOf s) ⌝ }
+    ensures changed { λ r.
+        let s = stateOf n m (now (bounds .entry)) (now (coefs .entry)) (now (rhs .entry)) (now (table .entry)) in
+        ⌜ r ≡ anyChange s (roundOf s) ⌝ }
 {
     let mut changed = is_changed(run_record(n, m, bounds, coefs, rhs, table, 2, 0, 0, PASSES));
     if remove_rows(n, m, bounds, coefs, rhs, table) {
@@ -255,8 +288,8 @@ fn round(
     changed
 }
 
-// Makes rounds until one changes nothing, the box is empty or `limit` rounds are made. Refused by 3, 5 to 10; the table is kept
-// and extended.
+// Makes rounds until one changes nothing, the box is empty or `limit` rounds are made. Refused by 3, 5 to 10; the
+// table is kept and extended.
 pub fn run(
     n: usize,
     m: usize,
@@ -266,9 +299,17 @@ pub fn run(
     table: &mut [u8],
     limit: u32,
 ) -> RoundsAnswer
-    ensures answer { λ r. ⌜ roundsAnswer r ≡ runRounds limit (stateOf n m (now (bounds .entry)) (now (coefs .entry)) (now (rhs .entry)) (now (table .entry))) .answer ⌝ }
-    ensures left { λ r. ⌜ stateOf n m (now (bounds .exit)) (now (coefs .exit)) (now (rhs .exit)) (now (table .exit)) ≡ ran (stateOf n m (now (bounds .entry)) (now (coefs .entry)) (now (rhs .entry)) (now (table .entry))) (runRounds limit (stateOf n m (now (bounds .entry)) (now (coefs .entry)) (now (rhs .entry)) (now (table .entry))) .calls) ⌝ }
-    ensures meaning { λ r. ⌜ SamePoints (stateOf n m (now (bounds .entry)) (now (coefs .entry)) (now (rhs .entry)) (now (table .entry))) (stateOf n m (now (bounds .exit)) (now (coefs .exit)) (now (rhs .exit)) (now (table .exit))) (roundsAnswer r) ⌝ }
+    ensures answer { λ r.
+        let s = stateOf n m (now (bounds .entry)) (now (coefs .entry)) (now (rhs .entry)) (now (table .entry)) in
+        ⌜ roundsAnswer r ≡ runRounds limit s .answer ⌝ }
+    ensures left { λ r.
+        let s = stateOf n m (now (bounds .entry)) (now (coefs .entry)) (now (rhs .entry)) (now (table .entry)) in
+        let r' = stateOf n m (now (bounds .exit)) (now (coefs .exit)) (now (rhs .exit)) (now (table .exit)) in
+        ⌜ r' ≡ ran s (runRounds limit s .calls) ⌝ }
+    ensures meaning { λ r.
+        let s = stateOf n m (now (bounds .entry)) (now (coefs .entry)) (now (rhs .entry)) (now (table .entry)) in
+        let r' = stateOf n m (now (bounds .exit)) (now (coefs .exit)) (now (rhs .exit)) (now (table .exit)) in
+        ⌜ SamePoints s r' (roundsAnswer r) ⌝ }
 {
     let fault = model::model_table_fault(n, m, bounds, coefs, rhs, table, true);
     if fault != 0 {

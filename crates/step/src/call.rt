@@ -1,5 +1,5 @@
-// A call by value: the four numbers of a call record (01: "kind, 1 visit, 2 settle, 3 probe, 4 sharpen, 5 drop; row; variable;
-// budget"). A field that the kind lacks is not looked at.
+// A call by value: the four numbers of a call record (01: "kind, 1 visit, 2 settle, 3 probe, 4 sharpen, 5 drop; row;
+// variable; budget"). A field that the kind lacks is not looked at.
 pub struct Call {
     pub kind: u32,
     pub row: u32,

@@ -134,7 +134,9 @@ fn run_probe_marked(
         ⌜ r' ≡ step s (callOf s 3 0 variable budget) ⌝ }
     ensures marks { λ r.
         let B = now (bounds .exit) in
-        ⌜ Marked n m B (now (coefs .entry)) (now (rhs .entry)) (now (across .exit)) (now (signs .exit)) (now (marks .exit)) ⌝ }
+        let C = now (coefs .entry) in
+        let R = now (rhs .entry) in
+        ⌜ Marked n m B C R (now (across .exit)) (now (signs .exit)) (now (marks .exit)) ⌝ }
 {
     let len = bounds.len();
     let mut before = [0i32; 256];
@@ -296,7 +298,9 @@ pub fn run_probe_record(
         ⌜ r' ≡ step s (callOf s 3 0 variable budget) ⌝ }
     ensures marks { λ r.
         let B = now (bounds .exit) in
-        ⌜ Marked n m B (now (coefs .entry)) (now (rhs .entry)) (now (across .exit)) (now (signs .exit)) (now (marks .exit)) ⌝ }
+        let C = now (coefs .entry) in
+        let R = now (rhs .entry) in
+        ⌜ Marked n m B C R (now (across .exit)) (now (signs .exit)) (now (marks .exit)) ⌝ }
 {
     let call = Call {
         kind: PROBE,

@@ -1,41 +1,13 @@
--- `reducer::calls::remove_redundant_row` is `perform` of a drop: refused by the call's number, else the row's own answer, with what it
--- left of the row in its place. Assumes nothing.
-use Prim.Native.Nat.{_<_, ℕ}
 use borrow.Author.Needs.{needs}
-use lib.IntN.{ℤ}
-use lib.ListN.{length, set}
-use mathlib.Core.List.{List, []}
-use mathlib.Core.Path.{_∙_, _≡_, refl, sym}
-use native.Mathlib.Omega.{arith}
-use Rattle.model.specs.Box.{at}
-use Rattle.model.specs.Rows.{rowOf}
-use Rattle.model.specs.Valid.{ValidModel}
-use Rattle.row.specs.Answers.{removalOutcome}
-use Rattle.row.specs.Redundancy.{removeRedundantRow}
-use Rattle.semantics.specs.CallChecks.{callFault}
-use Rattle.semantics.specs.Perform.{Answer, act, perform, removed}
-use Rattle.semantics.specs.Call.{Call, callOf, hasRow, hasTable, kindOf}
-use Rattle.model.specs.State.{State, stateOf}
-use Rattle.model.specs.Model.{modelOf}
-use Rattle.reducer.specs.OpenCalls.{performed, removeAnswer}
-use Rattle.reducer.proofs.OpenCallLaws.{on-row, perform-refused, promised, row-changed}
-use Rattle.step.proofs.StepLaws.{withPart}
-use Rattle.propagation.proofs.PropagationLoops.{part-is, row-fits, row-length, valid-row}
 use Rattle.reducer.proofs.calls.remove_redundant_row.Statement.{statement}
 use Rattle.reducer.proofs.calls.remove_redundant_row.Tie as tie
-
-abbrev state : tie.Start → List ℤ → List ℤ → State
-state s C R = stateOf (s .args .n) (s .args .m) (s .args .bounds .now) C R []
-
-abbrev before : tie.Start → State
-before s = state s (s .args .coefs .now) (s .args .rhs .now)
-
-abbrev call : tie.Start → Call
-call s = callOf (before s) 5 (s .args .row) 0 0
+use Rattle.reducer.proofs.calls.remove_redundant_row.Reads as reads
+use Rattle.reducer.proofs.calls.remove_redundant_row.Lts as lts
+use Rattle.reducer.proofs.checks.call_fault.Reads as call-fault-reads
+use Rattle.row_view.proofs.changes.remove_redundant_row_at.Reads as remove-redundant-row-at-reads
 
 call-fault-requires : tie.Need-call-fault-requires
-unfolding kindOf hasTable
-call-fault-requires c κs = tt
+call-fault-requires c κs = ?
 
 same-length : tie.Need-same-length
 same-length c = search needs
@@ -44,94 +16,10 @@ same-length-2 : tie.Need-same-length-2
 same-length-2 c = search needs
 
 returns : tie.Need-returns
-unfolding removeAnswer
-returns c =
-    let s = c .before .before .before .before in
-    promised (before s) (before s) (call s) _ (perform-refused (before s) (call s) (c .before .call-fault .ensures) (c .if1 .taken))
+returns c = ?
 
--- the call is accepted: its row lies in the matrix
-module _ (c : tie.Else1) where
-  abbrev s : tie.Start
-  s = c .before .before .before .before
-
-  abbrev n : ℕ
-  n = s .args .n
-
-  abbrev r : ℕ
-  r = s .args .row
-
-  abbrev B : List ℤ
-  B = s .args .bounds .now
-
-  abbrev C : List ℤ
-  C = s .args .coefs .now
-
-  abbrev R : List ℤ
-  R = s .args .rhs .now
-
-  no-fault : callFault (before s) (call s) ≡ 0
-  no-fault = sym (c .before .call-fault .ensures) ∙ c .if1 .left
-
-  on : ValidModel (modelOf n (s .args .m) B C R) × (r < s .args .m)
-  unfolding kindOf hasRow
-  on = on-row n (s .args .m) B C R 5 r 0 tt no-fault
-
-mul-start : tie.Need-mul-start
-mul-start c = omega (arith, row-fits (on c .0) (r c) (on c .1))
-
-add-end : tie.Need-add-end
-add-end c = omega (arith, row-fits (on c .0) (r c) (on c .1))
-
-mul-remove-redundant-row : tie.Need-mul-remove-redundant-row
-mul-remove-redundant-row c = omega (arith, row-fits (on c .0) (r c) (on c .1))
-
-sub-remove-redundant-row : tie.Need-sub-remove-redundant-row
-sub-remove-redundant-row c = search needs
-
-part-remove-redundant-row-start : tie.Need-part-remove-redundant-row-start
-part-remove-redundant-row-start c = search needs
-
-part-remove-redundant-row-end : tie.Need-part-remove-redundant-row-end
-part-remove-redundant-row-end c = omega (arith, row-fits (on c .0) (r c) (on c .1))
-
-mul-remove-redundant-row-2 : tie.Need-mul-remove-redundant-row-2
-mul-remove-redundant-row-2 c = search needs
-
-index-1-remove-redundant-row : tie.Need-index-1-remove-redundant-row
-index-1-remove-redundant-row c = let a = c .before in omega (arith, on a .1, on a .0 .rhsLen)
-
-remove-redundant-row-requires : tie.Need-remove-redundant-row-requires
-remove-redundant-row-requires c κs =
-    let a = c .before .before in
-    let v = on a in
-    rw (part-is (r a) (n a) (C a), row-length (v .0) (r a) (v .1)) (valid-row (v .0) (r a) (v .1) (v .0 .box))
-
--- what the row's own call answers and leaves
-module _ (c : tie.After-remove-redundant-row) where
-  abbrev a : tie.Else1
-  a = c .before .before .before
-
-  abbrev A : List ℤ
-  A = c .remove-redundant-row .last .0
-
-  abbrev b : ℤ
-  b = c .remove-redundant-row .last .1 .0
-
-  abbrev after : State
-  after = state (s a) (withPart (C a) (r a) (n a) A) (set (R a) (r a) b)
-
-  heard : let p = removeRedundantRow (n a) (rowOf (n a) (C a) (r a)) (at (R a) (r a)) (B a) in
-      (removalOutcome (c .remove-redundant-row .result) ≡ p .outcome) × ((A ≡ p .coefs) × (b ≡ p .rhs))
-  heard = rw (part-is (r a) (n a) (C a), row-length (on a .0) (r a) (on a .1)) at (c .remove-redundant-row .ensures)
-
-  kept : length A ≡ n a
-  kept = rw (part-is (r a) (n a) (C a), row-length (on a .0) (r a) (on a .1)) at (c .remove-redundant-row .kept .0)
-
-  done : {x : Answer} → x ≡ removed (removalOutcome (c .remove-redundant-row .result)) → performed x after ≡ perform (before (s a)) (call (s a))
-  unfolding act kindOf callOf stateOf
-  done e =
-      row-changed (n a) (s a .args .m) (B a) (C a) (R a) (r a) (removeRedundantRow (n a) (rowOf (n a) (C a) (r a)) (at (R a) (r a)) (B a))
-      removed (call (s a)) refl (no-fault a) e kept heard
+remove-redundant-row-at-requires : tie.Need-remove-redundant-row-at-requires
+remove-redundant-row-at-requires c κs = ?
 
 enum-told : tie.Need-enum-told
 enum-told c = search needs
@@ -149,8 +37,7 @@ same-length-4 : tie.Need-same-length-4
 same-length-4 c = search needs
 
 returns-2 : tie.Need-returns-2
-unfolding removeAnswer removalOutcome
-returns-2 c = let d = c .before .before .before in promised (before (s (a d))) (after d) (call (s (a d))) _ (done d (rw (c .enum-told .given .1)))
+returns-2 c = ?
 
 same-length-5 : tie.Need-same-length-5
 same-length-5 c = search needs
@@ -159,8 +46,7 @@ same-length-6 : tie.Need-same-length-6
 same-length-6 c = search needs
 
 returns-3 : tie.Need-returns-3
-unfolding removeAnswer removalOutcome
-returns-3 c = let d = c .before .before .before in promised (before (s (a d))) (after d) (call (s (a d))) _ (done d (rw (c .enum-told2 .given .1)))
+returns-3 c = ?
 
 same-length-7 : tie.Need-same-length-7
 same-length-7 c = search needs
@@ -169,8 +55,7 @@ same-length-8 : tie.Need-same-length-8
 same-length-8 c = search needs
 
 returns-4 : tie.Need-returns-4
-unfolding removeAnswer removalOutcome
-returns-4 c = let d = c .before .before .before in promised (before (s (a d))) (after d) (call (s (a d))) _ (done d (rw (c .enum-told3 .given .1)))
+returns-4 c = ?
 
 pub remove-redundant-row-spec : {M : Type 1} → statement M
 remove-redundant-row-spec =
@@ -180,15 +65,7 @@ remove-redundant-row-spec =
     same-length
     same-length-2
     returns
-    mul-start
-    add-end
-    mul-remove-redundant-row
-    sub-remove-redundant-row
-    part-remove-redundant-row-start
-    part-remove-redundant-row-end
-    mul-remove-redundant-row-2
-    index-1-remove-redundant-row
-    remove-redundant-row-requires
+    remove-redundant-row-at-requires
     enum-told
     enum-told-2
     enum-told-3

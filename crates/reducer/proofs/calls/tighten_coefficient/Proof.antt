@@ -1,42 +1,13 @@
--- `reducer::calls::tighten_coefficient` is `perform` of a sharpen: refused by the call's number, else the row's own answer, with what it
--- left of the row in its place. Assumes nothing.
-use Prim.Native.Nat.{_<_, ℕ}
 use borrow.Author.Needs.{needs}
-use lib.IntN.{ℤ}
-use lib.ListN.{length, set}
-use mathlib.Core.List.{List, []}
-use mathlib.Core.Path.{_∙_, _≡_, refl, sym}
-use native.Mathlib.Omega.{arith}
-use Rattle.model.specs.Box.{at}
-use Rattle.model.specs.Rows.{rowOf}
-use Rattle.model.specs.Valid.{ValidModel}
-use Rattle.row.specs.Answers.{tighteningOutcome}
-use Rattle.row.specs.Tightening.{tightenCoefficient}
-use Rattle.semantics.specs.CallChecks.{callFault}
-use Rattle.semantics.specs.Perform.{Answer, act, perform, tightened}
-use Rattle.semantics.specs.Call.{Call, callOf, hasRow, hasTable, hasVariable, kindOf}
-use Rattle.model.specs.State.{State, stateOf}
-use Rattle.model.specs.Model.{modelOf}
-use Rattle.semantics.proofs.Accepted.{accepted}
-use Rattle.reducer.specs.OpenCalls.{performed, tightenAnswer}
-use Rattle.reducer.proofs.OpenCallLaws.{on-row, perform-refused, promised, row-changed}
-use Rattle.step.proofs.StepLaws.{withPart}
-use Rattle.propagation.proofs.PropagationLoops.{part-is, row-fits, row-length, valid-row}
 use Rattle.reducer.proofs.calls.tighten_coefficient.Statement.{statement}
 use Rattle.reducer.proofs.calls.tighten_coefficient.Tie as tie
-
-abbrev state : tie.Start → List ℤ → List ℤ → State
-state s C R = stateOf (s .args .n) (s .args .m) (s .args .bounds .now) C R []
-
-abbrev before : tie.Start → State
-before s = state s (s .args .coefs .now) (s .args .rhs .now)
-
-abbrev call : tie.Start → Call
-call s = callOf (before s) 4 (s .args .row) (s .args .variable) 0
+use Rattle.reducer.proofs.calls.tighten_coefficient.Reads as reads
+use Rattle.reducer.proofs.calls.tighten_coefficient.Lts as lts
+use Rattle.reducer.proofs.checks.call_fault.Reads as call-fault-reads
+use Rattle.row_view.proofs.changes.tighten_coefficient_at.Reads as tighten-coefficient-at-reads
 
 call-fault-requires : tie.Need-call-fault-requires
-unfolding kindOf hasTable
-call-fault-requires c κs = tt
+call-fault-requires c κs = ?
 
 same-length : tie.Need-same-length
 same-length c = search needs
@@ -45,98 +16,10 @@ same-length-2 : tie.Need-same-length-2
 same-length-2 c = search needs
 
 returns : tie.Need-returns
-unfolding tightenAnswer
-returns c =
-    let s = c .before .before .before .before in
-    promised (before s) (before s) (call s) _ (perform-refused (before s) (call s) (c .before .call-fault .ensures) (c .if1 .taken))
+returns c = ?
 
--- the call is accepted: its row lies in the matrix
-module _ (c : tie.Else1) where
-  abbrev s : tie.Start
-  s = c .before .before .before .before
-
-  abbrev n : ℕ
-  n = s .args .n
-
-  abbrev r : ℕ
-  r = s .args .row
-
-  abbrev B : List ℤ
-  B = s .args .bounds .now
-
-  abbrev C : List ℤ
-  C = s .args .coefs .now
-
-  abbrev R : List ℤ
-  R = s .args .rhs .now
-
-  no-fault : callFault (before s) (call s) ≡ 0
-  no-fault = sym (c .before .call-fault .ensures) ∙ c .if1 .left
-
-  on : ValidModel (modelOf n (s .args .m) B C R) × (r < s .args .m)
-  unfolding kindOf hasRow
-  on = on-row n (s .args .m) B C R 4 r (s .args .variable) tt no-fault
-
-  below : s .args .variable < n
-  unfolding kindOf hasVariable stateOf callOf
-  below = accepted (before s) (call s) no-fault .variable tt
-
-mul-start : tie.Need-mul-start
-mul-start c = omega (arith, row-fits (on c .0) (r c) (on c .1))
-
-add-end : tie.Need-add-end
-add-end c = omega (arith, row-fits (on c .0) (r c) (on c .1))
-
-mul-tighten-coefficient : tie.Need-mul-tighten-coefficient
-mul-tighten-coefficient c = omega (arith, row-fits (on c .0) (r c) (on c .1))
-
-sub-tighten-coefficient : tie.Need-sub-tighten-coefficient
-sub-tighten-coefficient c = search needs
-
-part-tighten-coefficient-start : tie.Need-part-tighten-coefficient-start
-part-tighten-coefficient-start c = search needs
-
-part-tighten-coefficient-end : tie.Need-part-tighten-coefficient-end
-part-tighten-coefficient-end c = omega (arith, row-fits (on c .0) (r c) (on c .1))
-
-mul-tighten-coefficient-2 : tie.Need-mul-tighten-coefficient-2
-mul-tighten-coefficient-2 c = search needs
-
-index-1-tighten-coefficient : tie.Need-index-1-tighten-coefficient
-index-1-tighten-coefficient c = let a = c .before in omega (arith, on a .1, on a .0 .rhsLen)
-
-tighten-coefficient-requires : tie.Need-tighten-coefficient-requires
-tighten-coefficient-requires c κs =
-    let a = c .before .before in
-    let v = on a in
-    rw (part-is (r a) (n a) (C a), row-length (v .0) (r a) (v .1)) (valid-row (v .0) (r a) (v .1) (v .0 .box), below a)
-
--- what the row's own call answers and leaves
-module _ (c : tie.After-tighten-coefficient) where
-  abbrev a : tie.Else1
-  a = c .before .before .before
-
-  abbrev A : List ℤ
-  A = c .tighten-coefficient .last .0
-
-  abbrev b : ℤ
-  b = c .tighten-coefficient .last .1 .0
-
-  abbrev after : State
-  after = state (s a) (withPart (C a) (r a) (n a) A) (set (R a) (r a) b)
-
-  heard : let p = tightenCoefficient (n a) (rowOf (n a) (C a) (r a)) (at (R a) (r a)) (B a) (s a .args .variable) in
-      (tighteningOutcome (c .tighten-coefficient .result) ≡ p .outcome) × ((A ≡ p .coefs) × (b ≡ p .rhs))
-  heard = rw (part-is (r a) (n a) (C a), row-length (on a .0) (r a) (on a .1)) at (c .tighten-coefficient .ensures)
-
-  kept : length A ≡ n a
-  kept = rw (part-is (r a) (n a) (C a), row-length (on a .0) (r a) (on a .1)) at (c .tighten-coefficient .kept .0)
-
-  done : {x : Answer} → x ≡ tightened (tighteningOutcome (c .tighten-coefficient .result)) → performed x after ≡ perform (before (s a)) (call (s a))
-  unfolding act kindOf callOf stateOf
-  done e =
-      row-changed (n a) (s a .args .m) (B a) (C a) (R a) (r a) (tightenCoefficient (n a) (rowOf (n a) (C a) (r a)) (at (R a) (r a)) (B a) (s a .args .variable))
-      tightened (call (s a)) refl (no-fault a) e kept heard
+tighten-coefficient-at-requires : tie.Need-tighten-coefficient-at-requires
+tighten-coefficient-at-requires c κs = ?
 
 enum-told : tie.Need-enum-told
 enum-told c = search needs
@@ -154,8 +37,7 @@ same-length-4 : tie.Need-same-length-4
 same-length-4 c = search needs
 
 returns-2 : tie.Need-returns-2
-unfolding tightenAnswer tighteningOutcome
-returns-2 c = let d = c .before .before .before in promised (before (s (a d))) (after d) (call (s (a d))) _ (done d (rw (c .enum-told .given .1)))
+returns-2 c = ?
 
 same-length-5 : tie.Need-same-length-5
 same-length-5 c = search needs
@@ -164,8 +46,7 @@ same-length-6 : tie.Need-same-length-6
 same-length-6 c = search needs
 
 returns-3 : tie.Need-returns-3
-unfolding tightenAnswer tighteningOutcome
-returns-3 c = let d = c .before .before .before in promised (before (s (a d))) (after d) (call (s (a d))) _ (done d (rw (c .enum-told2 .given .1)))
+returns-3 c = ?
 
 same-length-7 : tie.Need-same-length-7
 same-length-7 c = search needs
@@ -174,8 +55,7 @@ same-length-8 : tie.Need-same-length-8
 same-length-8 c = search needs
 
 returns-4 : tie.Need-returns-4
-unfolding tightenAnswer tighteningOutcome
-returns-4 c = let d = c .before .before .before in promised (before (s (a d))) (after d) (call (s (a d))) _ (done d (rw (c .enum-told3 .given .1)))
+returns-4 c = ?
 
 pub tighten-coefficient-spec : {M : Type 1} → statement M
 tighten-coefficient-spec =
@@ -185,15 +65,7 @@ tighten-coefficient-spec =
     same-length
     same-length-2
     returns
-    mul-start
-    add-end
-    mul-tighten-coefficient
-    sub-tighten-coefficient
-    part-tighten-coefficient-start
-    part-tighten-coefficient-end
-    mul-tighten-coefficient-2
-    index-1-tighten-coefficient
-    tighten-coefficient-requires
+    tighten-coefficient-at-requires
     enum-told
     enum-told-2
     enum-told-3

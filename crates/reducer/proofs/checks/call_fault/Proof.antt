@@ -22,17 +22,17 @@ abbrev state : tie.Start → State
 state s = stateOf (s .args .n) (s .args .m) (s .args .bounds .now) (s .args .coefs .now) (s .args .rhs .now) []
 
 -- without a table
-fault-is : (c : tie.After-model-fault) → c .model-fault .result ≡ modelFaultOf (kindOf (c .before .args .kind)) (state (c .before))
+fault-is : (c : tie.After-model-fault) → c .model-fault .result ≡ modelFaultOf (kindOf (c .before .args .call .kind)) (state (c .before))
 unfolding stateOf
 fault-is c =
     let a = c .before .args in
     c .model-fault .ensures
-    ∙ sym (ap (λ (t : LentTable). modelFault (modelOf (a .n) (a .m) (a .bounds .now) (a .coefs .now) (a .rhs .now)) t true) (no-table (kindOf (a .kind)) (state (c .before)) (c .before .pre)))
+    ∙ sym (ap (λ (t : LentTable). modelFault (modelOf (a .n) (a .m) (a .bounds .now) (a .coefs .now) (a .rhs .now)) t true) (no-table (kindOf (a .call .kind)) (state (c .before)) (c .before .pre)))
 
 returns : tie.Need-returns
 returns c =
     let s = c .before .before in
-    model-refuses (state s) (s .args .kind) (s .args .row) (s .args .variable) (s .args .budget) (fault-is (c .before)) (c .if1 .taken)
+    model-refuses (state s) (s .args .call .kind) (s .args .call .row) (s .args .call .variable) (s .args .call .budget) (fault-is (c .before)) (c .if1 .taken)
 
 valid : (c : tie.Else1)
     → let a = c .before .before .args in ValidModel (modelOf (a .n) (a .m) (a .bounds .now) (a .coefs .now) (a .rhs .now))
@@ -48,7 +48,7 @@ unfolding recordChecks stateOf callOf
 returns-2 c =
     let e = c .before in
     let s = e .before .before in
-    own-fault (state s) (s .args .kind) (s .args .row) (s .args .variable) (s .args .budget) (fault-is (e .before)) (e .if1 .left)
+    own-fault (state s) (s .args .call .kind) (s .args .call .row) (s .args .call .variable) (s .args .call .budget) (fault-is (e .before)) (e .if1 .left)
     (c .record-fault .ensures)
 
 pub call-fault-spec : {M : Type 1} → statement M
