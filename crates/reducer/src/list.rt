@@ -70,11 +70,15 @@ pub fn run(
     let records = calls.len() / 4;
     let mut i = 0;
     while i < records {
+        let kind = calls[4 * i];
+        let row = calls[4 * i + 1];
+        let variable = calls[4 * i + 2];
+        let budget = calls[4 * i + 3];
         let call = Call {
-            kind: calls[4 * i],
-            row: calls[4 * i + 1],
-            variable: calls[4 * i + 2],
-            budget: calls[4 * i + 3],
+            kind,
+            row,
+            variable,
+            budget,
         };
         let class = run_record(n, m, bounds, coefs, rhs, table, call);
         counts = count(counts, class);
