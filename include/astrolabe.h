@@ -58,6 +58,14 @@ extern "C" {
 #endif
 
 /* ---------------------------------------------------------------------------------------------
+ * Version: of this header and of the library that goes with it. CHANGES.md says what changed.
+ */
+
+#define ASTROLABE_VERSION_MAJOR 0
+#define ASTROLABE_VERSION_MINOR 1
+#define ASTROLABE_VERSION_PATCH 0
+
+/* ---------------------------------------------------------------------------------------------
  * Limits
  */
 

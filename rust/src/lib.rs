@@ -44,6 +44,8 @@ pub use answer::{Counts, Outcome, Probe, Propagation, Rounds, Side};
 pub use model::{Call, Model, book_size};
 pub use refusal::Refusal;
 
+/// The version of this wrapper, which is that of the C header and of the library: `"0.1.0"`.
+pub const VERSION: &str = env!("CARGO_PKG_VERSION");
 /// The most variables that a model has.
 pub const MAX_VARIABLES: usize = 128;
 /// The most rows that a model has.

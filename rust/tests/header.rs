@@ -1,4 +1,5 @@
-//! `include/astrolabe.h` and `src/ffi.rs` declare the same functions: nothing else compares the two.
+//! `include/astrolabe.h` and `src/ffi.rs` declare the same functions, and the header has the wrapper's version: nothing else compares
+//! the two.
 
 const HEADER: &str = include_str!("../../include/astrolabe.h");
 const FFI: &str = include_str!("../src/ffi.rs");
@@ -65,4 +66,16 @@ fn every_pointer_is_followed_by_its_count() {
             assert_eq!(pair[1], format!("{name}_len: usize"), "{function}");
         }
     }
+}
+
+/// The number that the header defines as `ASTROLABE_VERSION_` and the part's name.
+fn version_part(part: &str) -> &'static str {
+    let define = format!("#define ASTROLABE_VERSION_{part} ");
+    HEADER.lines().find_map(|line| line.strip_prefix(&define)).expect("the header has a version")
+}
+
+#[test]
+fn the_header_has_the_version_of_the_wrapper() {
+    let parts = ["MAJOR", "MINOR", "PATCH"].map(version_part);
+    assert_eq!(parts.join("."), astrolabe::VERSION);
 }
