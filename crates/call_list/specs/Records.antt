@@ -5,9 +5,8 @@ use Rattle.semantics.specs.CallList.{ListAnswer, ListRun, ran, refusedList}
 use Rattle.model.specs.Valid.{ValidState}
 use Rattle.semantics.specs.Run.{Counts, classOf, countCall, step}
 use Rattle.model.specs.State.{State}
-use Rattle.semantics.specs.Call.{callOf}
-use Rattle.semantics.specs.Call as semantics
-use Rattle.call_list.specs.declared.Call.{Call}
+use Rattle.step.specs.Calls.{callOn}
+use Rattle.step.specs.declared.call.Call.{Call}
 
 abbrev pub noCall : Call
 noCall = record { kind = 0; row = 0; variable = 0; budget = 0 }
@@ -16,10 +15,6 @@ noCall = record { kind = 0; row = 0; variable = 0; budget = 0 }
 unfoldable pub numbersOf : List Call → List ℕ
 numbersOf [] = []
 numbersOf (c ∷ cs) = c .kind ∷ c .row ∷ c .variable ∷ c .budget ∷ numbersOf cs
-
--- a record as a call on s
-unfoldable pub callOn : State → Call → semantics.Call
-callOn s c = callOf s (c .kind) (c .row) (c .variable) (c .budget)
 
 unfoldable pub nextOf : ListAnswer → State → Call → ListRun
 nextOf (refusedList number) s c = record { answer = refusedList number; state = s }

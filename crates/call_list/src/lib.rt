@@ -2,6 +2,7 @@
 // No function over a slice of structs is covered, so reading a record and the loop over them are proved by hand; all
 // else is in covered functions.
 use reducer::list::RunAnswer;
+use step::call::Call;
 use step::count;
 use step::run_record;
 ghost use mathlib.Core.List.{[]};
@@ -15,15 +16,7 @@ ghost use Rattle.semantics.specs.TwoRuns.{EveryModelHandedIn};
 ghost use Rattle.reducer.specs.CallLists.{listRun};
 ghost use Rattle.call_list.specs.Records.{Runs, noCall, numbersOf, runNext};
 
-// kind, 1 propagate a row, 2 propagate, 3 probe, 4 tighten a coefficient, 5 remove a redundant row; row; variable;
-// budget.
-pub struct Call {
-    pub kind: u32,
-    pub row: u32,
-    pub variable: u32,
-    pub budget: u32,
-}
-
+// Record i.
 fn record_at(calls: &[Call], i: usize) -> Call
     requires { ⌜ i < length (now calls) ⌝ }
     ensures { λ r. ⌜ r ≡ getD (now (calls .entry)) i noCall ⌝ }
@@ -70,18 +63,7 @@ fn run_next<'a>(
     let RunAnswer::Ran(counts) = answer else {
         return answer;
     };
-    let class = run_record(
-        n,
-        m,
-        bounds,
-        coefs,
-        rhs,
-        table,
-        call.kind,
-        call.row,
-        call.variable,
-        call.budget,
-    );
+    let class = run_record(n, m, bounds, coefs, rhs, table, call);
     RunAnswer::Ran(count(counts, class))
 }
 

@@ -1,21 +1,23 @@
 // The rounds of `reduce`: propagate, remove redundant rows, tighten coefficients and probe, again until a round
 // changes nothing. The model and the table are checked once; each call leaves them valid.
+use model::MAX_ROWS;
+use model::MAX_VARIABLES;
 use probing::is_free;
-use row::activity::maximum_activity;
 use row::tightening::may_tighten;
+use row_view::changes::maximum_activity_at;
 use step::CallClass;
+use step::call::Call;
+use step::call::PROPAGATE;
+use step::call::REMOVE_ROW;
+use step::call::TIGHTEN_COEFFICIENT;
 use step::run_probe_record;
 use step::run_record;
 ghost use mathlib.Core.Path.{_≡_};
 ghost use mathlib.Core.Bool.{_&&_};
-ghost use Prim.Native.Nat.{_*_, _+_, _<_, _≤_};
-ghost use lib.ListN.{length};
+ghost use Prim.Native.Nat.{_*_, _+_, _<_};
 ghost use Rattle.model.specs.Box.{at, isFree};
-ghost use Rattle.model.specs.Rows.{rowOf};
 ghost use Rattle.probing.specs.Marked.{Marked};
-ghost use Rattle.row.specs.Activity.{maxActivity};
 ghost use Rattle.row.specs.Tightening.{mayTighten};
-ghost use Rattle.row.specs.ValidRow.{ValidCoefs};
 ghost use Rattle.model.specs.Valid.{ValidState};
 ghost use Rattle.semantics.specs.Run.{run as ran};
 ghost use Rattle.step.specs.Classes.{classIs};
@@ -25,6 +27,7 @@ ghost use Rattle.rounds.specs.TightenedAt.{TightenedAt};
 ghost use Rattle.rounds.specs.Rounds.{SamePoints, anyChange, drops, isChange, probes, round as roundOf};
 ghost use Rattle.rounds.specs.Rounds.{runRounds, sharpenRow, sharpens};
 
+// The passes of a round's propagation, and of each side of its probes.
 const PASSES: u32 = 1_000;
 
 // How the rounds ended, with the number of rounds made: refused N; at None; after a round that changed nothing; at
@@ -70,23 +73,18 @@ fn remove_rows(
     let mut changed = false;
     let mut r: u32 = 0;
     while (r as usize) < m {
-        if is_changed(run_record(n, m, bounds, coefs, rhs, table, 5, r, 0, 0)) {
+        let call = Call {
+            kind: REMOVE_ROW,
+            row: r,
+            variable: 0,
+            budget: 0,
+        };
+        if is_changed(run_record(n, m, bounds, coefs, rhs, table, call)) {
             changed = true;
         }
         r += 1;
     }
     changed
-}
-
-// Lmax of row `row`.
-fn row_maximum(n: usize, coefs: &[i32], bounds: &[i32], row: usize) -> i64
-    requires { ⌜ row * n + n ≤ length (now coefs) ⌝ }
-    requires { ⌜ ValidCoefs n (rowOf n (now coefs) row) (now bounds) ⌝ }
-    ensures { λ r. ⌜ r ≡ maxActivity n (rowOf n (now (coefs .entry)) row) (now (bounds .entry)) ⌝ }
-{
-    let start = row * n;
-    let end = start + n;
-    maximum_activity(&coefs[start..end], bounds)
 }
 
 // Whether variable k is free and its coefficient in the row, of which `most` is Lmax, passes the rule's test.
@@ -100,7 +98,10 @@ fn may_tighten_at(
     most: i64,
 ) -> bool
     requires { ⌜ TightenedAt n (now bounds) (now coefs) (now rhs) row k most ⌝ }
-    ensures { λ r. ⌜ r ≡ (isFree (now (bounds .entry)) k && mayTighten (at (now (coefs .entry)) (row * n + k)) most (at (now (rhs .entry)) row)) ⌝ }
+    ensures { λ r.
+        let a = at (now (coefs .entry)) (row * n + k) in
+        let b = at (now (rhs .entry)) row in
+        ⌜ r ≡ (isFree (now (bounds .entry)) k && mayTighten a most b) ⌝ }
 {
     if !is_free(bounds, k) {
         return false;
@@ -130,15 +131,21 @@ fn tighten_row(
         let s = stateOf n m (now (bounds .entry)) (now (coefs .entry)) (now (rhs .entry)) (now (table .entry)) in
         ⌜ r ≡ anyChange s (sharpenRow row s) ⌝ }
 {
-    let mut most = row_maximum(n, coefs, bounds, row as usize);
+    let mut most = maximum_activity_at(n, coefs, row as usize, bounds);
     let mut changed = false;
     let mut k: u32 = 0;
     while (k as usize) < n {
         if may_tighten_at(n, bounds, coefs, rhs, row as usize, k as usize, most) {
-            if is_changed(run_record(n, m, bounds, coefs, rhs, table, 4, row, k, 0)) {
+            let call = Call {
+                kind: TIGHTEN_COEFFICIENT,
+                row,
+                variable: k,
+                budget: 0,
+            };
+            if is_changed(run_record(n, m, bounds, coefs, rhs, table, call)) {
                 changed = true;
             }
-            most = row_maximum(n, coefs, bounds, row as usize);
+            most = maximum_activity_at(n, coefs, row as usize, bounds);
         }
         k += 1;
     }
@@ -241,9 +248,9 @@ fn probe_variables(
         let s = stateOf n m (now (bounds .entry)) (now (coefs .entry)) (now (rhs .entry)) (now (table .entry)) in
         ⌜ r ≡ anyChange s (probes s) ⌝ }
 {
-    let mut across = [0u8; 15360];
-    let mut signs = [0u8; 15360];
-    let mut marks = [0u8; 120];
+    let mut across = [0u8; MAX_ROWS * MAX_VARIABLES];
+    let mut signs = [0u8; MAX_ROWS * MAX_VARIABLES];
+    let mut marks = [0u8; MAX_ROWS];
     probe_variables_marked(
         n,
         m,
@@ -275,7 +282,13 @@ fn round(
         let s = stateOf n m (now (bounds .entry)) (now (coefs .entry)) (now (rhs .entry)) (now (table .entry)) in
         ⌜ r ≡ anyChange s (roundOf s) ⌝ }
 {
-    let mut changed = is_changed(run_record(n, m, bounds, coefs, rhs, table, 2, 0, 0, PASSES));
+    let call = Call {
+        kind: PROPAGATE,
+        row: 0,
+        variable: 0,
+        budget: PASSES,
+    };
+    let mut changed = is_changed(run_record(n, m, bounds, coefs, rhs, table, call));
     if remove_rows(n, m, bounds, coefs, rhs, table) {
         changed = true;
     }

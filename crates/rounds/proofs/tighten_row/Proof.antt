@@ -28,15 +28,15 @@ Inv-loop n m bounds₀ coefs₀ rhs₀ table₀ row most₀ changed₀ k₀ boun
 abbrev μ-loop : tie.MeasureT-loop
 μ-loop n m bounds₀ coefs₀ rhs₀ table₀ row most₀ changed₀ k₀ bounds coefs rhs table most changed k = n - k
 
-row-maximum-requires : tie.Need-row-maximum-requires Inv-loop μ-loop
+maximum-activity-at-requires : tie.Need-maximum-activity-at-requires Inv-loop μ-loop
 unfolding stateOf
-row-maximum-requires c κs = let s = c .before .before .before in row-ready (s .pre .1) (s .pre .0)
+maximum-activity-at-requires c κs = let s = c .before .before .before in row-ready (s .pre .1) (s .pre .0)
 
 loop-holds : tie.Need-loop-holds Inv-loop μ-loop
 unfolding stateOf
 loop-holds c = let s = c .before .before .before .before in (
   no-turn (s .args .n) (sharpenCall (s .args .row)) (s .pre .1),
-  toZ-ofZ {w = w64} (record { sfits = c .row-maximum .ok }) ∙ c .row-maximum .ensures,
+  toZ-ofZ {w = w64} (record { sfits = c .maximum-activity-at .ok }) ∙ c .maximum-activity-at .ensures,
 )
 
 cast-loop : tie.Need-cast-loop Inv-loop μ-loop
@@ -58,9 +58,9 @@ run-record-requires c κs = turns-valid (c .before .before .before .before .befo
 is-changed-requires : tie.Need-is-changed-requires Inv-loop μ-loop
 is-changed-requires c κs = tt
 
-row-maximum-requires-2 : tie.Need-row-maximum-requires-2 Inv-loop μ-loop
+maximum-activity-at-requires-2 : tie.Need-maximum-activity-at-requires-2 Inv-loop μ-loop
 unfolding stateOf
-row-maximum-requires-2 c κs =
+maximum-activity-at-requires-2 c κs =
     let h = c .before .before .before .before .before .before .before .before .before .before .before .before .before .before .before .before .before .before .before .before in
     row-ready (leads-valid (one-call _ (c .before .before .before .before .before .before .before .before .before .run-record .ensures) refl) (turns-valid (h .loop .inv .0))) (h .before .before .before .before .before .pre .0)
 
@@ -127,14 +127,14 @@ tighten-row-spec =
     (tie.spec
     Inv-loop
     μ-loop
-    row-maximum-requires
+    maximum-activity-at-requires
     loop-holds
     cast-loop
     cast-may-tighten-at
     may-tighten-at-requires
     run-record-requires
     is-changed-requires
-    row-maximum-requires-2
+    maximum-activity-at-requires-2
     add-k
     loop-less
     loop-again
