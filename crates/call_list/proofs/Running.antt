@@ -9,8 +9,9 @@ use Rattle.semantics.specs.Run.{run, tally}
 use Rattle.model.specs.State.{State}
 use Rattle.semantics.specs.Call.{callOf}
 use Rattle.semantics.proofs.CallLists.{Along, along-end, along-more, along-start, list-accepted, list-ind, list-refused}
-use Rattle.call_list.specs.Records.{Runs, RunsAt, callOn, nextOf, noCall, numbersOf, runNext}
-use Rattle.call_list.specs.declared.Call.{Call}
+use Rattle.call_list.specs.Records.{Runs, RunsAt, nextOf, noCall, numbersOf, runNext}
+use Rattle.step.specs.Calls.{callOn}
+use Rattle.step.specs.declared.call.Call.{Call}
 
 -- ---- the numbers of the records
 
@@ -39,7 +40,7 @@ numbers-at (c ∷ cs) (suc i) =
     record { kind = rw k (n .kind); row = rw r (n .row); variable = rw v (n .variable); budget = rw b (n .budget) }
 
 record-is : (s : State) (ys : List Call) (i : ℕ) → recordAt s (numbersOf ys) i ≡ callOn s (getD ys i noCall)
-unfolding recordAt callOn callOf
+unfolding recordAt callOf
 record-is s ys i = let n = numbers-at ys i in rw (n .kind, n .row, n .variable, n .budget)
 
 -- ---- the run

@@ -51,10 +51,26 @@ pub extern "C" fn astrolabe_book_read(
     rhs: &mut [i32],
     answer: &mut [u64],
 ) -> u32
-    ensures answered { λ r. ⌜ bookExported r (now (answer .exit)) ≡ readExport (now (answer .entry)) (now (book .entry)) (now (bounds .entry)) (now (coefs .entry)) (now (rhs .entry)) ⌝ }
-    ensures bounds_read { λ r. ⌜ now (bounds .exit) ≡ lentTo (now (answer .entry)) (now (bounds .entry)) (boundsRead (now (book .entry)) (now (bounds .entry)) (now (coefs .entry)) (now (rhs .entry))) ⌝ }
-    ensures coefs_read { λ r. ⌜ now (coefs .exit) ≡ lentTo (now (answer .entry)) (now (coefs .entry)) (coefsRead (now (book .entry)) (now (bounds .entry)) (now (coefs .entry)) (now (rhs .entry))) ⌝ }
-    ensures rhs_read { λ r. ⌜ now (rhs .exit) ≡ lentTo (now (answer .entry)) (now (rhs .entry)) (rhsRead (now (book .entry)) (now (bounds .entry)) (now (coefs .entry)) (now (rhs .entry))) ⌝ }
+    ensures answered { λ r.
+        let B = now (bounds .entry) in
+        let C = now (coefs .entry) in
+        let R = now (rhs .entry) in
+        ⌜ bookExported r (now (answer .exit)) ≡ readExport (now (answer .entry)) (now (book .entry)) B C R ⌝ }
+    ensures bounds_read { λ r.
+        let B = now (bounds .entry) in
+        let C = now (coefs .entry) in
+        let R = now (rhs .entry) in
+        ⌜ now (bounds .exit) ≡ lentTo (now (answer .entry)) B (boundsRead (now (book .entry)) B C R) ⌝ }
+    ensures coefs_read { λ r.
+        let B = now (bounds .entry) in
+        let C = now (coefs .entry) in
+        let R = now (rhs .entry) in
+        ⌜ now (coefs .exit) ≡ lentTo (now (answer .entry)) C (coefsRead (now (book .entry)) B C R) ⌝ }
+    ensures rhs_read { λ r.
+        let B = now (bounds .entry) in
+        let C = now (coefs .entry) in
+        let R = now (rhs .entry) in
+        ⌜ now (rhs .exit) ≡ lentTo (now (answer .entry)) R (rhsRead (now (book .entry)) B C R) ⌝ }
 {
     if answer.len() != ANSWER {
         return read_fault(book);

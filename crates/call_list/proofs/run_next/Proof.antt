@@ -9,7 +9,7 @@ use Rattle.step.specs.declared.Counts.{Counts}
 use Rattle.reducer.specs.CallLists.{listAnswer, listRun}
 use Rattle.reducer.specs.declared.list.RunAnswer.{RunAnswer}
 use Rattle.reducer.specs.declared.list.RunAnswer.the-variants.{Ran}
-use Rattle.call_list.specs.Records.{Runs, RunsAt, callOn, nextOf, runNext}
+use Rattle.call_list.specs.Records.{Runs, RunsAt, nextOf, runNext}
 use Rattle.call_list.proofs.run_next.Statement.{statement}
 use Rattle.call_list.proofs.run_next.Tie as tie
 
@@ -49,7 +49,7 @@ same-length-4 : tie.Need-same-length-4
 same-length-4 c = search needs
 
 returns-2 : tie.Need-returns-2
-unfolding listRun listAnswer runNext nextOf callOn
+unfolding listRun listAnswer runNext nextOf
 returns-2 c =
     let r = c .before .before .before .before .before .before in
     let h = r .before .before .before .before .before .before in
