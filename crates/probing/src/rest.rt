@@ -5,7 +5,7 @@ use crate::sides::lesser;
 use crate::sides::try_side;
 use propagation::MAX_BUDGET;
 use propagation::Propagation;
-use propagation::clean::row_moves;
+use row_view::row_moves_at;
 ghost use mathlib.Core.Bool.{_||_, not};
 ghost use mathlib.Core.Path.{_≡_};
 ghost use Rattle.integer.specs.Index.{all};
@@ -32,7 +32,7 @@ fn is_fixpoint(n: usize, m: usize, bounds: &[i32], coefs: &[i32], rhs: &[i32]) -
 {
     let mut r = 0;
     while r < m {
-        if row_moves(n, coefs, rhs, r, bounds) {
+        if row_moves_at(n, coefs, rhs, r, bounds) {
             return false;
         }
         r += 1;
