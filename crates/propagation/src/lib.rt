@@ -5,9 +5,9 @@ pub mod clean;
 pub mod index;
 pub mod marks;
 
-use crate::marks::copy_box;
 use crate::marks::next_row;
 use crate::marks::propagate_row_marked;
+use model::boxes::copy_box;
 use row::propagation::RowPropagation;
 ghost use mathlib.Core.Path.{_≡_};
 ghost use Rattle.model.specs.Valid.{ValidModel};

@@ -4,6 +4,7 @@
 // answer, Unchanged, is exact. A row that read a moved bound is dirty, 2; 0 is a row that was not visited yet.
 use crate::index::know_signs;
 use crate::index::know_steps;
+pub use model::boxes::copy_box;
 use row::propagation::RowPropagation;
 use row_view::propagate_row_at;
 use row_view::propagate_row_at_by;
@@ -16,18 +17,6 @@ ghost use Rattle.row.specs.Answers.{propagationOutcome};
 ghost use Rattle.row.specs.Propagation.{propagateRow};
 ghost use Rattle.propagation.specs.Index.{ColumnSigns, GoodStep, signOf};
 ghost use Rattle.propagation.specs.Marks.{Remarks, Unread, Visitable, Watched};
-
-// Copies a box over another of the same length.
-pub fn copy_box(from: &[i32], to: &mut [i32])
-    requires { ⌜ length (now from) ≡ length (now to) ⌝ }
-    ensures { λ _. ⌜ now (to .exit) ≡ now (from .entry) ⌝ }
-{
-    let mut i = 0;
-    while i < from.len() {
-        to[i] = from[i];
-        i += 1;
-    }
-}
 
 // Copies marks over others of the same length.
 pub fn copy_marks(from: &[u8], to: &mut [u8])
