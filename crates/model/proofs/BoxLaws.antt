@@ -58,6 +58,12 @@ unfolding sameList
 sameList-refl [] = tt
 sameList-refl (x ∷ xs) = and-i (eqZ x x) (sameList xs xs) (eq→eqZ x x refl) (sameList-refl xs)
 
+pub same-numbers : (xs ys : List ℤ) → length xs ≡ length ys → T (sameList xs ys) ↔ ((i : ℕ) → i < length xs → at xs i ≡ at ys i)
+same-numbers xs ys e = (
+  (λ t i _. ap (λ (z : List ℤ). at z i) (sameList→eq xs ys t)),
+  (λ h. rw (ext-getD (pos 0) xs ys e h) (sameList-refl ys)),
+)
+
 -- ---- boxes
 
 two-suc : (j : ℕ) → 2 * suc j ≡ suc (suc (2 * j))

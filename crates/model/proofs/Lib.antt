@@ -1,3 +1,4 @@
+pub mod BitTests
 pub mod BoxLaws
 pub mod BoxLoops
 pub mod CheckLaws

@@ -8,7 +8,7 @@ use mathlib.Core.Bool.{Bool, _&&_, false, true}
 use mathlib.Core.List.{List, [], _∷_}
 use mathlib.Core.Path.{_≡_}
 use Rattle.integer.specs.Index.{sum}
-use Rattle.integer.specs.Order.{eqZ}
+use Rattle.integer.specs.Order.{eqZ, maxZ, minZ}
 
 -- number i of a list
 abbrev pub at : List ℤ → ℕ → ℤ
@@ -47,6 +47,10 @@ isEmpty n B = sameList B (emptyBox n)
 -- A free binary variable (01: "A variable is free 0-1 when its bounds are now 0 and 1").
 unfoldable pub isFree : List ℤ → ℕ → Bool
 isFree B k = eqZ (lower B k) (pos 0) && eqZ (upper B k) (pos 1)
+
+-- "the smallest [box] that contains both sides"
+unfoldable pub hull : ℕ → List ℤ → List ℤ → List ℤ
+hull n P Q = boxOf n (λ j. minZ (lower P j) (lower Q j)) (λ j. maxZ (upper P j) (upper Q j))
 
 -- the total width of a box, the sum of u − l
 unfoldable pub width : ℕ → List ℤ → ℤ

@@ -2,15 +2,17 @@
 // bounds: l and u of each variable in turn, 2n; coefs: row after row, m · n; rhs: m; table: 4n² bytes.
 // The checks write nothing and require nothing: each answers for every n, m and buffer length. `in_range`, `is_ordered` and `is_bits`
 // go to the buffer's end and keep a flag: a loop without a branch for each number is compiled to take 4 to 16 numbers at a time.
+pub mod boxes;
+
+pub use crate::boxes::is_empty;
+pub use crate::boxes::make_empty;
 ghost use mathlib.Core.Path.{_≡_};
-ghost use Prim.Native.Nat.{ℕ, _*_, _<_, _≤_};
+ghost use Prim.Native.Nat.{_*_};
 ghost use lib.Dec.{eqb};
-ghost use lib.ListN.{length};
-ghost use Rattle.model.specs.Box.{emptyBox, isEmpty};
+ghost use Rattle.model.specs.Box.{isEmpty};
 ghost use Rattle.model.specs.Checks.{first, inRange, ordered, bits, none, table as lent, sizeChecks, lengthChecks, tableLengthChecks, numberChecks, modelFault};
 ghost use Rattle.model.specs.Model.{modelOf};
 ghost use Rattle.model.specs.Rows.{rowsOf};
-ghost use Rattle.model.specs.Valid.{ValidBox};
 
 pub const MAX_VARIABLES: usize = 128;
 
@@ -135,27 +137,6 @@ pub fn is_empty_box(n: usize, bounds: &[i32]) -> bool
         j += 1;
     }
     true
-}
-
-// Whether a box that passed the checks is empty. Its first variable tells: only the empty box has a lower bound above its upper.
-pub fn is_empty(bounds: &[i32]) -> bool
-    requires { ⌜ 2 ≤ length (now bounds) ⌝ }
-    ensures { λ r. ⌜ ((n : ℕ) → 0 < n → ValidBox n (now (bounds .entry)) → r ≡ isEmpty n (now (bounds .entry))) ⌝ }
-{
-    bounds[1] < bounds[0]
-}
-
-// Makes the box empty.
-pub fn make_empty(bounds: &mut [i32])
-    ensures { λ r. ⌜ ((n : ℕ) → length (now (bounds .entry)) ≡ 2 * n → now (bounds .exit) ≡ emptyBox n) ⌝ }
-{
-    let half = bounds.len() / 2;
-    let mut j = 0;
-    while j < half {
-        bounds[2 * j] = 1;
-        bounds[2 * j + 1] = 0;
-        j += 1;
-    }
 }
 
 // Whether every byte is 0 or 1 (check 10).

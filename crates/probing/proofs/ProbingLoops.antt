@@ -1,5 +1,4 @@
--- What the functions of a probe need of the definitions: tests of two numbers as the machine has them, a side made by two
--- stores, what a side's answer says, and what two sides come to.
+-- What the functions of a probe need of the definitions: a side made by two stores, what a side's answer says, and what two sides come to.
 use Prim.Native.Nat.{_*_, _+_, _<_, ℕ}
 use borrow.Author.Tests.{eq-eqb, ne-eqb}
 use denote.Enum.Declared.{tagOf}
@@ -40,23 +39,6 @@ use Rattle.probing.specs.declared.sides.Side.{Side}
 use Rattle.propagation.specs.declared.Propagation.{Propagation}
 use Rattle.propagation.specs.declared.Propagation.the-variants.{BudgetSpent, Converged, Infeasible}
 use Rattle.propagation.proofs.Propagation.{the-type}
-
--- ---- tests of two numbers, from their bits
-
-pub other-bits : (w : Width) (x y : ℤ) → (ofZ w x ≡ ofZ w y → ⊥) → eqZ x y ≡ false
-other-bits w x y h = eqZ-no x y (λ e. h (ap (ofZ w) e))
-
-module _ (w : Width) {x y : ℤ} (f : SFits w x) (g : SFits w y) where
-  pub le-bits : {b : Bool} → leZ (toZ w (ofZ w x)) (toZ w (ofZ w y)) ≡ b → leZ x y ≡ b
-  le-bits t = sym (ap₂ leZ (toZ-ofZ {w = w} f) (toZ-ofZ {w = w} g)) ∙ t
-
-  pub same-bits : ofZ w x ≡ ofZ w y → eqZ x y ≡ true
-  same-bits e = eqZ-yes x y (eq-read w f g e)
-
-  pub eq-bits : eqb (ofZ w x) (ofZ w y) ≡ eqZ x y
-  eq-bits = bool-ext (eqb (ofZ w x) (ofZ w y)) (eqZ x y)
-      (λ t. eq→eqZ x y (eq-read w f g (eqb→eq (ofZ w x) (ofZ w y) t)))
-      (λ t. eqb-test (ofZ w x) (ofZ w y) .1 (ap (ofZ w) (eqZ→eq x y t)))
 
 -- ---- a side, made by two stores
 

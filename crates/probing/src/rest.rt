@@ -1,11 +1,11 @@
 // The probing fixpoint (01's rest): a box that no row and no probe carried to its end would change.
-use crate::is_free;
-use crate::sides::greater;
-use crate::sides::lesser;
 use crate::sides::try_side;
+use model::boxes::greater;
+use model::boxes::is_free;
+use model::boxes::lesser;
 use propagation::MAX_BUDGET;
 use propagation::Propagation;
-use propagation::clean::row_moves;
+use row_view::row_moves_at;
 ghost use mathlib.Core.Bool.{_||_, not};
 ghost use mathlib.Core.Path.{_≡_};
 ghost use Rattle.integer.specs.Index.{all};
@@ -13,11 +13,10 @@ ghost use Rattle.probing.specs.Marked.{Marked};
 ghost use Prim.Native.Nat.{ℕ, _*_, _<_};
 ghost use lib.Dec.{T};
 ghost use lib.ListN.{length};
-ghost use Rattle.model.specs.Box.{NonEmpty, isFree, sameList};
+ghost use Rattle.model.specs.Box.{NonEmpty, hull as hulled, isFree, sameList};
 ghost use Rattle.model.specs.Valid.{ValidModel};
 ghost use Rattle.model.specs.Rows.{rowsOf};
 ghost use Rattle.model.specs.Model.{modelOf};
-ghost use Rattle.semantics.specs.Probe.{hull as hulled};
 ghost use mathlib.Core.List.{[]};
 ghost use Rattle.semantics.specs.Propagate.{isNone};
 ghost use Rattle.propagation.specs.Index.{Index};
@@ -32,7 +31,7 @@ fn is_fixpoint(n: usize, m: usize, bounds: &[i32], coefs: &[i32], rhs: &[i32]) -
 {
     let mut r = 0;
     while r < m {
-        if row_moves(n, coefs, rhs, r, bounds) {
+        if row_moves_at(n, coefs, rhs, r, bounds) {
             return false;
         }
         r += 1;

@@ -1,8 +1,9 @@
 // Probe a free binary variable (01's probe): propagate with it at 0 and at 1, and keep what both sides say.
 use crate::implications::record_implications;
+use model::boxes::copy_box;
+use model::boxes::hull;
 use propagation::Propagation;
 use propagation::clean::find_clean;
-use propagation::marks::copy_box;
 use propagation::marks::copy_marks;
 use propagation::marks::remark_all;
 use propagation::marks::remark_at;
@@ -15,13 +16,12 @@ ghost use Prim.Native.Nat.{ℕ, _*_, _<_, _≤_};
 ghost use lib.Dec.{T};
 ghost use lib.IntN.{pos};
 ghost use lib.ListN.{getD, length, take};
-ghost use Rattle.integer.specs.Order.{maxZ, minZ};
 ghost use Rattle.model.specs.Box.{isEmpty, isFree};
 ghost use Rattle.model.specs.Valid.{ValidBox, ValidModel, ValidTable};
 ghost use Rattle.model.specs.Rows.{rowsOf};
 ghost use Rattle.model.specs.Model.{modelOf};
 ghost use Rattle.semantics.specs.Propagate.{propagate as propagated};
-ghost use Rattle.semantics.specs.Probe.{fix, hull as hulled, joinSides, probe as probed, sideOf};
+ghost use Rattle.semantics.specs.Probe.{fix, joinSides, probe as probed, sideOf};
 ghost use Rattle.propagation.specs.Results.{propagationOf};
 ghost use Rattle.propagation.specs.Index.{ColumnSigns, Index};
 ghost use Rattle.propagation.specs.Marks.{Unread};
@@ -58,33 +58,6 @@ fn side_of(p: Propagation) -> Side
             passes: passes,
             spent: true,
         },
-    }
-}
-
-pub fn lesser(x: i32, y: i32) -> i32
-    ensures { λ r. ⌜ r ≡ minZ x y ⌝ }
-{
-    if x <= y { x } else { y }
-}
-
-pub fn greater(x: i32, y: i32) -> i32
-    ensures { λ r. ⌜ r ≡ maxZ x y ⌝ }
-{
-    if x <= y { y } else { x }
-}
-
-// The smallest box that contains both sides.
-fn hull(zero: &[i32], one: &[i32], bounds: &mut [i32])
-    requires { ⌜ length (now zero) ≡ length (now bounds) ⌝ }
-    requires { ⌜ length (now one) ≡ length (now bounds) ⌝ }
-    ensures { λ _. ⌜ ((n : ℕ) → length (now (bounds .entry)) ≡ 2 * n → now (bounds .exit) ≡ hulled n (now (zero .entry)) (now (one .entry))) ⌝ }
-{
-    let half = bounds.len() / 2;
-    let mut j = 0;
-    while j < half {
-        bounds[2 * j] = lesser(zero[2 * j], one[2 * j]);
-        bounds[2 * j + 1] = greater(zero[2 * j + 1], one[2 * j + 1]);
-        j += 1;
     }
 }
 

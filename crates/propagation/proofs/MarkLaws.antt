@@ -28,6 +28,7 @@ use Rattle.row.proofs.PropagationLaws.{propagate-row-feasible-ind, propagate-ro
 use Rattle.sweep.specs.Steps.{Steps}
 use Rattle.model.specs.Rows.{rowOf}
 use Rattle.model.specs.Model.{modelOf}
+use Rattle.row_view.specs.RowIn.{StepsIn}
 use Rattle.sweep.proofs.StableLaws.{SameReads, same-after, same-kept}
 use Rattle.propagation.specs.Index.{ColumnSigns, GoodStep, signOf}
 use Rattle.propagation.proofs.IndexLoops.{row-end}
@@ -151,15 +152,12 @@ clean-remarked {R = R} h p i c f = record {
 
 -- ---- a row's part of the index
 
-pub part-of : (r n : ℕ) (S : List ℕ) → take (r * n + n - r * n) (drop (r * n) S) ≡ take n (drop (r * n) S)
-part-of r n S = let d : r * n + n - r * n ≡ n = omega arith in rw d
-
 module _ {n : ℕ} {C : List ℤ} {across : List ℕ} (r : ℕ) (room : r * n + n ≤ length across) (g : (j : ℕ) → j < n → GoodStep n C (r * n) across j) where
   step-at : (j : ℕ) → j < n → getD (take n (drop (r * n) across)) j 0 ≡ getD across (r * n + j) 0
   step-at j k = getD-take n (drop (r * n) across) j 0 k ∙ getD-drop (r * n) across j 0
 
-  pub row-steps-good : Steps n (rowOf n C r) (take n (drop (r * n) across))
-  row-steps-good = record {
+  steps-good : Steps n (rowOf n C r) (take n (drop (r * n) across))
+  steps-good = record {
     len = length-take-le n (drop (r * n) across) (omega (arith, room, length-drop (r * n) across));
     forward = λ j k. rw (step-at j k) (g j k .forward);
     within = λ j k. rw (step-at j k) (g j k .within);
@@ -168,6 +166,9 @@ module _ {n : ℕ} {C : List ℤ} {across : List ℕ} (r : ℕ) (room : r * n + 
         let w = g j k .within in
         at-row n C r i (omega arith) ∙ g j k .zeros i a (omega arith);
   }
+
+  pub steps-in : StepsIn n C across r
+  steps-in = record { room = room; good = steps-good }
 
   -- where propagating the row moves nothing: at its zeros
   pub row-remarks : {m : ℕ} {signs : List ℕ} {B Q : List ℤ} {marks : List ℕ} → ColumnSigns n m C signs → length B ≡ 2 * n → length Q ≡ 2 * n → m ≤ length marks

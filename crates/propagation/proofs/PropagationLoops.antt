@@ -1,33 +1,35 @@
 -- What the two loops of `propagate` need: the part of the matrix that is a row, one row more of a pass, and one pass more.
-use Prim.Native.Nat.{_*_, _+_, _-_, _<_, _≤_, suc, ℕ}
+use Prim.Native.Nat.{_*_, _+_, _-_, _<_, _≤_, suc, zero, ℕ}
 use lib.IntN.{pos, ℤ}
-use lib.ListN.{drop, length, length-drop, take}
+use lib.ListN.{drop, getD, length, length-drop, take}
 use lib.Seq.{getD-drop, getD-take, length-take-le}
 use mathlib.Core.Bool.{Bool, _||_, false, true}
 use mathlib.Core.List.{List}
 use mathlib.Core.Logic.{_⊎_, inl, inr}
-use mathlib.Core.Path.{_∙_, _≡_, refl, sym}
+use mathlib.Core.Path.{_∙_, _≡_, ap, refl, sym}
 use mir.Facts.{toZ-ofZ}
 use mir.Syntax.{w32}
 use mir.Val.{ofZ, toZ}
+use native.Mathlib.Decide.{ℕ-discrete}
 use native.Mathlib.Nat.{mul-le-mul-right, suc-mul}
 use native.Mathlib.Numerals.{add-one}
 use native.Mathlib.Omega.{arith}
 use Rattle.integer.proofs.IndexLaws.{getD-all}
 use Rattle.integer.proofs.Parts.{zarith}
 use Rattle.integer.proofs.RangeLaws.{within-fits}
-use Rattle.model.specs.Box.{at}
+use Rattle.model.specs.Box.{NonEmpty, at}
 use Rattle.model.specs.Limits.{maxCoef, minCoef}
 use Rattle.model.specs.Rows.{rowOf, rowsOf}
 use Rattle.model.specs.Valid.{Between, ValidBox, ValidModel}
 use Rattle.model.specs.Model.{modelOf}
 use Rattle.row.specs.Answers.{propagationOutcome}
 use Rattle.row.specs.Outcome.{isChanged, isInfeasible}
-use Rattle.row.specs.Propagation.{propagateRow}
+use Rattle.row.specs.Propagation.{PropagatedRow, propagateRow}
 use Rattle.row.specs.ValidRow.{ValidRow}
 use Rattle.row.specs.declared.propagation.RowPropagation.{RowPropagation}
 use Rattle.row.specs.declared.propagation.RowPropagation.the-variants.{Infeasible, Tightened, Unchanged}
 use Rattle.row_view.specs.RowIn.{RowIn}
+use Rattle.propagation.specs.Marks.{Clean}
 use Rattle.row.proofs.RowLoops.{rhs-within}
 use Rattle.semantics.specs.Propagate.{Propagated, budgetSpent, converged, infeasible, passTo, propagateFrom}
 use Rattle.semantics.proofs.PropagateLaws.{pass-ended, pass-next, propagate-again, propagate-converged, propagate-none-now, propagate-spent}
@@ -94,6 +96,23 @@ module _ (n r : ℕ) (C R B : List ℤ) (v : RowPropagation) {moved : Bool} {P Q
   row-infeasible m h w =
       let f : passTo n (r + 1) (rowsOf C R) B ≡ record { ended = true; moved = moved; box = Q } = row-more ∙ rw (w, or-false moved) in
       pass-ended n (r + 1) (rowsOf C R) B m (omega arith) (rw f tt) ∙ f
+
+-- clean rows are passed over
+pub pass-over : {n m : ℕ} {C R : List ℤ} (B : List ℤ) {moved : Bool} {P : List ℤ} {marks : List ℕ} (r s : ℕ)
+    → passTo n r (rowsOf C R) B ≡ record { ended = false; moved = moved; box = P } → NonEmpty n P → Clean n m C R P marks
+    → r ≤ s → s ≤ m → ((i : ℕ) → r ≤ i → i < s → getD marks i 0 ≡ 1)
+    → passTo n s (rowsOf C R) B ≡ record { ended = false; moved = moved; box = P }
+unfolding propagationOutcome
+pass-over B r zero e p c h k f = let z : r ≡ 0 = omega arith in rw z at e
+pass-over {n} {m} {C} {R} B {moved} {P} {marks} r (suc s) e p c h k f =
+    go (ℕ-discrete r (suc s)) (λ d. pass-over B r s e p c d (omega arith) (λ i a b. f i a (omega arith)))
+  where
+    go : Dec (r ≡ suc s) → (r ≤ s → passTo n s (rowsOf C R) B ≡ record { ended = false; moved = moved; box = P })
+        → passTo n (suc s) (rowsOf C R) B ≡ record { ended = false; moved = moved; box = P }
+    go (yes d) w = rw d at e
+    go (no d) w =
+        let v = c .same p s (omega arith) (f s (omega arith) (omega arith)) in
+        rw (add-one s) at (row-feasible n s C R B Unchanged (w (omega arith)) (sym (ap (λ (v : PropagatedRow). v .outcome) v)) (sym (ap (λ (v : PropagatedRow). v .box) v)) (inr (refl, refl)))
 
 -- ---- one pass more, after `made` of `budget`; W is what the whole comes to
 

@@ -1,45 +1,16 @@
 // Which rows are clean in a box that is not to be moved: each row that is not known to be is tested, without a copy of the box.
 use crate::index::know_steps;
-use row::propagation::moves;
-use sweep::moves_by;
+use row_view::row_moves_at;
+use row_view::row_moves_at_by;
 ghost use mathlib.Core.Path.{_≡_};
-ghost use Prim.Native.Nat.{ℕ, _*_, _+_, _<_, _≤_};
-ghost use lib.ListN.{length};
+ghost use Prim.Native.Nat.{_<_};
 ghost use Rattle.model.specs.Box.{at};
 ghost use Rattle.model.specs.Rows.{rowOf};
 ghost use Rattle.row.specs.Propagation.{rowMoves};
 ghost use Rattle.row.specs.ValidRow.{ValidRow};
 ghost use Rattle.row_view.specs.RowIn.{RowIn};
-ghost use Rattle.propagation.specs.Index.{GoodStep, RowSteps};
+ghost use Rattle.propagation.specs.Index.{RowSteps};
 ghost use Rattle.propagation.specs.Marks.{Clean, Testable};
-
-// Whether propagating row r, read whole, would answer other than Unchanged.
-pub fn row_moves(n: usize, coefs: &[i32], rhs: &[i32], r: usize, bounds: &[i32]) -> bool
-    requires { ⌜ RowIn n (now coefs) (now rhs) r × ValidRow n (rowOf n (now coefs) r) (at (now rhs) r) (now bounds) ⌝ }
-    ensures { λ b. ⌜ b ≡ rowMoves n (rowOf n (now (coefs .entry)) r) (at (now (rhs .entry)) r) (now (bounds .entry)) ⌝ }
-{
-    let start = r * n;
-    let end = start + n;
-    moves(&coefs[start..end], rhs[r], bounds)
-}
-
-// The same by the row's steps.
-fn row_moves_by(
-    n: usize,
-    coefs: &[i32],
-    rhs: &[i32],
-    r: usize,
-    across: &[u8],
-    bounds: &[i32],
-) -> bool
-    requires { ⌜ RowIn n (now coefs) (now rhs) r × ValidRow n (rowOf n (now coefs) r) (at (now rhs) r) (now bounds) ⌝ }
-    requires { ⌜ (r * n + n ≤ length (now across)) × ((j : ℕ) → j < n → GoodStep n (now coefs) (r * n) (now across) j) ⌝ }
-    ensures { λ b. ⌜ b ≡ rowMoves n (rowOf n (now (coefs .entry)) r) (at (now (rhs .entry)) r) (now (bounds .entry)) ⌝ }
-{
-    let start = r * n;
-    let end = start + n;
-    moves_by(&coefs[start..end], &across[start..end], rhs[r], bounds)
-}
 
 // Tests row r, whose mark is not 1: read whole where it was not visited yet, else by its steps.
 fn test_row(
@@ -58,10 +29,10 @@ fn test_row(
     ensures steps { λ _. ⌜ RowSteps n m (now (coefs .entry)) (now (across .exit)) ⌝ }
 {
     if mark == 0 {
-        return row_moves(n, coefs, rhs, r, bounds);
+        return row_moves_at(n, coefs, rhs, r, bounds);
     }
     know_steps(n, m, coefs, r, across);
-    row_moves_by(n, coefs, rhs, r, across, bounds)
+    row_moves_at_by(n, coefs, rhs, r, across, bounds)
 }
 
 // Marks row r clean or dirty.

@@ -5,8 +5,9 @@ pub mod clean;
 pub mod index;
 pub mod marks;
 
-use crate::marks::copy_box;
+use crate::marks::next_row;
 use crate::marks::propagate_row_marked;
+use model::boxes::copy_box;
 use row::propagation::RowPropagation;
 ghost use mathlib.Core.Path.{_≡_};
 ghost use Rattle.model.specs.Valid.{ValidModel};
@@ -56,7 +57,7 @@ pub fn propagate_marked(
     'passes: while passes < budget {
         passes += 1;
         let mut moved = false;
-        let mut r = 0;
+        let mut r = next_row(m, marks, 0);
         'rows: while r < m {
             match propagate_row_marked(n, m, bounds, coefs, rhs, r, across, signs, seen, marks) {
                 RowPropagation::Infeasible => {
@@ -68,7 +69,7 @@ pub fn propagate_marked(
                 }
                 RowPropagation::Unchanged => {}
             }
-            r += 1;
+            r = next_row(m, marks, r + 1);
         }
         if !moved {
             return Propagation::Converged(passes);

@@ -4,6 +4,7 @@
 // answer, Unchanged, is exact. A row that read a moved bound is dirty, 2; 0 is a row that was not visited yet.
 use crate::index::know_signs;
 use crate::index::know_steps;
+pub use model::boxes::copy_box;
 use row::propagation::RowPropagation;
 use row_view::propagate_row_at;
 use row_view::propagate_row_at_by;
@@ -16,18 +17,6 @@ ghost use Rattle.row.specs.Answers.{propagationOutcome};
 ghost use Rattle.row.specs.Propagation.{propagateRow};
 ghost use Rattle.propagation.specs.Index.{ColumnSigns, GoodStep, signOf};
 ghost use Rattle.propagation.specs.Marks.{Remarks, Unread, Visitable, Watched};
-
-// Copies a box over another of the same length.
-pub fn copy_box(from: &[i32], to: &mut [i32])
-    requires { ⌜ length (now from) ≡ length (now to) ⌝ }
-    ensures { λ _. ⌜ now (to .exit) ≡ now (from .entry) ⌝ }
-{
-    let mut i = 0;
-    while i < from.len() {
-        to[i] = from[i];
-        i += 1;
-    }
-}
 
 // Copies marks over others of the same length.
 pub fn copy_marks(from: &[u8], to: &mut [u8])
@@ -208,14 +197,12 @@ fn propagate_row_by_steps(
     ensures left { λ s. ⌜ now (bounds .exit) ≡ propagateRow n (rowOf n (now (coefs .entry)) r) (at (now (rhs .entry)) r) (now (bounds .entry)) .box ⌝ }
     ensures watched { λ s. ⌜ Watched n m (now (coefs .entry)) (now (rhs .entry)) (now (bounds .exit)) (now (across .entry)) (now (signs .exit)) (now (seen .exit)) (now (marks .exit)) ⌝ }
 {
-    let start = r * n;
-    let end = start + n;
-    match propagate_row_at_by(n, coefs, rhs, r, &across[start..end], bounds) {
+    match propagate_row_at_by(n, coefs, rhs, r, across, bounds) {
         RowPropagation::Infeasible => {
             return RowPropagation::Infeasible;
         }
         RowPropagation::Tightened => {
-            remark(n, m, coefs, signs, across, start, seen, bounds, marks);
+            remark(n, m, coefs, signs, across, r * n, seen, bounds, marks);
             marks[r] = 1;
             return RowPropagation::Tightened;
         }
@@ -226,7 +213,7 @@ fn propagate_row_by_steps(
     }
 }
 
-// Propagates row r: a clean row is passed over, a row not visited yet is read whole, a dirty one by its steps.
+// Propagates row r: a row not visited yet is read whole, any other by its steps.
 pub fn propagate_row_marked(
     n: usize,
     m: usize,
@@ -245,13 +232,24 @@ pub fn propagate_row_marked(
     ensures left { λ s. ⌜ now (bounds .exit) ≡ propagateRow n (rowOf n (now (coefs .entry)) r) (at (now (rhs .entry)) r) (now (bounds .entry)) .box ⌝ }
     ensures watched { λ s. ⌜ Watched n m (now (coefs .entry)) (now (rhs .entry)) (now (bounds .exit)) (now (across .exit)) (now (signs .exit)) (now (seen .exit)) (now (marks .exit)) ⌝ }
 {
-    let mark = marks[r];
-    if mark == 1 {
-        return RowPropagation::Unchanged;
-    }
-    if mark == 0 {
+    if marks[r] == 0 {
         return propagate_row_whole(n, m, bounds, coefs, rhs, r, across, signs, seen, marks);
     }
     know_steps(n, m, coefs, r, across);
     propagate_row_by_steps(n, m, bounds, coefs, rhs, r, across, signs, seen, marks)
+}
+
+// The next row to propagate, from r on: it is not clean. m if there is none.
+pub fn next_row(m: usize, marks: &[u8], r: usize) -> usize
+    requires { ⌜ (r ≤ m) × (m ≤ length (now marks)) ⌝ }
+    ensures { λ s. ⌜ (r ≤ s) × (s ≤ m) × ((i : ℕ) → r ≤ i → i < s → getD (now (marks .entry)) i 0 ≡ 1) ⌝ }
+{
+    let mut s = r;
+    while s < m {
+        if marks[s] != 1 {
+            return s;
+        }
+        s += 1;
+    }
+    m
 }

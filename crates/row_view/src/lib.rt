@@ -4,18 +4,20 @@
 use row::activity::maximum_activity;
 use row::activity::minimum_activity;
 use row::propagation::RowPropagation;
+use row::propagation::moves;
 use row::propagation::propagate_row;
+use sweep::moves_by;
 use sweep::propagate_row_by;
 ghost use mathlib.Core.Path.{_≡_};
 ghost use Prim.Native.Nat.{_*_, _+_, _≤_};
-ghost use lib.ListN.{length};
+ghost use lib.ListN.{drop, length, take};
 ghost use Rattle.model.specs.Box.{at};
 ghost use Rattle.model.specs.Rows.{rowOf};
 ghost use Rattle.row.specs.Activity.{minActivity, maxActivity};
 ghost use Rattle.row.specs.Answers.{propagationOutcome};
-ghost use Rattle.row.specs.Propagation.{propagateRow};
+ghost use Rattle.row.specs.Propagation.{propagateRow, rowMoves};
 ghost use Rattle.row.specs.ValidRow.{ValidCoefs, ValidRow};
-ghost use Rattle.row_view.specs.RowIn.{RowIn};
+ghost use Rattle.row_view.specs.RowIn.{RowIn, StepsIn};
 ghost use Rattle.sweep.specs.Steps.{Steps};
 
 pub mod changes;
@@ -97,8 +99,8 @@ pub fn propagate_row_at<'a, 'b, 'c>(
     row_at(n, coefs, rhs, r).propagate(bounds)
 }
 
-// The same by the row's steps.
-pub fn propagate_row_at_by<'a, 'b, 'c, 'd>(
+// The same by steps that are a slice of their own.
+fn propagate_row_with<'a, 'b, 'c, 'd>(
     n: usize,
     coefs: &'a [i32],
     rhs: &'b [i32],
@@ -111,4 +113,60 @@ pub fn propagate_row_at_by<'a, 'b, 'c, 'd>(
     ensures left { λ t. ⌜ now (bounds .exit) ≡ propagateRow n (rowOf n (now (coefs .entry)) r) (at (now (rhs .entry)) r) (now (bounds .entry)) .box ⌝ }
 {
     row_at(n, coefs, rhs, r).propagate_by(steps, bounds)
+}
+
+// The steps of row r, which stand where its coefficients do.
+fn steps_at<'a>(n: usize, across: &'a [u8], r: usize) -> &'a [u8]
+    requires { ⌜ r * n + n ≤ length (now across) ⌝ }
+    ensures { λ steps. ⌜ now steps ≡ take n (drop (r * n) (now (across .entry))) ⌝ }
+{
+    let start = r * n;
+    let stop = start + n;
+    &across[start..stop]
+}
+
+// The same by the row's steps, which pass over its zeros.
+pub fn propagate_row_at_by(
+    n: usize,
+    coefs: &[i32],
+    rhs: &[i32],
+    r: usize,
+    across: &[u8],
+    bounds: &mut [i32],
+) -> RowPropagation
+    requires { ⌜ RowIn n (now coefs) (now rhs) r × ValidRow n (rowOf n (now coefs) r) (at (now rhs) r) (now bounds) ⌝ }
+    requires { ⌜ StepsIn n (now coefs) (now across) r ⌝ }
+    ensures answer { λ a. ⌜ propagationOutcome a ≡ propagateRow n (rowOf n (now (coefs .entry)) r) (at (now (rhs .entry)) r) (now (bounds .entry)) .outcome ⌝ }
+    ensures left { λ a. ⌜ now (bounds .exit) ≡ propagateRow n (rowOf n (now (coefs .entry)) r) (at (now (rhs .entry)) r) (now (bounds .entry)) .box ⌝ }
+{
+    propagate_row_with(n, coefs, rhs, r, steps_at(n, across, r), bounds)
+}
+
+// Whether propagating row r would answer other than Unchanged; nothing is written.
+pub fn row_moves_at(n: usize, coefs: &[i32], rhs: &[i32], r: usize, bounds: &[i32]) -> bool
+    requires { ⌜ RowIn n (now coefs) (now rhs) r × ValidRow n (rowOf n (now coefs) r) (at (now rhs) r) (now bounds) ⌝ }
+    ensures { λ b. ⌜ b ≡ rowMoves n (rowOf n (now (coefs .entry)) r) (at (now (rhs .entry)) r) (now (bounds .entry)) ⌝ }
+{
+    moves(coefficients(n, coefs, r), rhs[r], bounds)
+}
+
+// The same by the row's steps.
+pub fn row_moves_at_by(
+    n: usize,
+    coefs: &[i32],
+    rhs: &[i32],
+    r: usize,
+    across: &[u8],
+    bounds: &[i32],
+) -> bool
+    requires { ⌜ RowIn n (now coefs) (now rhs) r × ValidRow n (rowOf n (now coefs) r) (at (now rhs) r) (now bounds) ⌝ }
+    requires { ⌜ StepsIn n (now coefs) (now across) r ⌝ }
+    ensures { λ b. ⌜ b ≡ rowMoves n (rowOf n (now (coefs .entry)) r) (at (now (rhs .entry)) r) (now (bounds .entry)) ⌝ }
+{
+    moves_by(
+        coefficients(n, coefs, r),
+        steps_at(n, across, r),
+        rhs[r],
+        bounds,
+    )
 }

@@ -5,7 +5,8 @@ use lib.IntN.{pos, ℤ}
 use lib.ListN.{getD, set}
 use mathlib.Core.Bool.{Bool, _&&_, cond, false, not}
 use mathlib.Core.List.{List}
-use Rattle.integer.specs.Order.{eqZ, maxZ, minZ}
+use Rattle.integer.specs.Order.{eqZ}
+unfoldable pub use Rattle.model.specs.Box.{hull}
 use Rattle.model.specs.Box.{boxOf, emptyBox, isEmpty, isFree, lower, upper}
 use Rattle.model.specs.Rows.{Rows}
 use Rattle.semantics.specs.Propagate.{Propagated, isNone, isSpent, propagate}
@@ -13,10 +14,6 @@ use Rattle.semantics.specs.Propagate.{Propagated, isNone, isSpent, propa
 -- "Side v is the box with k set to v", before it is settled
 unfoldable pub fix : ℕ → List ℤ → ℕ → ℕ → List ℤ
 fix n B k v = boxOf n (λ j. cond (eqb j k) (pos v) (lower B j)) (λ j. cond (eqb j k) (pos v) (upper B j))
-
--- "the smallest [box] that contains both sides"
-unfoldable pub hull : ℕ → List ℤ → List ℤ → List ℤ
-hull n P Q = boxOf n (λ j. minZ (lower P j) (lower Q j)) (λ j. maxZ (upper P j) (upper Q j))
 
 -- ---- the implication table
 

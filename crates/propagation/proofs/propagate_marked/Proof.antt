@@ -1,6 +1,6 @@
 -- `propagation::propagate_marked` is the definition: rows 0 to r − 1 came to what `passTo` says, and the passes that are left from here
 -- give what the whole gives. The two ways out of the passes meet in `met`. Assumes nothing.
-use Prim.Native.Nat.{_-_, _≤_, ℕ}
+use Prim.Native.Nat.{_+_, _-_, _≤_, ℕ}
 use borrow.Author.Needs.{needs}
 use borrow.Author.Tests.{not-false, not-true}
 use lib.IntN.{ℤ}
@@ -20,7 +20,7 @@ use Rattle.row.specs.declared.propagation.RowPropagation.the-variants.{Infeasib
 use Rattle.semantics.specs.Propagate.{Propagated, passTo, propagate, propagateFrom}
 use Rattle.propagation.specs.Results.{propagationOf}
 use Rattle.propagation.specs.declared.Propagation.the-variants as code
-use Rattle.propagation.proofs.PropagationLoops.{budget-spent, pass-converged, pass-infeasible, pass-moved, row-feasible, row-infeasible}
+use Rattle.propagation.proofs.PropagationLoops.{budget-spent, pass-converged, pass-infeasible, pass-moved, pass-over, row-feasible, row-infeasible}
 use Rattle.row.proofs.ImpliedBoxLaws.{valid-nonEmpty}
 use Rattle.propagation.specs.Marks.{Watched}
 use Rattle.propagation.proofs.MarkLaws.{Ready, model-at, ready, ready-trans, ready-visit, tightened, unmoved}
@@ -70,11 +70,17 @@ passes-holds c =
 add-passes : tie.Need-add-passes Inv-rows μ-rows Inv-passes μ-passes
 add-passes c = omega arith
 
+next-row-requires : tie.Need-next-row-requires Inv-rows μ-rows Inv-passes μ-passes
+next-row-requires c κs =
+    let q = c .before .before in
+    (omega arith, omega (arith, q .before .before .before .before .before .before .before .pre .1 .1, q .passes .inv .2 .marksLen))
+
 rows-holds : tie.Need-rows-holds Inv-rows μ-rows Inv-passes μ-passes
 unfolding passTo
 rows-holds c =
-    let i = c .before .passes .inv in
-    (omega arith, refl, ready (i .2 .box) (i .2 .nonEmpty) (i .2 .watched), i .3)
+    let i = c .before .before .before .passes .inv in
+    let t = c .next-row .ensures in
+    (t .1, pass-over _ 0 _ refl (i .2 .nonEmpty) (i .2 .watched .clean) (t .0) (t .1) (t .2), ready (i .2 .box) (i .2 .nonEmpty) (i .2 .watched), i .3)
 
 -- the call, where it comes to a pass
 module _ (h : tie.At-passes Inv-rows μ-rows Inv-passes μ-passes) where
@@ -112,7 +118,7 @@ module _ (h : tie.At-passes Inv-rows μ-rows Inv-passes μ-passes) where
 -- and to a row of it, which lies in the matrix
 module _ (c : tie.In-rows Inv-rows μ-rows Inv-passes μ-passes) where
   abbrev here : tie.At-passes Inv-rows μ-rows Inv-passes μ-passes
-  here = c .before .before .before
+  here = c .before .before .before .before .before
 
   abbrev r : ℕ
   r = c .before .rows .r
@@ -167,41 +173,58 @@ enum-told-2 c = search needs
 enum-told-3 : tie.Need-enum-told-3 Inv-rows μ-rows Inv-passes μ-passes
 enum-told-3 c = search needs
 
-add-r : tie.Need-add-r Inv-rows μ-rows Inv-passes μ-passes
-add-r c = omega arith
+-- and the pass so far, with it
+module _ (c : tie.At-match-came Inv-rows μ-rows Inv-passes μ-passes) where
+  abbrev d : tie.After-propagate-row-marked Inv-rows μ-rows Inv-passes μ-passes
+  d = c .before .before .before .before .before .before .before .before .before
+
+  abbrev k : tie.At-rows Inv-rows μ-rows Inv-passes μ-passes
+  k = row d .before
+
+  one-row : passTo (n (h d)) (r (row d) + 1) (rowsOf (C (h d)) (R (h d))) (B (h d)) ≡ record { ended = false; moved = c .match .moved; box = Q d }
+  one-row =
+      row-feasible (n (h d)) (r (row d)) (C (h d)) (R (h d)) (B (h d)) _ (k .rows .inv .1) (answered d) (left d)
+      (⊎-elim (λ w. inl (w .1 .given .1, w .2)) (λ w. inr (w .1 .given .1, w .2)) (c .match .came))
+
+add-next-row : tie.Need-add-next-row Inv-rows μ-rows Inv-passes μ-passes
+add-next-row c = let e = d (c .before) in omega (arith, row e .rows-test .taken, s (h e) .pre .0 .fewRows)
+
+next-row-requires-2 : tie.Need-next-row-requires-2 Inv-rows μ-rows Inv-passes μ-passes
+next-row-requires-2 c κs =
+    let e = d (c .before) in
+    let q = h e in
+    let l = e .propagate-row-marked .kept .1 .1 .1 .1 .1 .1 .1 .1 .1 .0 in
+    (omega (arith, row e .rows-test .taken), omega (arith, s q .pre .1 .1, l, k (c .before) .rows .inv .2 .marksLen, q .passes .inv .2 .marksLen))
 
 rows-less : tie.Need-rows-less Inv-rows μ-rows Inv-passes μ-passes
-rows-less c = omega arith
+rows-less c = let t = c .next-row2 .ensures in omega (arith, t .0, t .1, row (d (c .before .before)) .rows-test .taken)
 
 rows-again : tie.Need-rows-again Inv-rows μ-rows Inv-passes μ-passes
 rows-again c =
-    let d = c .before .before .before .before .before .before .before .before .before in
-    let k = row d .before in
-    let f = ⊎-elim (λ w. tightened _ (answered d) (w .1 .given .1)) (λ w. unmoved _ (answered d) (w .1 .given .1) .0) (c .match .came) in (
-      omega arith,
-      row-feasible (n (h d)) (r (row d)) (C (h d)) (R (h d)) (B (h d)) _ (k .rows .inv .1) (answered d) (left d)
-          (⊎-elim (λ w. inl (w .1 .given .1, w .2)) (λ w. inr (w .1 .given .1, w .2)) (c .match .came)),
-      ready-visit (A d) (b d) (k .rows .inv .2) (left d) f (d .propagate-row-marked .ensures .1 .1)
-          (d .propagate-row-marked .kept .1 .1 .0) (d .propagate-row-marked .kept .1 .1 .1 .1 .1 .1 .0) (d .propagate-row-marked .kept .1 .1 .1 .1 .1 .1 .1 .0)
-          (d .propagate-row-marked .kept .1 .1 .1 .1 .1 .1 .1 .1 .0) (d .propagate-row-marked .kept .1 .1 .1 .1 .1 .1 .1 .1 .1 .0),
-      k .rows .inv .3,
-    )
+    let a = c .before .before in
+    let e = d a in
+    let t = c .next-row2 .ensures in
+    let f = ⊎-elim (λ w. tightened _ (answered e) (w .1 .given .1)) (λ w. unmoved _ (answered e) (w .1 .given .1) .0) (a .match .came) in
+    let l = e .propagate-row-marked .kept .1 .1 in
+    let y = ready-visit (A e) (b e) (k a .rows .inv .2) (left e) f (e .propagate-row-marked .ensures .1 .1)
+    (l .0) (l .1 .1 .1 .1 .0) (l .1 .1 .1 .1 .1 .0) (l .1 .1 .1 .1 .1 .1 .0) (l .1 .1 .1 .1 .1 .1 .1 .0) in
+    (t .1, pass-over _ _ _ (one-row a) (y .nonEmpty) (y .watched .clean) (t .0) (t .1) (t .2), y, k a .rows .inv .3)
 
 -- a pass over all rows
 passed : (c : tie.After-rows Inv-rows μ-rows Inv-passes μ-passes) →
-    let q = c .before .before .before in
+    let q = c .before .before .before .before .before in
     passTo (n q) (m q) (rowsOf (C q) (R q)) (B q) ≡ record { ended = false; moved = c .before .rows .moved; box = c .before .rows .bounds }
 passed c =
-    let q = c .before .before .before in
+    let q = c .before .before .before .before .before in
     let k : c .before .rows .r ≡ m q = omega arith in
     rw k at (c .before .rows .inv .1)
 
 -- box, copy and marks after the rows of a pass
 pass-ready : (c : tie.After-rows Inv-rows μ-rows Inv-passes μ-passes) →
-    let q = c .before .before .before in
+    let q = c .before .before .before .before .before in
     let w = c .before .rows in
     Ready (n q) (m q) (C q) (R q) (B₀ q) (s q .args .across .now) (s q .args .signs .now) (s q .args .seen .now) (s q .args .marks .now) (w .bounds) (w .across) (w .signs) (w .seen) (w .marks)
-pass-ready c = ready-trans (c .before .before .before .passes .inv .2) (c .before .rows .inv .2)
+pass-ready c = ready-trans (c .before .before .before .before .before .passes .inv .2) (c .before .rows .inv .2)
 
 same-length-2 : tie.Need-same-length-2 Inv-rows μ-rows Inv-passes μ-passes
 same-length-2 c = pass-ready (c .before) .boxLen
@@ -221,9 +244,9 @@ same-length-6 c = pass-ready (c .before) .marksLen
 returns-2 : tie.Need-returns-2 Inv-rows μ-rows Inv-passes μ-passes
 unfolding propagationOf
 returns-2 c =
-    let q = c .before .before .before .before in
+    let q = c .before .before .before .before .before .before in
     let e = rw (not-true (c .before .before .rows .moved) (c .if2 .taken)) at (passed (c .before)) in (
-      sym (whole q ∙ pass-converged (budget q) (made q) (n q) (m q) (C q) (R q) (B q) (c .before .before .before .passes-test .taken) (q .passes .inv .1) e),
+      sym (whole q ∙ pass-converged (budget q) (made q) (n q) (m q) (C q) (R q) (B q) (c .before .before .before .before .before .passes-test .taken) (q .passes .inv .1) e),
       c .before .before .rows .inv .2 .watched,
     )
 
@@ -232,10 +255,10 @@ passes-less c = omega arith
 
 passes-again : tie.Need-passes-again Inv-rows μ-rows Inv-passes μ-passes
 passes-again c =
-    let q = c .before .before .before .before in
+    let q = c .before .before .before .before .before .before in
     let e = rw (not-false (c .before .before .rows .moved) (c .if2 .left)) at (passed (c .before)) in (
       omega arith,
-      pass-moved (budget q) (made q) (n q) (m q) (C q) (R q) (B q) (c .before .before .before .passes-test .taken) (q .passes .inv .1) e,
+      pass-moved (budget q) (made q) (n q) (m q) (C q) (R q) (B q) (c .before .before .before .before .before .passes-test .taken) (q .passes .inv .1) e,
       pass-ready (c .before),
       c .before .before .rows .inv .3,
     )
@@ -282,29 +305,29 @@ met c =
       },
     ))
     (λ w.
-    let i : tie.In-rows Inv-rows μ-rows Inv-passes μ-passes = record { before = record { before = record { before = q; passes-test = w .0 }; rows = w .1 }; rows-test = w .2 } in
+    let i : tie.In-rows Inv-rows μ-rows Inv-passes μ-passes = record { before = record { before = record { before = record { before = record { before = q; passes-test = w .0 }; next-row-arg = w .1 }; next-row = w .2 }; rows = w .3 }; rows-test = w .4 } in
     let d : tie.After-propagate-row-marked Inv-rows μ-rows Inv-passes μ-passes = record {
       before = record {
         before = record {
-          before = record { before = record { before = record { before = i; propagate-row-marked-arg = w .3 }; propagate-row-marked-arg2 = w .4 }; propagate-row-marked-arg3 = w .5 };
-          propagate-row-marked-arg4 = w .6;
+          before = record { before = record { before = record { before = i; propagate-row-marked-arg = w .5 }; propagate-row-marked-arg2 = w .6 }; propagate-row-marked-arg3 = w .7 };
+          propagate-row-marked-arg4 = w .8;
         };
-        propagate-row-marked-arg5 = w .7;
+        propagate-row-marked-arg5 = w .9;
       };
-      propagate-row-marked = w .8;
+      propagate-row-marked = w .10;
     } in
-    let z = ready-trans y (w .1 .inv .2) in
-    let k = w .8 .kept in
-    let e = row-infeasible (n q) (r (row d)) (C q) (R q) (B q) _ (w .1 .inv .1) (answered d) (left d) (m q) (w .2 .taken) (w .18 .given .1) in (
-      after-is (w .25) (w .24) (w .19)
+    let z = ready-trans y (w .3 .inv .2) in
+    let k = w .10 .kept in
+    let e = row-infeasible (n q) (r (row d)) (C q) (R q) (B q) _ (w .3 .inv .1) (answered d) (left d) (m q) (w .4 .taken) (w .20 .given .1) in (
+      after-is (w .27) (w .26) (w .21)
           ∙ sym (whole q ∙ pass-infeasible (budget q) (made q) (n q) (m q) (C q) (R q) (B q) (w .0 .taken) (q .passes .inv .1) e),
       record {
-        boxLen = ap length (w .19) ∙ k .1 .1 .0 ∙ z .boxLen;
-        acrossLen = ap length (w .20) ∙ k .1 .1 .1 .1 .1 .1 .0 ∙ z .acrossLen;
-        signsLen = ap length (w .21) ∙ k .1 .1 .1 .1 .1 .1 .1 .0 ∙ z .signsLen;
-        seenLen = ap length (w .22) ∙ k .1 .1 .1 .1 .1 .1 .1 .1 .0 ∙ z .seenLen;
-        marksLen = ap length (w .23) ∙ k .1 .1 .1 .1 .1 .1 .1 .1 .1 .0 ∙ z .marksLen;
-        watched = watched-is (w .19) (w .20) (w .21) (w .22) (w .23) (w .8 .ensures .1 .1);
+        boxLen = ap length (w .21) ∙ k .1 .1 .0 ∙ z .boxLen;
+        acrossLen = ap length (w .22) ∙ k .1 .1 .1 .1 .1 .1 .0 ∙ z .acrossLen;
+        signsLen = ap length (w .23) ∙ k .1 .1 .1 .1 .1 .1 .1 .0 ∙ z .signsLen;
+        seenLen = ap length (w .24) ∙ k .1 .1 .1 .1 .1 .1 .1 .1 .0 ∙ z .seenLen;
+        marksLen = ap length (w .25) ∙ k .1 .1 .1 .1 .1 .1 .1 .1 .1 .0 ∙ z .marksLen;
+        watched = watched-is (w .21) (w .22) (w .23) (w .24) (w .25) (w .10 .ensures .1 .1);
       },
     ))
     (c .passes-test .came)
@@ -358,12 +381,14 @@ propagate-marked-spec =
     returns
     passes-holds
     add-passes
+    next-row-requires
     rows-holds
     propagate-row-marked-requires
     enum-told
     enum-told-2
     enum-told-3
-    add-r
+    add-next-row
+    next-row-requires-2
     rows-less
     rows-again
     same-length-2

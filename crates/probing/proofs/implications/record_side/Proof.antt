@@ -14,7 +14,7 @@ use Rattle.integer.specs.Order.{eqZ}
 use Rattle.model.specs.Box.{lower, upper}
 use Rattle.semantics.specs.Probe.{isFixed, recordSide}
 use Rattle.probing.specs.Results.{tableOf}
-use Rattle.probing.proofs.ProbingLoops.{other-bits, same-bits}
+use Rattle.model.proofs.BitTests.{other-bits, same-bits}
 use Rattle.probing.proofs.implications.record_side.Statement.{statement}
 use Rattle.probing.proofs.implications.record_side.Tie as tie
 

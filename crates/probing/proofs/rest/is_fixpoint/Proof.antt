@@ -29,8 +29,8 @@ loop-holds : tie.Need-loop-holds Inv-loop μ-loop
 unfolding all
 loop-holds c = (omega arith, refl)
 
-row-moves-requires : tie.Need-row-moves-requires Inv-loop μ-loop
-row-moves-requires c κs =
+row-moves-at-requires : tie.Need-row-moves-at-requires Inv-loop μ-loop
+row-moves-at-requires c κs =
     let s = c .before .before in
     let h = c .before in
     let v = s .pre .0 in
@@ -45,7 +45,7 @@ returns c =
     let h = c .before .before .before in
     let i = h .loop .r in
     sym (all-false (a .m) (stays (a .n) (a .coefs .now) (a .rhs .now) (a .bounds .now)) i (c .before .before .loop-test .taken)
-    (row-moved (a .n) (rowOf (a .n) (a .coefs .now) i) (at (a .rhs .now) i) (a .bounds .now) (s .pre .0 .some) (s .pre .1) (sym (c .before .row-moves .ensures) ∙ c .if1 .taken)))
+    (row-moved (a .n) (rowOf (a .n) (a .coefs .now) i) (at (a .rhs .now) i) (a .bounds .now) (s .pre .0 .some) (s .pre .1) (sym (c .before .row-moves-at .ensures) ∙ c .if1 .taken)))
 
 add-r : tie.Need-add-r Inv-loop μ-loop
 add-r c = omega arith
@@ -61,7 +61,7 @@ loop-again c =
     let i = h .loop .r in (
       omega arith,
       all-next (stays (a .n) (a .coefs .now) (a .rhs .now) (a .bounds .now)) i (h .loop .inv .1)
-          (row-stays (a .n) (rowOf (a .n) (a .coefs .now) i) (at (a .rhs .now) i) (a .bounds .now) (s .pre .0 .box .len) (sym (c .before .row-moves .ensures) ∙ c .if1 .left)),
+          (row-stays (a .n) (rowOf (a .n) (a .coefs .now) i) (at (a .rhs .now) i) (a .bounds .now) (s .pre .0 .box .len) (sym (c .before .row-moves-at .ensures) ∙ c .if1 .left)),
     )
 
 returns-2 : tie.Need-returns-2 Inv-loop μ-loop
@@ -78,7 +78,7 @@ is-fixpoint-spec =
     Inv-loop
     μ-loop
     loop-holds
-    row-moves-requires
+    row-moves-at-requires
     returns
     add-r
     loop-less

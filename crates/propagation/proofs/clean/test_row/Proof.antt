@@ -1,11 +1,12 @@
 -- `propagation::clean::test_row`: both tests are of the whole row. Assumes nothing.
 use borrow.Author.Needs.{needs}
 use Rattle.propagation.proofs.IndexLoops.{row-end}
+use Rattle.propagation.proofs.MarkLaws.{steps-in}
 use Rattle.propagation.proofs.clean.test_row.Statement.{statement}
 use Rattle.propagation.proofs.clean.test_row.Tie as tie
 
-row-moves-requires : tie.Need-row-moves-requires
-row-moves-requires c κs = search needs
+row-moves-at-requires : tie.Need-row-moves-at-requires
+row-moves-at-requires c κs = search needs
 
 returns : tie.Need-returns
 returns c = search needs
@@ -13,11 +14,11 @@ returns c = search needs
 know-steps-requires : tie.Need-know-steps-requires
 know-steps-requires c κs = search needs
 
-row-moves-by-requires : tie.Need-row-moves-by-requires
-row-moves-by-requires c κs =
+row-moves-at-by-requires : tie.Need-row-moves-at-by-requires
+row-moves-at-by-requires c κs =
     let s = c .before .before .before .before .before .before .before in
     let known = c .before .before .before .know-steps .ensures in
-    (s .pre .0, (row-end (known .0) (s .args .r) (s .pre .1 .1) .0, known .1))
+    (s .pre .0, steps-in (s .args .r) (row-end (known .0) (s .args .r) (s .pre .1 .1) .0) (known .1))
 
 same-length : tie.Need-same-length
 same-length c = search needs
@@ -29,9 +30,9 @@ pub test-row-spec : {M : Type 1} → statement M
 test-row-spec =
     tie.close
     (tie.spec
-    row-moves-requires
+    row-moves-at-requires
     returns
     know-steps-requires
-    row-moves-by-requires
+    row-moves-at-by-requires
     same-length
     returns-2)

@@ -13,7 +13,7 @@ use Rattle.row.specs.Propagation.{propagateRow}
 use Rattle.propagation.specs.Marks.{Visitable}
 use Rattle.propagation.proofs.IndexLoops.{row-end}
 use Rattle.propagation.proofs.PropagationLoops.{row-fits, row-in, valid-row}
-use Rattle.propagation.proofs.MarkLaws.{broken, part-of, row-steps-good, tightened, unmoved, visited-empty, visited-moved, visited-remarks, visited-unmoved}
+use Rattle.propagation.proofs.MarkLaws.{broken, steps-in, tightened, unmoved, visited-empty, visited-moved, visited-remarks, visited-unmoved}
 use Rattle.propagation.proofs.marks.propagate_row_by_steps.Statement.{statement}
 use Rattle.propagation.proofs.marks.propagate_row_by_steps.Tie as tie
 
@@ -42,32 +42,17 @@ module _ (s : tie.Start) where
   in-index : r * n + n ≤ length (s .args .across .now)
   in-index = row-end (given .watched .index .rows) r (s .pre .1 .0) .0
 
-mul-start : tie.Need-mul-start
-mul-start c = omega (arith, in-matrix (c .before .before .before))
-
-add-end : tie.Need-add-end
-add-end c = omega (arith, in-matrix (c .before .before .before))
-
-sub-propagate-row-at-by : tie.Need-sub-propagate-row-at-by
-sub-propagate-row-at-by c = omega (arith, in-index (c .before .before .before))
-
-part-propagate-row-at-by-start : tie.Need-part-propagate-row-at-by-start
-part-propagate-row-at-by-start c = search needs
-
-part-propagate-row-at-by-end : tie.Need-part-propagate-row-at-by-end
-part-propagate-row-at-by-end c = omega (arith, in-index (c .before .before .before))
-
 propagate-row-at-by-requires : tie.Need-propagate-row-at-by-requires
 propagate-row-at-by-requires c κs =
-    let s = c .before .before .before .before .before in
+    let s = c .before .before .before .before in
     let v = given s .valid in
     let h = s .pre .1 .0 in
-    rw (part-of (r s) (n s) (s .args .across .now)) (row-in v (r s) h, valid-row v (r s) h (v .box), row-steps-good (r s) (in-index s) (s .pre .1 .1))
+    ((row-in v (r s) h, valid-row v (r s) h (v .box)), steps-in (r s) (in-index s) (s .pre .1 .1))
 
 -- what the row says and leaves
 module _ (k : tie.After-propagate-row-at-by) where
   abbrev s : tie.Start
-  s = k .before .before .before .before .before .before
+  s = k .before .before .before .before .before
 
   abbrev A : List ℤ
   A = rowOf (n s) (C s) (r s)
@@ -98,6 +83,9 @@ returns c =
 
 enum-told-2 : tie.Need-enum-told-2
 enum-told-2 c = search needs
+
+mul-remark : tie.Need-mul-remark
+mul-remark c = omega (arith, in-matrix (s (c .before .before .before .before)))
 
 remark-requires : tie.Need-remark-requires
 remark-requires c κs =
@@ -160,16 +148,12 @@ pub propagate-row-by-steps-spec : {M : Type 1} → statement M
 propagate-row-by-steps-spec =
     tie.close
     (tie.spec
-    mul-start
-    add-end
-    sub-propagate-row-at-by
-    part-propagate-row-at-by-start
-    part-propagate-row-at-by-end
     propagate-row-at-by-requires
     enum-told
     same-length
     returns
     enum-told-2
+    mul-remark
     remark-requires
     slice-write-marks
     same-length-2

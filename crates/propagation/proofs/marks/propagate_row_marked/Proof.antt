@@ -1,4 +1,4 @@
--- `propagation::marks::propagate_row_marked` is propagateRow: what a clean row says is known, and any other is propagated. Assumes nothing.
+-- `propagation::marks::propagate_row_marked` is propagateRow: read whole or by its steps. Assumes nothing.
 use borrow.Author.Needs.{needs}
 use mathlib.Core.Path.{ap, sym}
 use native.Mathlib.Omega.{arith}
@@ -7,16 +7,8 @@ use Rattle.row.specs.Propagation.{PropagatedRow}
 use Rattle.propagation.proofs.marks.propagate_row_marked.Statement.{statement}
 use Rattle.propagation.proofs.marks.propagate_row_marked.Tie as tie
 
-slice-read-mark : tie.Need-slice-read-mark
-slice-read-mark c = let s = c .before .before .before .before in omega (arith, s .pre .0 .room, s .pre .1)
-
-returns : tie.Need-returns
-unfolding propagationOutcome
-returns c =
-    let s = c .before .before .before .before .before in
-    let g = s .pre .0 in
-    let e = g .watched .clean .same (g .nonEmpty) (s .args .r) (s .pre .1) (c .if1 .taken) in
-    (sym (ap (λ (v : PropagatedRow). v .outcome) e), (sym (ap (λ (v : PropagatedRow). v .box) e), g .watched))
+slice-read-if1 : tie.Need-slice-read-if1
+slice-read-if1 c = let s = c .before .before .before .before in omega (arith, s .pre .0 .room, s .pre .1)
 
 propagate-row-whole-requires : tie.Need-propagate-row-whole-requires
 propagate-row-whole-requires c κs = search needs
@@ -36,15 +28,15 @@ same-length-4 c = search needs
 same-length-5 : tie.Need-same-length-5
 same-length-5 c = search needs
 
-returns-2 : tie.Need-returns-2
-returns-2 c = c .before .before .before .before .before .before .propagate-row-whole .ensures
+returns : tie.Need-returns
+returns c = c .before .before .before .before .before .before .propagate-row-whole .ensures
 
 know-steps-requires : tie.Need-know-steps-requires
-know-steps-requires c κs = let p = c .before .before .before .before .before .before .before .pre in (p .0 .watched .index .rows, p .1)
+know-steps-requires c κs = let p = c .before .before .before .before .before .before .pre in (p .0 .watched .index .rows, p .1)
 
 propagate-row-by-steps-requires : tie.Need-propagate-row-by-steps-requires
 propagate-row-by-steps-requires c κs =
-    let p = c .before .before .before .before .before .before .before .before .before .before .before .before .before .before .before .pre in
+    let p = c .before .before .before .before .before .before .before .before .before .before .before .before .before .before .pre in
     let g = p .0 in
     let w = g .watched in
     let known = c .before .before .before .before .before .before .before .know-steps .ensures in (
@@ -72,22 +64,21 @@ same-length-9 c = search needs
 same-length-10 : tie.Need-same-length-10
 same-length-10 c = search needs
 
-returns-3 : tie.Need-returns-3
-returns-3 c = c .before .before .before .before .before .before .propagate-row-by-steps .ensures
+returns-2 : tie.Need-returns-2
+returns-2 c = c .before .before .before .before .before .before .propagate-row-by-steps .ensures
 
 pub propagate-row-marked-spec : {M : Type 1} → statement M
 propagate-row-marked-spec =
     tie.close
     (tie.spec
-    slice-read-mark
-    returns
+    slice-read-if1
     propagate-row-whole-requires
     same-length
     same-length-2
     same-length-3
     same-length-4
     same-length-5
-    returns-2
+    returns
     know-steps-requires
     propagate-row-by-steps-requires
     same-length-6
@@ -95,4 +86,4 @@ propagate-row-marked-spec =
     same-length-8
     same-length-9
     same-length-10
-    returns-3)
+    returns-2)
