@@ -14,13 +14,16 @@ ghost use Rattle.book.specs.BookChecks.{headChecks};
 ghost use Rattle.capi.specs.Exports.{bookExported, lentTo, readExport, trailerExport, wrongLength};
 ghost use Rattle.capi.specs.Replies.{bookReply, returned};
 
+// The length of a book's trailer.
+const TRAILER: usize = 16;
+
 // n and m of the 16 trailer bytes alone: {n, m}. Refused by 1, 5, 3, 4, in this order.
 #[no_mangle]
 pub extern "C" fn astrolabe_book_trailer(bytes: &[u8], answer: &mut [u64]) -> u32
     ensures { λ r. ⌜ bookExported r (now (answer .exit)) ≡ trailerExport (now (answer .entry)) (now (bytes .entry)) ⌝ }
 {
     if answer.len() != ANSWER {
-        if bytes.len() < 16 {
+        if bytes.len() < TRAILER {
             return 1;
         }
         return 5;

@@ -1,7 +1,8 @@
 // The open calls: any n and m, any buffers with any contents, any numbers. Each refuses by the number of the first
-// check that fails and then changes nothing; everything else is accepted. `defined`: the answer and every lent buffer
-// afterwards are what `perform` gives for the call made of the very n, m, numbers and buffer lengths handed over.
-// `meaning`: what the answer means for the points, and that the call ended within its budget.
+// check that fails and then changes nothing; everything else is accepted. In the contracts `s` is the state before
+// the call and `r'` the state after it. `defined`: the answer and every lent buffer afterwards are what `perform`
+// gives for the call made of the very n, m, numbers and buffer lengths handed over. `meaning`: what the answer means
+// for the points, and that the call ended within its budget.
 use crate::checks::call_fault;
 use crate::checks::probe_fault;
 use probing::sides::Probing;

@@ -1,5 +1,7 @@
 // One call of a list: its own checks, then what its kind asks for, on a model that passed its checks. Each call
 // leaves the model valid, so a list or a round of calls checks the model once.
+use model::MAX_ROWS;
+use model::MAX_VARIABLES;
 use probing::sides::Probing;
 use probing::sides::probe_marked;
 use propagation::Propagation;
@@ -139,7 +141,7 @@ fn run_probe_marked(
         ⌜ Marked n m B C R (now (across .exit)) (now (signs .exit)) (now (marks .exit)) ⌝ }
 {
     let len = bounds.len();
-    let mut before = [0i32; 256];
+    let mut before = [0i32; 2 * MAX_VARIABLES];
     copy_box(bounds, &mut before[..len]);
     match probe_marked(
         n,
@@ -190,9 +192,9 @@ fn run_probe(
         let r' = stateOf n m (now (bounds .exit)) (now (coefs .entry)) (now (rhs .entry)) (now (table .exit)) in
         ⌜ r' ≡ step s (callOf s 3 0 variable budget) ⌝ }
 {
-    let mut across = [0u8; 15360];
-    let mut signs = [0u8; 15360];
-    let mut marks = [0u8; 120];
+    let mut across = [0u8; MAX_ROWS * MAX_VARIABLES];
+    let mut signs = [0u8; MAX_ROWS * MAX_VARIABLES];
+    let mut marks = [0u8; MAX_ROWS];
     run_probe_marked(
         n,
         m,
