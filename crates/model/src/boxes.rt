@@ -6,7 +6,8 @@ ghost use Rattle.integer.specs.Order.{maxZ, minZ};
 ghost use Rattle.model.specs.Box.{emptyBox, hull as hulled, isEmpty, isFree, sameList};
 ghost use Rattle.model.specs.Valid.{ValidBox};
 
-// Whether a box that passed the checks is empty. Its first variable tells: only the empty box has a lower bound above its upper.
+// Whether a box that passed the checks is empty. Its first variable tells: only the empty box has a lower bound above
+// its upper.
 pub fn is_empty(bounds: &[i32]) -> bool
     requires { ⌜ 2 ≤ length (now bounds) ⌝ }
     ensures { λ r. ⌜ ((n : ℕ) → 0 < n → ValidBox n (now (bounds .entry)) → r ≡ isEmpty n (now (bounds .entry))) ⌝ }
@@ -81,7 +82,9 @@ pub fn greater(x: i32, y: i32) -> i32
 pub fn hull(zero: &[i32], one: &[i32], bounds: &mut [i32])
     requires { ⌜ length (now zero) ≡ length (now bounds) ⌝ }
     requires { ⌜ length (now one) ≡ length (now bounds) ⌝ }
-    ensures { λ _. ⌜ ((n : ℕ) → length (now (bounds .entry)) ≡ 2 * n → now (bounds .exit) ≡ hulled n (now (zero .entry)) (now (one .entry))) ⌝ }
+    ensures { λ _.
+        ⌜ ((n : ℕ) → length (now (bounds .entry)) ≡ 2 * n → now (bounds .exit)
+        ≡ hulled n (now (zero .entry)) (now (one .entry))) ⌝ }
 {
     let half = bounds.len() / 2;
     let mut j = 0;

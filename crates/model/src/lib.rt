@@ -1,7 +1,8 @@
-// A model in memory: n variables and m rows over flat lent buffers, and the checks that it passes before anything reads it.
-// bounds: l and u of each variable in turn, 2n; coefs: row after row, m · n; rhs: m; table: 4n² bytes.
-// The checks write nothing and require nothing: each answers for every n, m and buffer length. `in_range`, `is_ordered` and `is_bits`
-// go to the buffer's end and keep a flag: a loop without a branch for each number is compiled to take 4 to 16 numbers at a time.
+// A model in memory: n variables and m rows over flat lent buffers, and the checks that it passes before anything reads
+// it. bounds: l and u of each variable in turn, 2n; coefs: row after row, m · n; rhs: m; table: 4n² bytes. The checks
+// write nothing and require nothing: each answers for every n, m and buffer length. `in_range`, `is_ordered` and
+// `is_bits` go to the buffer's end and keep a flag: a loop without a branch for each number is compiled to take 4 to 16
+// numbers at a time.
 pub mod boxes;
 
 pub use crate::boxes::is_empty;
@@ -10,13 +11,19 @@ ghost use mathlib.Core.Path.{_≡_};
 ghost use Prim.Native.Nat.{_*_};
 ghost use lib.Dec.{eqb};
 ghost use Rattle.model.specs.Box.{isEmpty};
-ghost use Rattle.model.specs.Checks.{first, inRange, ordered, bits, none, table as lent, sizeChecks, lengthChecks, tableLengthChecks, numberChecks, modelFault};
+ghost use Rattle.model.specs.Checks.{first, inRange, ordered, bits, none, table as lent, sizeChecks};
+ghost use Rattle.model.specs.Checks.{lengthChecks, tableLengthChecks, numberChecks, modelFault};
 ghost use Rattle.model.specs.Model.{modelOf};
 ghost use Rattle.model.specs.Rows.{rowsOf};
 
 pub const MAX_VARIABLES: usize = 128;
 
 pub const MAX_ROWS: usize = 120;
+
+// The numbers of the largest box, and the coefficients of the largest matrix.
+pub const MAX_BOX: usize = 256;
+
+pub const MAX_MATRIX: usize = 15_360;
 
 pub const MIN_BOUND: i32 = -32_768;
 
@@ -57,7 +64,8 @@ pub fn size_fault(n: usize, m: usize) -> u32
 
 // Check 5 for the model's buffers: 5 where one has not the length that n and m give, else 0.
 pub fn length_fault(n: usize, m: usize, bounds: &[i32], coefs: &[i32], rhs: &[i32]) -> u32
-    ensures { λ r. ⌜ r ≡ first (lengthChecks (modelOf n m (now (bounds .entry)) (now (coefs .entry)) (now (rhs .entry)))) ⌝ }
+    ensures { λ r.
+        ⌜ r ≡ first (lengthChecks (modelOf n m (now (bounds .entry)) (now (coefs .entry)) (now (rhs .entry)))) ⌝ }
 {
     if !is_product(bounds.len(), 2, n) {
         return 5;
@@ -154,7 +162,8 @@ pub fn is_bits(table: &[u8]) -> bool
 
 // Checks 6 to 9, each over all its numbers before the next: the number of the first that fails, else 0.
 pub fn number_fault(n: usize, bounds: &[i32], coefs: &[i32], rhs: &[i32]) -> u32
-    ensures { λ r. ⌜ r ≡ first (numberChecks n (now (bounds .entry)) (rowsOf (now (coefs .entry)) (now (rhs .entry)))) ⌝ }
+    ensures { λ r.
+        ⌜ r ≡ first (numberChecks n (now (bounds .entry)) (rowsOf (now (coefs .entry)) (now (rhs .entry)))) ⌝ }
 {
     if !in_range(bounds, MIN_BOUND, MAX_BOUND) {
         return 6;
@@ -173,8 +182,8 @@ pub fn number_fault(n: usize, bounds: &[i32], coefs: &[i32], rhs: &[i32]) -> u32
     0
 }
 
-// The one chain of checks. The number by which a model in memory is refused, 0 where it is accepted: checks 3 and 5 to 9.
-// `fits` says whether every other buffer that the call is lent has its length (5, with the others).
+// The one chain of checks. The number by which a model in memory is refused, 0 where it is accepted: checks 3 and 5 to
+// 9. `fits` says whether every other buffer that the call is lent has its length (5, with the others).
 pub fn model_fault(
     n: usize,
     m: usize,
@@ -183,7 +192,8 @@ pub fn model_fault(
     rhs: &[i32],
     fits: bool,
 ) -> u32
-    ensures { λ r. ⌜ r ≡ modelFault (modelOf n m (now (bounds .entry)) (now (coefs .entry)) (now (rhs .entry))) none fits ⌝ }
+    ensures { λ r.
+        ⌜ r ≡ modelFault (modelOf n m (now (bounds .entry)) (now (coefs .entry)) (now (rhs .entry))) none fits ⌝ }
 {
     let size = size_fault(n, m);
     if size != 0 {
@@ -209,7 +219,10 @@ pub fn model_table_fault(
     table: &[u8],
     fits: bool,
 ) -> u32
-    ensures { λ r. ⌜ r ≡ modelFault (modelOf n m (now (bounds .entry)) (now (coefs .entry)) (now (rhs .entry))) (lent (now (table .entry))) fits ⌝ }
+    ensures { λ r.
+        ⌜ r
+        ≡ modelFault (modelOf n m (now (bounds .entry)) (now (coefs .entry)) (now (rhs .entry)))
+        (lent (now (table .entry))) fits ⌝ }
 {
     let all_fit = is_table_length(n, table.len()) && fits;
     let fault = model_fault(n, m, bounds, coefs, rhs, all_fit);

@@ -2,31 +2,24 @@
 use Prim.Native.Nat.{_*_, _+_, _<_, ℕ}
 use borrow.Author.Tests.{eq-eqb, ne-eqb}
 use denote.Enum.Declared.{tagOf}
-use lib.Dec.{T, eqb, eqb→eq}
+use lib.Dec.{T, eqb}
 use lib.IntN.{pos, ℤ}
 use lib.ListN.{length}
-use lib.Signed.{leZ}
 use mathlib.Core.Bool.{Bool, cond, false, true}
 use mathlib.Core.List.{List, [], _∷_}
 use mathlib.Core.Logic.{_⊎_, inl, inr, ⊎-elim}
-use mathlib.Core.Path.{_∙_, _≡_, ap, ap₂, refl, subst⁻¹, sym}
-use mir.Facts.{toZ-ofZ}
-use mir.Syntax.{Width}
-use mir.Val.{SFits, ofZ, toZ}
+use mathlib.Core.Path.{_∙_, _≡_, ap, refl, subst⁻¹, sym}
 use native.Mathlib.Decide.{ℕ-discrete}
 use native.Mathlib.Omega.{arith}
 use types.Run.{OneOf}
-use Rattle.integer.specs.Order.{eqZ}
 use Rattle.integer.proofs.Parts.{zarith}
-use Rattle.integer.proofs.Reading.{eq-read}
-use Rattle.integer.proofs.Tests.{bool-ext, eqZ→eq, eqb-test, eq→eqZ, true→T}
+use Rattle.integer.proofs.Tests.{bool-ext, true→T}
 use Rattle.model.specs.Box.{NonEmpty, emptyBox, isEmpty, isFree, lower, upper, withBounds}
 use Rattle.model.specs.Valid.{ValidBox, ValidModel}
 use Rattle.model.proofs.BoxLaws.{box-ext, empty-is, free-lower, isEmpty→eq, length-boxOf, lower-boxOf, upper-boxOf}
 use Rattle.model.proofs.BoxLoops.{length-withBounds, lower-withBounds, upper-withBounds, withBounds-other}
 use Rattle.model.specs.Rows.{rowsOf}
 use Rattle.model.specs.Model.{modelOf}
-use Rattle.row.proofs.RowLoops.{eqZ-no, eqZ-yes}
 use Rattle.semantics.specs.Probe as semantic
 use Rattle.semantics.specs.Probe.{fix, hull, joinSides, recordTo, sideOf}
 use Rattle.semantics.specs.Propagate.{isNone, propagate}

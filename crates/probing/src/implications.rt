@@ -35,7 +35,8 @@ fn record_side(n: usize, k: usize, v: usize, j: usize, side: &[i32], table: &mut
     requires { ⌜ Recordable n k j (now table) ⌝ }
     requires { ⌜ v < 2 ⌝ }
     requires { ⌜ 2 * j + 1 < length (now side) ⌝ }
-    ensures left { λ r. ⌜ now (table .exit) ≡ recordSide n k v j (now (side .entry)) (tableOf (now (table .entry)) 0) .bytes ⌝ }
+    ensures left { λ r.
+        ⌜ now (table .exit) ≡ recordSide n k v j (now (side .entry)) (tableOf (now (table .entry)) 0) .bytes ⌝ }
     ensures added { λ r. ⌜ r ≡ recordSide n k v j (now (side .entry)) (tableOf (now (table .entry)) 0) .added ⌝ }
 {
     let l = side[2 * j];
@@ -54,8 +55,8 @@ fn record_side(n: usize, k: usize, v: usize, j: usize, side: &[i32], table: &mut
     0
 }
 
-// Records what the sides `zero` and `one` of k say of each other variable that is free in `bounds`, the box before the probe;
-// answers how many bytes went from 0 to 1.
+// Records what the sides `zero` and `one` of k say of each other variable that is free in `bounds`, the box before the
+// probe; answers how many bytes went from 0 to 1.
 pub fn record_implications(
     n: usize,
     k: usize,
@@ -68,8 +69,14 @@ pub fn record_implications(
     requires { ⌜ length (now bounds) ≡ 2 * n ⌝ }
     requires { ⌜ length (now zero) ≡ 2 * n ⌝ }
     requires { ⌜ length (now one) ≡ 2 * n ⌝ }
-    ensures left { λ r. ⌜ now (table .exit) ≡ recordTo n n k (now (bounds .entry)) (now (zero .entry)) (now (one .entry)) (now (table .entry)) .bytes ⌝ }
-    ensures added { λ r. ⌜ r ≡ recordTo n n k (now (bounds .entry)) (now (zero .entry)) (now (one .entry)) (now (table .entry)) .added ⌝ }
+    ensures left { λ r.
+        ⌜ now (table .exit)
+        ≡ recordTo n n k (now (bounds .entry)) (now (zero .entry)) (now (one .entry))
+        (now (table .entry)) .bytes ⌝ }
+    ensures added { λ r.
+        ⌜ r
+        ≡ recordTo n n k (now (bounds .entry)) (now (zero .entry)) (now (one .entry))
+        (now (table .entry)) .added ⌝ }
 {
     let mut added: u32 = 0;
     let mut j = 0;

@@ -1,5 +1,8 @@
 // The probing fixpoint (01's rest): a box that no row and no probe carried to its end would change.
 use crate::sides::try_side;
+use model::MAX_BOX;
+use model::MAX_MATRIX;
+use model::MAX_ROWS;
 use model::boxes::greater;
 use model::boxes::is_free;
 use model::boxes::lesser;
@@ -43,7 +46,9 @@ fn is_fixpoint(n: usize, m: usize, bounds: &[i32], coefs: &[i32], rhs: &[i32]) -
 fn hull_is(zero: &[i32], one: &[i32], bounds: &[i32]) -> bool
     requires { ⌜ length (now zero) ≡ length (now bounds) ⌝ }
     requires { ⌜ length (now one) ≡ length (now bounds) ⌝ }
-    ensures { λ r. ⌜ ((n : ℕ) → length (now (bounds .entry)) ≡ 2 * n → r ≡ sameList (hulled n (now (zero .entry)) (now (one .entry))) (now (bounds .entry))) ⌝ }
+    ensures { λ r.
+        ⌜ ((n : ℕ) → length (now (bounds .entry)) ≡ 2 * n → r
+        ≡ sameList (hulled n (now (zero .entry)) (now (one .entry))) (now (bounds .entry))) ⌝ }
 {
     let half = bounds.len() / 2;
     let mut j = 0;
@@ -84,11 +89,12 @@ fn sides_span(
     requires { ⌜ T (isFree (now bounds) k) ⌝ }
     requires { ⌜ k < n ⌝ }
     requires { ⌜ Marked n m (now bounds) (now coefs) (now rhs) (now across) (now signs) (now marks) ⌝ }
-    ensures answer { λ r. ⌜ r ≡ sidesSpan n m (rowsOf (now (coefs .entry)) (now (rhs .entry))) (now (bounds .entry)) k ⌝ }
+    ensures answer { λ r.
+        ⌜ r ≡ sidesSpan n m (rowsOf (now (coefs .entry)) (now (rhs .entry))) (now (bounds .entry)) k ⌝ }
     ensures index { λ r. ⌜ Index n m (now (coefs .entry)) (now (across .exit)) (now (signs .exit)) ⌝ }
 {
     let len = bounds.len();
-    let mut zero = [0i32; 256];
+    let mut zero = [0i32; MAX_BOX];
     let s0 = try_side(
         n,
         m,
@@ -106,7 +112,7 @@ fn sides_span(
     if is_infeasible(s0) {
         return false;
     }
-    let mut one = [0i32; 256];
+    let mut one = [0i32; MAX_BOX];
     let s1 = try_side(
         n,
         m,
@@ -142,7 +148,10 @@ fn spans_at(
     requires { ⌜ ValidModel (modelOf n m (now bounds) (now coefs) (now rhs)) ⌝ }
     requires { ⌜ k < n ⌝ }
     requires { ⌜ Marked n m (now bounds) (now coefs) (now rhs) (now across) (now signs) (now marks) ⌝ }
-    ensures answer { λ r. ⌜ r ≡ (not (isFree (now (bounds .entry)) k) || sidesSpan n m (rowsOf (now (coefs .entry)) (now (rhs .entry))) (now (bounds .entry)) k) ⌝ }
+    ensures answer { λ r.
+        ⌜ r
+        ≡ (not (isFree (now (bounds .entry)) k) || sidesSpan n m (rowsOf (now (coefs .entry)) (now (rhs .entry)))
+        (now (bounds .entry)) k) ⌝ }
     ensures index { λ r. ⌜ Index n m (now (coefs .entry)) (now (across .exit)) (now (signs .exit)) ⌝ }
 {
     if !is_free(bounds, k) {
@@ -164,7 +173,11 @@ fn all_span(
 ) -> bool
     requires { ⌜ ValidModel (modelOf n m (now bounds) (now coefs) (now rhs)) ⌝ }
     requires { ⌜ Marked n m (now bounds) (now coefs) (now rhs) (now across) (now signs) (now marks) ⌝ }
-    ensures { λ r. ⌜ r ≡ all n (λ k. not (isFree (now (bounds .entry)) k) || sidesSpan n m (rowsOf (now (coefs .entry)) (now (rhs .entry))) (now (bounds .entry)) k) ⌝ }
+    ensures { λ r.
+        ⌜ r
+        ≡ all n
+        (λ k. not (isFree (now (bounds .entry)) k) || sidesSpan n m
+        (rowsOf (now (coefs .entry)) (now (rhs .entry))) (now (bounds .entry)) k) ⌝ }
 {
     let mut k = 0;
     while k < n {
@@ -180,18 +193,23 @@ fn all_span(
 fn every_side_spans(n: usize, m: usize, bounds: &[i32], coefs: &[i32], rhs: &[i32]) -> bool
     requires { ⌜ ValidModel (modelOf n m (now bounds) (now coefs) (now rhs)) ⌝ }
     requires { ⌜ NonEmpty n (now bounds) × T (isFixpoint n m (rowsOf (now coefs) (now rhs)) (now bounds)) ⌝ }
-    ensures { λ r. ⌜ r ≡ all n (λ k. not (isFree (now (bounds .entry)) k) || sidesSpan n m (rowsOf (now (coefs .entry)) (now (rhs .entry))) (now (bounds .entry)) k) ⌝ }
+    ensures { λ r.
+        ⌜ r
+        ≡ all n
+        (λ k. not (isFree (now (bounds .entry)) k) || sidesSpan n m
+        (rowsOf (now (coefs .entry)) (now (rhs .entry))) (now (bounds .entry)) k) ⌝ }
 {
-    let mut across = [0u8; 15360];
-    let mut signs = [0u8; 15360];
-    let marks = [1u8; 120];
+    let mut across = [0u8; MAX_MATRIX];
+    let mut signs = [0u8; MAX_MATRIX];
+    let marks = [1u8; MAX_ROWS];
     all_span(n, m, bounds, coefs, rhs, &mut across, &mut signs, &marks)
 }
 
 // Whether the box of a model that passed the checks is a probing fixpoint.
 pub fn is_probing_fixpoint(n: usize, m: usize, bounds: &[i32], coefs: &[i32], rhs: &[i32]) -> bool
     requires { ⌜ ValidModel (modelOf n m (now bounds) (now coefs) (now rhs)) ⌝ }
-    ensures { λ r. ⌜ r ≡ isProbingFixpoint n m (rowsOf (now (coefs .entry)) (now (rhs .entry))) (now (bounds .entry)) ⌝ }
+    ensures { λ r.
+        ⌜ r ≡ isProbingFixpoint n m (rowsOf (now (coefs .entry)) (now (rhs .entry))) (now (bounds .entry)) ⌝ }
 {
     if model::is_empty(bounds) {
         return true;

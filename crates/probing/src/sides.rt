@@ -1,5 +1,8 @@
 // Probe a free binary variable (01's probe): propagate with it at 0 and at 1, and keep what both sides say.
 use crate::implications::record_implications;
+use model::MAX_BOX;
+use model::MAX_MATRIX;
+use model::MAX_ROWS;
 use model::boxes::copy_box;
 use model::boxes::hull;
 use propagation::Propagation;
@@ -61,8 +64,8 @@ fn side_of(p: Propagation) -> Side
     }
 }
 
-// The box of a side, fixed already, propagated. It lies inside the box before, so rows clean there are clean here, but for those that
-// read the bound of k that moved (`same-kept`).
+// The box of a side, fixed already, propagated. It lies inside the box before, so rows clean there are clean here, but
+// for those that read the bound of k that moved (`same-kept`).
 fn propagate_side(
     n: usize,
     m: usize,
@@ -77,8 +80,11 @@ fn propagate_side(
     marks: &mut [u8],
     side: &mut [i32],
 ) -> Propagation
-    requires { ⌜ SideReady n m (now bounds) (now coefs) (now rhs) k (now across) (now signs) (now seen) (now marks) (now side) ⌝ }
-    ensures answer { λ r. ⌜ propagationOf r (now (side .exit)) ≡ propagated budget n m (rowsOf (now (coefs .entry)) (now (rhs .entry))) (now (side .entry)) ⌝ }
+    requires { ⌜ SideReady n m (now bounds) (now coefs) (now rhs) k (now across) (now signs) (now seen) (now marks)
+        (now side) ⌝ }
+    ensures answer { λ r.
+        ⌜ propagationOf r (now (side .exit))
+        ≡ propagated budget n m (rowsOf (now (coefs .entry)) (now (rhs .entry))) (now (side .entry)) ⌝ }
     ensures index { λ r. ⌜ Index n m (now (coefs .entry)) (now (across .exit)) (now (signs .exit)) ⌝ }
 {
     copy_box(bounds, seen);
@@ -86,7 +92,8 @@ fn propagate_side(
     propagate_marked(n, m, side, coefs, rhs, budget, across, signs, seen, marks)
 }
 
-// Side v of k, in the lent buffer: the box with k fixed at v, propagated with the budget, by the index and the marks of the box.
+// Side v of k, in the lent buffer: the box with k fixed at v, propagated with the budget, by the index and the marks of
+// the box.
 pub fn try_side(
     n: usize,
     m: usize,
@@ -107,15 +114,18 @@ pub fn try_side(
     requires { ⌜ (v ≡ pos 0) ⊎ (v ≡ pos 1) ⌝ }
     requires { ⌜ length (now side) ≡ length (now bounds) ⌝ }
     requires { ⌜ Marked n m (now bounds) (now coefs) (now rhs) (now across) (now signs) (now clean) ⌝ }
-    ensures answer { λ r. ⌜ ((w : ℕ) → v ≡ pos w → propagationOf r (now (side .exit)) ≡ propagated budget n m (rowsOf (now (coefs .entry)) (now (rhs .entry))) (fix n (now (bounds .entry)) k w)) ⌝ }
+    ensures answer { λ r.
+        ⌜ ((w : ℕ) → v ≡ pos w → propagationOf r (now (side .exit))
+        ≡ propagated budget n m (rowsOf (now (coefs .entry)) (now (rhs .entry)))
+        (fix n (now (bounds .entry)) k w)) ⌝ }
     ensures index { λ r. ⌜ Index n m (now (coefs .entry)) (now (across .exit)) (now (signs .exit)) ⌝ }
 {
     copy_box(bounds, side);
     side[2 * k] = v;
     side[2 * k + 1] = v;
     let len = bounds.len();
-    let mut seen = [0i32; 256];
-    let mut marks = [0u8; 120];
+    let mut seen = [0i32; MAX_BOX];
+    let mut marks = [0u8; MAX_ROWS];
     copy_marks(clean, &mut marks);
     propagate_side(
         n,
@@ -136,7 +146,10 @@ pub fn try_side(
 // Of the two side buffers, the part of the one whose box is not empty, handed on with its lifetime.
 fn survivor<'a>(zero: &'a [i32], one: &'a [i32], len: usize) -> &'a [i32]
     requires { ⌜ (2 ≤ len) × (len ≤ length (now zero)) × (len ≤ length (now one)) ⌝ }
-    ensures { λ r. ⌜ ((n : ℕ) → 0 < n → ValidBox n (take len (now (zero .entry))) → now r ≡ cond (isEmpty n (take len (now (zero .entry)))) (take len (now (one .entry))) (take len (now (zero .entry)))) ⌝ }
+    ensures { λ r.
+        ⌜ ((n : ℕ) → 0 < n → ValidBox n (take len (now (zero .entry))) → now r
+        ≡ cond (isEmpty n (take len (now (zero .entry)))) (take len (now (one .entry)))
+        (take len (now (zero .entry)))) ⌝ }
 {
     if model::is_empty(&zero[..len]) {
         return &one[..len];
@@ -156,7 +169,11 @@ fn join<'a>(
     table: &mut [u8],
 ) -> Probing
     requires { ⌜ Joinable n k s0 s1 (now zero) (now one) (now bounds) (now table) ⌝ }
-    ensures { λ r. ⌜ probingOf r (now (bounds .exit)) (now (table .exit)) ≡ joinSides n k (now (bounds .entry)) (now (table .entry)) (propagationOf s0 (take (2 * n) (now (zero .entry)))) (propagationOf s1 (take (2 * n) (now (one .entry)))) ⌝ }
+    ensures { λ r.
+        ⌜ probingOf r (now (bounds .exit)) (now (table .exit))
+        ≡ joinSides n k (now (bounds .entry)) (now (table .entry))
+        (propagationOf s0 (take (2 * n) (now (zero .entry))))
+        (propagationOf s1 (take (2 * n) (now (one .entry)))) ⌝ }
 {
     let len = bounds.len();
     let side0 = side_of(s0);
@@ -195,20 +212,26 @@ fn join_marked<'a>(
 ) -> Probing
     requires { ⌜ Joinable n k s0 s1 (now zero) (now one) (now bounds) (now table) ⌝ }
     requires { ⌜ ColumnSigns n m (now coefs) (now signs) × (m ≤ length (now marks)) ⌝ }
-    ensures answer { λ r. ⌜ probingOf r (now (bounds .exit)) (now (table .exit)) ≡ joinSides n k (now (bounds .entry)) (now (table .entry)) (propagationOf s0 (take (2 * n) (now (zero .entry)))) (propagationOf s1 (take (2 * n) (now (one .entry)))) ⌝ }
-    ensures marks { λ _. ⌜ ((r : ℕ) → r < m → getD (now (marks .exit)) r 0 ≡ 1 → (getD (now (marks .entry)) r 0 ≡ 1) × ((j : ℕ) → j < n → Unread n (now (coefs .entry)) r (now (bounds .entry)) (now (bounds .exit)) j)) ⌝ }
+    ensures answer { λ r.
+        ⌜ probingOf r (now (bounds .exit)) (now (table .exit))
+        ≡ joinSides n k (now (bounds .entry)) (now (table .entry))
+        (propagationOf s0 (take (2 * n) (now (zero .entry))))
+        (propagationOf s1 (take (2 * n) (now (one .entry)))) ⌝ }
+    ensures marks { λ _.
+        ⌜ ((r : ℕ) → r < m → getD (now (marks .exit)) r 0 ≡ 1 → (getD (now (marks .entry)) r 0 ≡ 1)
+        × ((j : ℕ) → j < n → Unread n (now (coefs .entry)) r (now (bounds .entry)) (now (bounds .exit)) j)) ⌝ }
     ensures signs { λ _. ⌜ ColumnSigns n m (now (coefs .entry)) (now (signs .exit)) ⌝ }
 {
     let len = bounds.len();
-    let mut old = [0i32; 256];
+    let mut old = [0i32; MAX_BOX];
     copy_box(bounds, &mut old[..len]);
     let answer = join(n, k, s0, s1, zero, one, bounds, table);
     remark_all(n, m, coefs, signs, &mut old[..len], bounds, marks);
     answer
 }
 
-// Probes the free binary variable k of a model that passed the checks, by its index and the marks of its box, which become those of
-// the box that is left. The two sides' boxes are working memory of this call.
+// Probes the free binary variable k of a model that passed the checks, by its index and the marks of its box, which
+// become those of the box that is left. The two sides' boxes are working memory of this call.
 pub fn probe_marked(
     n: usize,
     m: usize,
@@ -227,8 +250,13 @@ pub fn probe_marked(
     requires { ⌜ T (isEmpty n (now bounds) || isFree (now bounds) k) ⌝ }
     requires { ⌜ k < n ⌝ }
     requires { ⌜ Marked n m (now bounds) (now coefs) (now rhs) (now across) (now signs) (now marks) ⌝ }
-    ensures answer { λ r. ⌜ probingOf r (now (bounds .exit)) (now (table .exit)) ≡ probed k budget n m (rowsOf (now (coefs .entry)) (now (rhs .entry))) (now (bounds .entry)) (now (table .entry)) ⌝ }
-    ensures marks { λ r. ⌜ Marked n m (now (bounds .exit)) (now (coefs .entry)) (now (rhs .entry)) (now (across .exit)) (now (signs .exit)) (now (marks .exit)) ⌝ }
+    ensures answer { λ r.
+        ⌜ probingOf r (now (bounds .exit)) (now (table .exit))
+        ≡ probed k budget n m (rowsOf (now (coefs .entry)) (now (rhs .entry))) (now (bounds .entry))
+        (now (table .entry)) ⌝ }
+    ensures marks { λ r.
+        ⌜ Marked n m (now (bounds .exit)) (now (coefs .entry)) (now (rhs .entry)) (now (across .exit))
+        (now (signs .exit)) (now (marks .exit)) ⌝ }
 {
     if model::is_empty(bounds) {
         return Probing::Infeasible(
@@ -244,7 +272,7 @@ pub fn probe_marked(
     }
     find_clean(n, m, bounds, coefs, rhs, across, marks);
     let len = bounds.len();
-    let mut zero = [0i32; 256];
+    let mut zero = [0i32; MAX_BOX];
     let s0 = try_side(
         n,
         m,
@@ -259,7 +287,7 @@ pub fn probe_marked(
         marks,
         &mut zero[..len],
     );
-    let mut one = [0i32; 256];
+    let mut one = [0i32; MAX_BOX];
     let s1 = try_side(
         n,
         m,
@@ -305,11 +333,14 @@ pub fn probe(
     requires { ⌜ ValidTable n (now table) ⌝ }
     requires { ⌜ T (isEmpty n (now bounds) || isFree (now bounds) k) ⌝ }
     requires { ⌜ k < n ⌝ }
-    ensures { λ r. ⌜ probingOf r (now (bounds .exit)) (now (table .exit)) ≡ probed k budget n m (rowsOf (now (coefs .entry)) (now (rhs .entry))) (now (bounds .entry)) (now (table .entry)) ⌝ }
+    ensures { λ r.
+        ⌜ probingOf r (now (bounds .exit)) (now (table .exit))
+        ≡ probed k budget n m (rowsOf (now (coefs .entry)) (now (rhs .entry))) (now (bounds .entry))
+        (now (table .entry)) ⌝ }
 {
-    let mut across = [0u8; 15360];
-    let mut signs = [0u8; 15360];
-    let mut marks = [0u8; 120];
+    let mut across = [0u8; MAX_MATRIX];
+    let mut signs = [0u8; MAX_MATRIX];
+    let mut marks = [0u8; MAX_ROWS];
     probe_marked(
         n,
         m,

@@ -1,5 +1,5 @@
 -- Which rows stay clean when a box becomes a smaller one, as the loop of `remark` finds it, and what that says of their visits.
-use Prim.Native.Nat.{_*_, _+_, _-_, _<_, _≤_, ℕ}
+use Prim.Native.Nat.{_*_, _+_, _<_, _≤_, ℕ}
 use lib.IntN.{pos, ℤ}
 use lib.Dec.{T}
 use lib.ListN.{drop, getD, getD-replicate, length, length-drop, length-replicate, replicate, set, take}

@@ -1,4 +1,5 @@
-// Which rows are clean in a box that is not to be moved: each row that is not known to be is tested, without a copy of the box.
+// Which rows are clean in a box that is not to be moved: each row that is not known to be is tested, without a copy of
+// the box.
 use crate::index::know_steps;
 use row_view::row_moves_at;
 use row_view::row_moves_at_by;
@@ -25,7 +26,8 @@ fn test_row(
 ) -> bool
     requires { ⌜ RowIn n (now coefs) (now rhs) r × ValidRow n (rowOf n (now coefs) r) (at (now rhs) r) (now bounds) ⌝ }
     requires { ⌜ RowSteps n m (now coefs) (now across) × (r < m) ⌝ }
-    ensures answer { λ b. ⌜ b ≡ rowMoves n (rowOf n (now (coefs .entry)) r) (at (now (rhs .entry)) r) (now (bounds .entry)) ⌝ }
+    ensures answer { λ b.
+        ⌜ b ≡ rowMoves n (rowOf n (now (coefs .entry)) r) (at (now (rhs .entry)) r) (now (bounds .entry)) ⌝ }
     ensures steps { λ _. ⌜ RowSteps n m (now (coefs .entry)) (now (across .exit)) ⌝ }
 {
     if mark == 0 {
@@ -48,7 +50,8 @@ fn find_clean_row(
 )
     requires { ⌜ Testable n m (now bounds) (now coefs) (now rhs) (now across) (now marks) ⌝ }
     requires { ⌜ r < m ⌝ }
-    ensures clean { λ _. ⌜ Clean n m (now (coefs .entry)) (now (rhs .entry)) (now (bounds .entry)) (now (marks .exit)) ⌝ }
+    ensures clean { λ _.
+        ⌜ Clean n m (now (coefs .entry)) (now (rhs .entry)) (now (bounds .entry)) (now (marks .exit)) ⌝ }
     ensures steps { λ _. ⌜ RowSteps n m (now (coefs .entry)) (now (across .exit)) ⌝ }
 {
     let mark = marks[r];
@@ -73,7 +76,8 @@ pub fn find_clean(
     marks: &mut [u8],
 )
     requires { ⌜ Testable n m (now bounds) (now coefs) (now rhs) (now across) (now marks) ⌝ }
-    ensures clean { λ _. ⌜ Clean n m (now (coefs .entry)) (now (rhs .entry)) (now (bounds .entry)) (now (marks .exit)) ⌝ }
+    ensures clean { λ _.
+        ⌜ Clean n m (now (coefs .entry)) (now (rhs .entry)) (now (bounds .entry)) (now (marks .exit)) ⌝ }
     ensures steps { λ _. ⌜ RowSteps n m (now (coefs .entry)) (now (across .exit)) ⌝ }
 {
     let mut r = 0;

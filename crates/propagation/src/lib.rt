@@ -1,12 +1,15 @@
-// Propagate all rows (01's settle) of a model that passed the checks: passes over the rows until nothing moves, the budget is spent
-// or a row is infeasible. Each row is read in place through its view. What is known of the rows from earlier visits is kept beside
-// the box while a call runs: their index (`index`) and which of them are clean (`marks`).
+// Propagate all rows (01's settle) of a model that passed the checks: passes over the rows until nothing moves, the
+// budget is spent or a row is infeasible. Each row is read in place through its view. What is known of the rows from
+// earlier visits is kept beside the box while a call runs: their index (`index`) and which of them are clean (`marks`).
 pub mod clean;
 pub mod index;
 pub mod marks;
 
 use crate::marks::next_row;
 use crate::marks::propagate_row_marked;
+use model::MAX_BOX;
+use model::MAX_MATRIX;
+use model::MAX_ROWS;
 use model::boxes::copy_box;
 use row::propagation::RowPropagation;
 ghost use mathlib.Core.Path.{_≡_};
@@ -29,8 +32,8 @@ pub enum Propagation {
     BudgetSpent(u32),
 }
 
-// Propagates the rows by what is known of them: their index, and which of them are clean. A pass is left by its label at the first
-// row that is infeasible, and counts as made.
+// Propagates the rows by what is known of them: their index, and which of them are clean. A pass is left by its label
+// at the first row that is infeasible, and counts as made.
 pub fn propagate_marked(
     n: usize,
     m: usize,
@@ -46,8 +49,12 @@ pub fn propagate_marked(
     requires { ⌜ ValidModel (modelOf n m (now bounds) (now coefs) (now rhs)) ⌝ }
     requires { ⌜ Watched n m (now coefs) (now rhs) (now bounds) (now across) (now signs) (now seen) (now marks) ⌝ }
     requires { ⌜ m ≤ length (now marks) ⌝ }
-    ensures answer { λ r. ⌜ propagationOf r (now (bounds .exit)) ≡ propagated budget n m (rowsOf (now (coefs .entry)) (now (rhs .entry))) (now (bounds .entry)) ⌝ }
-    ensures watched { λ r. ⌜ Watched n m (now (coefs .entry)) (now (rhs .entry)) (now (bounds .exit)) (now (across .exit)) (now (signs .exit)) (now (seen .exit)) (now (marks .exit)) ⌝ }
+    ensures answer { λ r.
+        ⌜ propagationOf r (now (bounds .exit))
+        ≡ propagated budget n m (rowsOf (now (coefs .entry)) (now (rhs .entry))) (now (bounds .entry)) ⌝ }
+    ensures watched { λ r.
+        ⌜ Watched n m (now (coefs .entry)) (now (rhs .entry)) (now (bounds .exit)) (now (across .exit))
+        (now (signs .exit)) (now (seen .exit)) (now (marks .exit)) ⌝ }
 {
     if model::is_empty(bounds) {
         return Propagation::Infeasible(1);
@@ -91,14 +98,16 @@ pub fn propagate(
     budget: u32,
 ) -> Propagation
     requires { ⌜ ValidModel (modelOf n m (now bounds) (now coefs) (now rhs)) ⌝ }
-    ensures { λ r. ⌜ propagationOf r (now (bounds .exit)) ≡ propagated budget n m (rowsOf (now (coefs .entry)) (now (rhs .entry))) (now (bounds .entry)) ⌝ }
+    ensures { λ r.
+        ⌜ propagationOf r (now (bounds .exit))
+        ≡ propagated budget n m (rowsOf (now (coefs .entry)) (now (rhs .entry))) (now (bounds .entry)) ⌝ }
 {
     let len = bounds.len();
-    let mut across = [0u8; 15360];
-    let mut signs = [0u8; 15360];
-    let mut seen = [0i32; 256];
+    let mut across = [0u8; MAX_MATRIX];
+    let mut signs = [0u8; MAX_MATRIX];
+    let mut seen = [0i32; MAX_BOX];
     copy_box(bounds, &mut seen[..len]);
-    let mut marks = [0u8; 120];
+    let mut marks = [0u8; MAX_ROWS];
     propagate_marked(
         n,
         m,

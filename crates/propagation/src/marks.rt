@@ -1,9 +1,11 @@
-// The rows that a pass may pass over. A row is clean, its mark 1, while propagating it is known to move nothing: it was just propagated
-// (`same-after`), or it was clean and since then no bound moved that its minimum activity reads, the lower one where its coefficient is
-// above 0 and the upper one where it is below (`same-kept`: the other bounds of a smaller box only leave more room). So a clean row's
-// answer, Unchanged, is exact. A row that read a moved bound is dirty, 2; 0 is a row that was not visited yet.
+// The rows that a pass may pass over. A row is clean, its mark 1, while propagating it is known to move nothing: it was
+// just propagated (`same-after`), or it was clean and since then no bound moved that its minimum activity reads, the
+// lower one where its coefficient is above 0 and the upper one where it is below (`same-kept`: the other bounds of a
+// smaller box only leave more room). So a clean row's answer, Unchanged, is exact. A row that read a moved bound is
+// dirty, 2; 0 is a row that was not visited yet.
 use crate::index::know_signs;
 use crate::index::know_steps;
+use model::MAX_VARIABLES;
 pub use model::boxes::copy_box;
 use row::propagation::RowPropagation;
 use row_view::propagate_row_at;
@@ -43,7 +45,9 @@ fn kept(s: u8, sign: u8, mark: u8) -> u8
 // Rows with the given sign in the column at `start` are clean no more.
 fn unmark(m: usize, signs: &[u8], start: usize, sign: u8, marks: &mut [u8])
     requires { ⌜ (start + m ≤ length (now signs)) × (m ≤ length (now marks)) ⌝ }
-    ensures { λ _. ⌜ ((r : ℕ) → r < m → getD (now (marks .exit)) r 0 ≡ 1 → (getD (now (marks .entry)) r 0 ≡ 1) × (getD (now (signs .entry)) (start + r) 0 ≡ sign → ⊥)) ⌝ }
+    ensures { λ _.
+        ⌜ ((r : ℕ) → r < m → getD (now (marks .exit)) r 0 ≡ 1 → (getD (now (marks .entry)) r 0 ≡ 1)
+        × (getD (now (signs .entry)) (start + r) 0 ≡ sign → ⊥)) ⌝ }
 {
     let mut r = 0;
     while r < m {
@@ -52,7 +56,8 @@ fn unmark(m: usize, signs: &[u8], start: usize, sign: u8, marks: &mut [u8])
     }
 }
 
-// Number q of the box, a bound of variable j: where it moved, the rows that read it, those of the given sign, are clean no more.
+// Number q of the box, a bound of variable j: where it moved, the rows that read it, those of the given sign, are clean
+// no more.
 fn remark_bound(
     n: usize,
     m: usize,
@@ -65,9 +70,13 @@ fn remark_bound(
     new: &[i32],
     marks: &mut [u8],
 )
-    requires { ⌜ ColumnSigns n m (now coefs) (now signs) × (j < n) × (m ≤ length (now marks)) × (q < length (now old)) × (q < length (now new)) ⌝ }
+    requires { ⌜ ColumnSigns n m (now coefs) (now signs) × (j < n) × (m ≤ length (now marks)) × (q < length (now old))
+        × (q < length (now new)) ⌝ }
     ensures left { λ _. ⌜ now (old .exit) ≡ set (now (old .entry)) q (at (now (new .entry)) q) ⌝ }
-    ensures marks { λ _. ⌜ ((r : ℕ) → r < m → getD (now (marks .exit)) r 0 ≡ 1 → (getD (now (marks .entry)) r 0 ≡ 1) × (signOf (at (now (coefs .entry)) (r * n + j)) ≡ sign → at (now (new .entry)) q ≡ at (now (old .entry)) q)) ⌝ }
+    ensures marks { λ _.
+        ⌜ ((r : ℕ) → r < m → getD (now (marks .exit)) r 0 ≡ 1 → (getD (now (marks .entry)) r 0 ≡ 1)
+        × (signOf (at (now (coefs .entry)) (r * n + j)) ≡ sign → at (now (new .entry)) q
+        ≡ at (now (old .entry)) q)) ⌝ }
     ensures signs { λ _. ⌜ ColumnSigns n m (now (coefs .entry)) (now (signs .exit)) ⌝ }
 {
     let z = new[q];
@@ -90,9 +99,14 @@ pub fn remark_at(
     new: &[i32],
     marks: &mut [u8],
 )
-    requires { ⌜ ColumnSigns n m (now coefs) (now signs) × (j < n) × (m ≤ length (now marks)) × (2 * j + 1 < length (now old)) × (2 * j + 1 < length (now new)) ⌝ }
-    ensures left { λ _. ⌜ now (old .exit) ≡ withBounds (now (old .entry)) j (lower (now (new .entry)) j) (upper (now (new .entry)) j) ⌝ }
-    ensures marks { λ _. ⌜ ((r : ℕ) → r < m → getD (now (marks .exit)) r 0 ≡ 1 → (getD (now (marks .entry)) r 0 ≡ 1) × Unread n (now (coefs .entry)) r (now (old .entry)) (now (new .entry)) j) ⌝ }
+    requires { ⌜ ColumnSigns n m (now coefs) (now signs) × (j < n) × (m ≤ length (now marks))
+        × (2 * j + 1 < length (now old)) × (2 * j + 1 < length (now new)) ⌝ }
+    ensures left { λ _.
+        ⌜ now (old .exit)
+        ≡ withBounds (now (old .entry)) j (lower (now (new .entry)) j) (upper (now (new .entry)) j) ⌝ }
+    ensures marks { λ _.
+        ⌜ ((r : ℕ) → r < m → getD (now (marks .exit)) r 0 ≡ 1 → (getD (now (marks .entry)) r 0 ≡ 1)
+        × Unread n (now (coefs .entry)) r (now (old .entry)) (now (new .entry)) j) ⌝ }
     ensures signs { λ _. ⌜ ColumnSigns n m (now (coefs .entry)) (now (signs .exit)) ⌝ }
 {
     remark_bound(n, m, coefs, j, 1, 2 * j, signs, old, new, marks);
@@ -113,7 +127,9 @@ fn remark(
 )
     requires { ⌜ Remarks n m (now coefs) (now signs) (now steps) start (now old) (now new) (now marks) ⌝ }
     ensures left { λ _. ⌜ now (old .exit) ≡ now (new .entry) ⌝ }
-    ensures marks { λ _. ⌜ ((r : ℕ) → r < m → getD (now (marks .exit)) r 0 ≡ 1 → (getD (now (marks .entry)) r 0 ≡ 1) × ((j : ℕ) → j < n → Unread n (now (coefs .entry)) r (now (old .entry)) (now (new .entry)) j)) ⌝ }
+    ensures marks { λ _.
+        ⌜ ((r : ℕ) → r < m → getD (now (marks .exit)) r 0 ≡ 1 → (getD (now (marks .entry)) r 0 ≡ 1)
+        × ((j : ℕ) → j < n → Unread n (now (coefs .entry)) r (now (old .entry)) (now (new .entry)) j)) ⌝ }
     ensures signs { λ _. ⌜ ColumnSigns n m (now (coefs .entry)) (now (signs .exit)) ⌝ }
 {
     let mut j = 0;
@@ -133,16 +149,20 @@ pub fn remark_all(
     new: &[i32],
     marks: &mut [u8],
 )
-    requires { ⌜ ColumnSigns n m (now coefs) (now signs) × (n ≤ 128) × (length (now old) ≡ 2 * n) × (length (now new) ≡ 2 * n) × (m ≤ length (now marks)) ⌝ }
+    requires { ⌜ ColumnSigns n m (now coefs) (now signs) × (n ≤ 128) × (length (now old) ≡ 2 * n)
+        × (length (now new) ≡ 2 * n) × (m ≤ length (now marks)) ⌝ }
     ensures left { λ _. ⌜ now (old .exit) ≡ now (new .entry) ⌝ }
-    ensures marks { λ _. ⌜ ((r : ℕ) → r < m → getD (now (marks .exit)) r 0 ≡ 1 → (getD (now (marks .entry)) r 0 ≡ 1) × ((j : ℕ) → j < n → Unread n (now (coefs .entry)) r (now (old .entry)) (now (new .entry)) j)) ⌝ }
+    ensures marks { λ _.
+        ⌜ ((r : ℕ) → r < m → getD (now (marks .exit)) r 0 ≡ 1 → (getD (now (marks .entry)) r 0 ≡ 1)
+        × ((j : ℕ) → j < n → Unread n (now (coefs .entry)) r (now (old .entry)) (now (new .entry)) j)) ⌝ }
     ensures signs { λ _. ⌜ ColumnSigns n m (now (coefs .entry)) (now (signs .exit)) ⌝ }
 {
-    let ones = [1u8; 128];
+    let ones = [1u8; MAX_VARIABLES];
     remark(n, m, coefs, signs, &ones, 0, old, new, marks);
 }
 
-// Propagates row r, read whole: its first visit. It leaves the row clean, and those rows clean no more that read a bound that it moved.
+// Propagates row r, read whole: its first visit. It leaves the row clean, and those rows clean no more that read a
+// bound that it moved.
 fn propagate_row_whole(
     n: usize,
     m: usize,
@@ -157,9 +177,16 @@ fn propagate_row_whole(
 ) -> RowPropagation
     requires { ⌜ Visitable n m (now bounds) (now coefs) (now rhs) (now across) (now signs) (now seen) (now marks) ⌝ }
     requires { ⌜ r < m ⌝ }
-    ensures answer { λ s. ⌜ propagationOutcome s ≡ propagateRow n (rowOf n (now (coefs .entry)) r) (at (now (rhs .entry)) r) (now (bounds .entry)) .outcome ⌝ }
-    ensures left { λ s. ⌜ now (bounds .exit) ≡ propagateRow n (rowOf n (now (coefs .entry)) r) (at (now (rhs .entry)) r) (now (bounds .entry)) .box ⌝ }
-    ensures watched { λ s. ⌜ Watched n m (now (coefs .entry)) (now (rhs .entry)) (now (bounds .exit)) (now (across .entry)) (now (signs .exit)) (now (seen .exit)) (now (marks .exit)) ⌝ }
+    ensures answer { λ s.
+        ⌜ propagationOutcome s
+        ≡ propagateRow n (rowOf n (now (coefs .entry)) r) (at (now (rhs .entry)) r)
+        (now (bounds .entry)) .outcome ⌝ }
+    ensures left { λ s.
+        ⌜ now (bounds .exit)
+        ≡ propagateRow n (rowOf n (now (coefs .entry)) r) (at (now (rhs .entry)) r) (now (bounds .entry)) .box ⌝ }
+    ensures watched { λ s.
+        ⌜ Watched n m (now (coefs .entry)) (now (rhs .entry)) (now (bounds .exit)) (now (across .entry))
+        (now (signs .exit)) (now (seen .exit)) (now (marks .exit)) ⌝ }
 {
     match propagate_row_at(n, coefs, rhs, r, bounds) {
         RowPropagation::Infeasible => {
@@ -193,9 +220,16 @@ fn propagate_row_by_steps(
     requires { ⌜ Visitable n m (now bounds) (now coefs) (now rhs) (now across) (now signs) (now seen) (now marks) ⌝ }
     requires { ⌜ r < m ⌝ }
     requires { ⌜ ((j : ℕ) → j < n → GoodStep n (now coefs) (r * n) (now across) j) ⌝ }
-    ensures answer { λ s. ⌜ propagationOutcome s ≡ propagateRow n (rowOf n (now (coefs .entry)) r) (at (now (rhs .entry)) r) (now (bounds .entry)) .outcome ⌝ }
-    ensures left { λ s. ⌜ now (bounds .exit) ≡ propagateRow n (rowOf n (now (coefs .entry)) r) (at (now (rhs .entry)) r) (now (bounds .entry)) .box ⌝ }
-    ensures watched { λ s. ⌜ Watched n m (now (coefs .entry)) (now (rhs .entry)) (now (bounds .exit)) (now (across .entry)) (now (signs .exit)) (now (seen .exit)) (now (marks .exit)) ⌝ }
+    ensures answer { λ s.
+        ⌜ propagationOutcome s
+        ≡ propagateRow n (rowOf n (now (coefs .entry)) r) (at (now (rhs .entry)) r)
+        (now (bounds .entry)) .outcome ⌝ }
+    ensures left { λ s.
+        ⌜ now (bounds .exit)
+        ≡ propagateRow n (rowOf n (now (coefs .entry)) r) (at (now (rhs .entry)) r) (now (bounds .entry)) .box ⌝ }
+    ensures watched { λ s.
+        ⌜ Watched n m (now (coefs .entry)) (now (rhs .entry)) (now (bounds .exit)) (now (across .entry))
+        (now (signs .exit)) (now (seen .exit)) (now (marks .exit)) ⌝ }
 {
     match propagate_row_at_by(n, coefs, rhs, r, across, bounds) {
         RowPropagation::Infeasible => {
@@ -228,9 +262,16 @@ pub fn propagate_row_marked(
 ) -> RowPropagation
     requires { ⌜ Visitable n m (now bounds) (now coefs) (now rhs) (now across) (now signs) (now seen) (now marks) ⌝ }
     requires { ⌜ r < m ⌝ }
-    ensures answer { λ s. ⌜ propagationOutcome s ≡ propagateRow n (rowOf n (now (coefs .entry)) r) (at (now (rhs .entry)) r) (now (bounds .entry)) .outcome ⌝ }
-    ensures left { λ s. ⌜ now (bounds .exit) ≡ propagateRow n (rowOf n (now (coefs .entry)) r) (at (now (rhs .entry)) r) (now (bounds .entry)) .box ⌝ }
-    ensures watched { λ s. ⌜ Watched n m (now (coefs .entry)) (now (rhs .entry)) (now (bounds .exit)) (now (across .exit)) (now (signs .exit)) (now (seen .exit)) (now (marks .exit)) ⌝ }
+    ensures answer { λ s.
+        ⌜ propagationOutcome s
+        ≡ propagateRow n (rowOf n (now (coefs .entry)) r) (at (now (rhs .entry)) r)
+        (now (bounds .entry)) .outcome ⌝ }
+    ensures left { λ s.
+        ⌜ now (bounds .exit)
+        ≡ propagateRow n (rowOf n (now (coefs .entry)) r) (at (now (rhs .entry)) r) (now (bounds .entry)) .box ⌝ }
+    ensures watched { λ s.
+        ⌜ Watched n m (now (coefs .entry)) (now (rhs .entry)) (now (bounds .exit)) (now (across .exit))
+        (now (signs .exit)) (now (seen .exit)) (now (marks .exit)) ⌝ }
 {
     if marks[r] == 0 {
         return propagate_row_whole(n, m, bounds, coefs, rhs, r, across, signs, seen, marks);

@@ -1,6 +1,6 @@
-// One row, read in place (01, "Row sums"): a view of its n coefficients in the matrix, with its right side. No function over a
-// struct that holds a reference is covered, so each is thin and proved by hand: it takes the view apart and leaves the work to a
-// function over plain slices.
+// One row, read in place (01, "Row sums"): a view of its n coefficients in the matrix, with its right side. No function
+// over a struct that holds a reference is covered, so each is thin and proved by hand: it takes the view apart and
+// leaves the work to a function over plain slices.
 use row::activity::maximum_activity;
 use row::activity::minimum_activity;
 use row::propagation::RowPropagation;
@@ -31,7 +31,8 @@ impl<'a> Row<'a> {
     // Lmin.
     pub fn minimum_activity<'b>(self, bounds: &'b [i32]) -> i64
         requires { ⌜ ValidCoefs (length (now (self .coefs))) (now (self .coefs)) (now bounds) ⌝ }
-        ensures { λ r. ⌜ r ≡ minActivity (length (now (self .entry .coefs))) (now (self .entry .coefs)) (now (bounds .entry)) ⌝ }
+        ensures { λ r.
+            ⌜ r ≡ minActivity (length (now (self .entry .coefs))) (now (self .entry .coefs)) (now (bounds .entry)) ⌝ }
     {
         minimum_activity(self.coefs, bounds)
     }
@@ -39,7 +40,8 @@ impl<'a> Row<'a> {
     // Lmax.
     pub fn maximum_activity<'b>(self, bounds: &'b [i32]) -> i64
         requires { ⌜ ValidCoefs (length (now (self .coefs))) (now (self .coefs)) (now bounds) ⌝ }
-        ensures { λ r. ⌜ r ≡ maxActivity (length (now (self .entry .coefs))) (now (self .entry .coefs)) (now (bounds .entry)) ⌝ }
+        ensures { λ r.
+            ⌜ r ≡ maxActivity (length (now (self .entry .coefs))) (now (self .entry .coefs)) (now (bounds .entry)) ⌝ }
     {
         maximum_activity(self.coefs, bounds)
     }
@@ -55,8 +57,12 @@ impl<'a> Row<'a> {
 
     // The same by the row's steps, which pass over its zeros.
     pub fn propagate_by<'b, 'c>(self, steps: &'b [u8], bounds: &'c mut [i32]) -> RowPropagation
-        requires { ⌜ ValidRow (length (now (self .coefs))) (now (self .coefs)) (self .b) (now bounds) × Steps (length (now (self .coefs))) (now (self .coefs)) (now steps) ⌝ }
-        ensures answer { λ t. ⌜ propagationOutcome t ≡ propagateRow (length (now (self .entry .coefs))) (now (self .entry .coefs)) (self .entry .b) (now (bounds .entry)) .outcome ⌝ }
+        requires { ⌜ ValidRow (length (now (self .coefs))) (now (self .coefs)) (self .b) (now bounds)
+            × Steps (length (now (self .coefs))) (now (self .coefs)) (now steps) ⌝ }
+        ensures answer { λ t.
+            ⌜ propagationOutcome t
+            ≡ propagateRow (length (now (self .entry .coefs))) (now (self .entry .coefs)) (self .entry .b)
+            (now (bounds .entry)) .outcome ⌝ }
         ensures left { λ t. ⌜ now (bounds .exit) ≡ propagateRow (length (now (self .entry .coefs))) (now (self .entry .coefs)) (self .entry .b) (now (bounds .entry)) .box ⌝ }
     {
         propagate_row_by(self.coefs, steps, self.b, bounds)
@@ -108,9 +114,12 @@ fn propagate_row_with<'a, 'b, 'c, 'd>(
     steps: &'c [u8],
     bounds: &'d mut [i32],
 ) -> RowPropagation
-    requires { ⌜ RowIn n (now coefs) (now rhs) r × ValidRow n (rowOf n (now coefs) r) (at (now rhs) r) (now bounds) × Steps n (rowOf n (now coefs) r) (now steps) ⌝ }
+    requires { ⌜ RowIn n (now coefs) (now rhs) r × ValidRow n (rowOf n (now coefs) r) (at (now rhs) r) (now bounds)
+        × Steps n (rowOf n (now coefs) r) (now steps) ⌝ }
     ensures answer { λ t. ⌜ propagationOutcome t ≡ propagateRow n (rowOf n (now (coefs .entry)) r) (at (now (rhs .entry)) r) (now (bounds .entry)) .outcome ⌝ }
-    ensures left { λ t. ⌜ now (bounds .exit) ≡ propagateRow n (rowOf n (now (coefs .entry)) r) (at (now (rhs .entry)) r) (now (bounds .entry)) .box ⌝ }
+    ensures left { λ t.
+        ⌜ now (bounds .exit)
+        ≡ propagateRow n (rowOf n (now (coefs .entry)) r) (at (now (rhs .entry)) r) (now (bounds .entry)) .box ⌝ }
 {
     row_at(n, coefs, rhs, r).propagate_by(steps, bounds)
 }
@@ -136,8 +145,13 @@ pub fn propagate_row_at_by(
 ) -> RowPropagation
     requires { ⌜ RowIn n (now coefs) (now rhs) r × ValidRow n (rowOf n (now coefs) r) (at (now rhs) r) (now bounds) ⌝ }
     requires { ⌜ StepsIn n (now coefs) (now across) r ⌝ }
-    ensures answer { λ a. ⌜ propagationOutcome a ≡ propagateRow n (rowOf n (now (coefs .entry)) r) (at (now (rhs .entry)) r) (now (bounds .entry)) .outcome ⌝ }
-    ensures left { λ a. ⌜ now (bounds .exit) ≡ propagateRow n (rowOf n (now (coefs .entry)) r) (at (now (rhs .entry)) r) (now (bounds .entry)) .box ⌝ }
+    ensures answer { λ a.
+        ⌜ propagationOutcome a
+        ≡ propagateRow n (rowOf n (now (coefs .entry)) r) (at (now (rhs .entry)) r)
+        (now (bounds .entry)) .outcome ⌝ }
+    ensures left { λ a.
+        ⌜ now (bounds .exit)
+        ≡ propagateRow n (rowOf n (now (coefs .entry)) r) (at (now (rhs .entry)) r) (now (bounds .entry)) .box ⌝ }
 {
     propagate_row_with(n, coefs, rhs, r, steps_at(n, across, r), bounds)
 }

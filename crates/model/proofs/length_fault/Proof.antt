@@ -1,10 +1,6 @@
 -- `model::length_fault`: each comparison is a part of the one test (`length-test`). Assumes nothing.
-use Prim.Native.Nat.{_*_, ℕ}
 use borrow.Author.Needs.{needs}
 use borrow.Author.Tests.{eqb-false, eqb-true}
-use lib.IntN.{ℤ}
-use lib.ListN.{length}
-use mathlib.Core.List.{List}
 use mathlib.Core.Path.{_≡_, sym}
 use native.Mathlib.Omega.{arith}
 use Rattle.integer.proofs.Tests.{test-false, told-false, told-true}

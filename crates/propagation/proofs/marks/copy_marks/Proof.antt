@@ -7,8 +7,6 @@ use mathlib.Core.Path.{_∙_, _≡_, sym}
 use native.Mathlib.Omega.{arith}
 use Rattle.propagation.proofs.marks.copy_marks.Statement.{statement}
 use Rattle.propagation.proofs.marks.copy_marks.Tie as tie
-use Rattle.propagation.proofs.marks.copy_marks.Reads as reads
-use Rattle.propagation.proofs.marks.copy_marks.Lts as lts
 
 abbrev Inv-loop : tie.InvT-loop
 Inv-loop from to₀ i₀ to i = (i ≤ length from) × (length to ≡ length from) × ((q : ℕ) → q < i → getD to q 0 ≡ getD from q 0)

@@ -1,9 +1,6 @@
 -- `propagation::marks::propagate_row_marked` is propagateRow: read whole or by its steps. Assumes nothing.
 use borrow.Author.Needs.{needs}
-use mathlib.Core.Path.{ap, sym}
 use native.Mathlib.Omega.{arith}
-use Rattle.row.specs.Answers.{propagationOutcome}
-use Rattle.row.specs.Propagation.{PropagatedRow}
 use Rattle.propagation.proofs.marks.propagate_row_marked.Statement.{statement}
 use Rattle.propagation.proofs.marks.propagate_row_marked.Tie as tie
 
