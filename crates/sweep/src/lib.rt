@@ -1,4 +1,5 @@
-// Propagate a row (01's visit) by its steps: each sweep passes over the coefficients that are 0, which add nothing and move nothing.
+// Propagate a row (01's visit) by its steps: each sweep passes over the coefficients that are 0, which
+// add nothing and move nothing.
 use row::activity::Reach;
 use row::activity::term;
 use row::activity::wider;
@@ -18,8 +19,12 @@ ghost use Rattle.row.specs.ValidRow.{ValidCoefs, ValidRow, ImpliesBox};
 fn reach_by(coefs: &[i32], steps: &[u8], bounds: &[i32]) -> Reach
     requires { ⌜ ValidCoefs (length (now coefs)) (now coefs) (now bounds) ⌝ }
     requires { ⌜ Steps (length (now coefs)) (now coefs) (now steps) ⌝ }
-    ensures least { λ r. ⌜ r .least ≡ minActivity (length (now (coefs .entry))) (now (coefs .entry)) (now (bounds .entry)) ⌝ }
-    ensures widest { λ r. ⌜ r .widest ≡ widestTerm (length (now (coefs .entry))) (now (coefs .entry)) (now (bounds .entry)) ⌝ }
+    ensures least { λ r.
+        let A = now (coefs .entry) in
+        ⌜ r .least ≡ minActivity (length A) A (now (bounds .entry)) ⌝ }
+    ensures widest { λ r.
+        let A = now (coefs .entry) in
+        ⌜ r .widest ≡ widestTerm (length A) A (now (bounds .entry)) ⌝ }
 {
     let mut least: i64 = 0;
     let mut widest: i64 = 0;
@@ -52,8 +57,12 @@ pub fn moves_by(coefs: &[i32], steps: &[u8], b: i32, bounds: &[i32]) -> bool
 fn tighten_bounds_by(coefs: &[i32], steps: &[u8], b: i64, least: i64, bounds: &mut [i32]) -> bool
     requires { ⌜ ImpliesBox (length (now coefs)) (now coefs) b least (now bounds) ⌝ }
     requires { ⌜ Steps (length (now coefs)) (now coefs) (now steps) ⌝ }
-    ensures left { λ r. ⌜ now (bounds .exit) ≡ impliedBox (length (now (coefs .entry))) (now (coefs .entry)) b least (now (bounds .entry)) ⌝ }
-    ensures moved { λ r. ⌜ r ≡ not (all (length (now (coefs .entry))) (staysAt (now (coefs .entry)) b least (now (bounds .entry)))) ⌝ }
+    ensures left { λ r.
+        let A = now (coefs .entry) in
+        ⌜ now (bounds .exit) ≡ impliedBox (length A) A b least (now (bounds .entry)) ⌝ }
+    ensures moved { λ r.
+        let A = now (coefs .entry) in
+        ⌜ r ≡ not (all (length A) (staysAt A b least (now (bounds .entry)))) ⌝ }
 {
     let mut moved = false;
     let mut j: usize = 0;
@@ -70,8 +79,12 @@ fn tighten_bounds_by(coefs: &[i32], steps: &[u8], b: i64, least: i64, bounds: &m
 pub fn propagate_row_by(coefs: &[i32], steps: &[u8], b: i32, bounds: &mut [i32]) -> RowPropagation
     requires { ⌜ ValidRow (length (now coefs)) (now coefs) b (now bounds) ⌝ }
     requires { ⌜ Steps (length (now coefs)) (now coefs) (now steps) ⌝ }
-    ensures answer { λ r. ⌜ propagationOutcome r ≡ propagateRow (length (now (coefs .entry))) (now (coefs .entry)) b (now (bounds .entry)) .outcome ⌝ }
-    ensures left { λ r. ⌜ now (bounds .exit) ≡ propagateRow (length (now (coefs .entry))) (now (coefs .entry)) b (now (bounds .entry)) .box ⌝ }
+    ensures answer { λ r.
+        let A = now (coefs .entry) in
+        ⌜ propagationOutcome r ≡ propagateRow (length A) A b (now (bounds .entry)) .outcome ⌝ }
+    ensures left { λ r.
+        let A = now (coefs .entry) in
+        ⌜ now (bounds .exit) ≡ propagateRow (length A) A b (now (bounds .entry)) .box ⌝ }
 {
     if model::is_empty(bounds) {
         return RowPropagation::Infeasible;
