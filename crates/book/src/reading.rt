@@ -9,6 +9,7 @@ use crate::layout::row_place;
 use crate::layout::trailer_u16;
 use model::MAX_COEF;
 use model::MAX_RHS;
+use model::MAX_VARIABLES;
 ghost use mathlib.Core.List.{[]};
 ghost use mathlib.Core.Path.{_≡_};
 ghost use Prim.Native.Nat.{ℕ, _*_, _≤_};
@@ -33,7 +34,7 @@ fn bounds_fault(n: usize, book: &[u8]) -> u32
     requires { ⌜ (n ≤ 128) × (8 * n ≤ length (now book)) ⌝ }
     ensures { λ r. ⌜ r ≡ first (numberChecks n (boundsOf n (now (book .entry))) (rowsOf [] [])) ⌝ }
 {
-    let mut bounds = [0i32; 256];
+    let mut bounds = [0i32; 2 * MAX_VARIABLES];
     let len = 2 * n;
     read_integers(book, 0, 4, &mut bounds[..len]);
     box_fault(n, &bounds[..len])
