@@ -9,6 +9,7 @@ use crate::layout::row_place;
 use crate::layout::trailer_u16;
 use model::MAX_COEF;
 use model::MAX_RHS;
+use model::MAX_VARIABLES;
 ghost use mathlib.Core.List.{[]};
 ghost use mathlib.Core.Path.{_≡_};
 ghost use Prim.Native.Nat.{ℕ, _*_, _≤_};
@@ -33,7 +34,7 @@ fn bounds_fault(n: usize, book: &[u8]) -> u32
     requires { ⌜ (n ≤ 128) × (8 * n ≤ length (now book)) ⌝ }
     ensures { λ r. ⌜ r ≡ first (numberChecks n (boundsOf n (now (book .entry))) (rowsOf [] [])) ⌝ }
 {
-    let mut bounds = [0i32; 256];
+    let mut bounds = [0i32; 2 * MAX_VARIABLES];
     let len = 2 * n;
     read_integers(book, 0, 4, &mut bounds[..len]);
     box_fault(n, &bounds[..len])
@@ -58,7 +59,9 @@ fn coefs_in_range(n: usize, m: usize, book: &[u8]) -> bool
 // Checks 6 to 9 over the book's numbers: the number of the first that fails, else 0.
 fn number_fault(n: usize, m: usize, book: &[u8]) -> u32
     requires { ⌜ HoldsModel n m (now book) ⌝ }
-    ensures { λ r. ⌜ r ≡ first (numberChecks n (boundsOf n (now (book .entry))) (rowsOf (coefsOf n m (now (book .entry))) (rhsOf n m (now (book .entry))))) ⌝ }
+    ensures { λ r.
+        let bs = now (book .entry) in
+        ⌜ r ≡ first (numberChecks n (boundsOf n bs) (rowsOf (coefsOf n m bs) (rhsOf n m bs))) ⌝ }
 {
     let fault = bounds_fault(n, book);
     if fault != 0 {
@@ -107,11 +110,20 @@ fn read_coefs(n: usize, m: usize, book: &[u8], coefs: &mut [i32])
 // Reads a book into lent buffers and answers n and m. Refused by 1 to 9; then nothing is written.
 // Writing what was read gives the same book (`round_trip`).
 pub fn read(book: &[u8], bounds: &mut [i32], coefs: &mut [i32], rhs: &mut [i32]) -> SizesAnswer
-    ensures answer { λ r. ⌜ sizesAnswer r ≡ readCall (now (book .entry)) (now (bounds .entry)) (now (coefs .entry)) (now (rhs .entry)) ⌝ }
-    ensures bounds_read { λ r. ⌜ now (bounds .exit) ≡ boundsRead (now (book .entry)) (now (bounds .entry)) (now (coefs .entry)) (now (rhs .entry)) ⌝ }
-    ensures coefs_read { λ r. ⌜ now (coefs .exit) ≡ coefsRead (now (book .entry)) (now (bounds .entry)) (now (coefs .entry)) (now (rhs .entry)) ⌝ }
-    ensures rhs_read { λ r. ⌜ now (rhs .exit) ≡ rhsRead (now (book .entry)) (now (bounds .entry)) (now (coefs .entry)) (now (rhs .entry)) ⌝ }
-    ensures round_trip { λ r. ⌜ ((n m : ℕ) → sizesAnswer r ≡ sizesAre n m → encode (modelOf n m (now (bounds .exit)) (now (coefs .exit)) (now (rhs .exit))) ≡ now (book .entry)) ⌝ }
+    ensures answer { λ r.
+        ⌜ sizesAnswer r ≡ readCall (now (book .entry)) (now (bounds .entry)) (now (coefs .entry)) (now (rhs .entry)) ⌝ }
+    ensures bounds_read { λ r.
+        ⌜ now (bounds .exit) ≡
+        boundsRead (now (book .entry)) (now (bounds .entry)) (now (coefs .entry)) (now (rhs .entry)) ⌝ }
+    ensures coefs_read { λ r.
+        ⌜ now (coefs .exit) ≡
+        coefsRead (now (book .entry)) (now (bounds .entry)) (now (coefs .entry)) (now (rhs .entry)) ⌝ }
+    ensures rhs_read { λ r.
+        ⌜ now (rhs .exit) ≡
+        rhsRead (now (book .entry)) (now (bounds .entry)) (now (coefs .entry)) (now (rhs .entry)) ⌝ }
+    ensures round_trip { λ r.
+        ⌜ ((n m : ℕ) → sizesAnswer r ≡ sizesAre n m →
+        encode (modelOf n m (now (bounds .exit)) (now (coefs .exit)) (now (rhs .exit))) ≡ now (book .entry)) ⌝ }
 {
     let fault = read_fault(book, bounds, coefs, rhs);
     if fault != 0 {

@@ -25,7 +25,8 @@ pub enum WriteAnswer {
     Written,
 }
 
-// Whether a book of n variables and m rows has len bytes. Beyond the limits of n and m nothing is asked: check 3 answers there.
+// Whether a book of n variables and m rows has len bytes. Beyond the limits of n and m nothing is
+// asked: check 3 answers there.
 fn is_book_length(n: usize, m: usize, len: usize) -> bool
     ensures { λ r. ⌜ (first (sizeChecks n m) ≡ 0 → r ≡ eqb len (bookLength n m)) ⌝ }
 {
@@ -35,9 +36,12 @@ fn is_book_length(n: usize, m: usize, len: usize) -> bool
     len == book_length(n, m)
 }
 
-// Checks 3 and 5 to 9 of a model and of the book that it is to be written to: the number of the first that fails, else 0.
+// Checks 3 and 5 to 9 of a model and of the book that it is to be written to: the number of
+// the first that fails, else 0.
 fn write_fault(n: usize, m: usize, bounds: &[i32], coefs: &[i32], rhs: &[i32], book: &[u8]) -> u32
-    ensures { λ r. ⌜ r ≡ writeFault (modelOf n m (now (bounds .entry)) (now (coefs .entry)) (now (rhs .entry))) (now (book .entry)) ⌝ }
+    ensures { λ r.
+        let M = modelOf n m (now (bounds .entry)) (now (coefs .entry)) (now (rhs .entry)) in
+        ⌜ r ≡ writeFault M (now (book .entry)) ⌝ }
 {
     let fits = is_book_length(n, m, book.len());
     model_fault(n, m, bounds, coefs, rhs, fits)
@@ -45,7 +49,10 @@ fn write_fault(n: usize, m: usize, bounds: &[i32], coefs: &[i32], rhs: &[i32], b
 
 fn write_rows(n: usize, coefs: &[i32], rhs: &[i32], book: &mut [u8])
     requires { ⌜ HoldsModel n (length (now rhs)) (now book) × (length (now coefs) ≡ length (now rhs) * n) ⌝ }
-    ensures { λ r. ⌜ now (book .exit) ≡ overwrite (8 * n) (joined (length (now (rhs .entry))) (rowBytesAt n (rowsOf (now (coefs .entry)) (now (rhs .entry))))) (now (book .entry)) ⌝ }
+    ensures { λ r.
+        let R = now (rhs .entry) in
+        let rows = joined (length R) (rowBytesAt n (rowsOf (now (coefs .entry)) R)) in
+        ⌜ now (book .exit) ≡ overwrite (8 * n) rows (now (book .entry)) ⌝ }
 {
     let mut i = 0;
     while i < rhs.len() {
@@ -68,9 +75,16 @@ pub fn write(
     rhs: &[i32],
     book: &mut [u8],
 ) -> WriteAnswer
-    ensures answer { λ r. ⌜ writeAnswer r ≡ writeCall (modelOf n m (now (bounds .entry)) (now (coefs .entry)) (now (rhs .entry))) (now (book .entry)) ⌝ }
-    ensures book_written { λ r. ⌜ now (book .exit) ≡ bookWritten (modelOf n m (now (bounds .entry)) (now (coefs .entry)) (now (rhs .entry))) (now (book .entry)) ⌝ }
-    ensures round_trip { λ r. ⌜ (writeAnswer r ≡ written → (bookFault (now (book .exit)) ≡ 0) × (decode (now (book .exit)) ≡ modelOf n m (now (bounds .entry)) (now (coefs .entry)) (now (rhs .entry)))) ⌝ }
+    ensures answer { λ r.
+        let M = modelOf n m (now (bounds .entry)) (now (coefs .entry)) (now (rhs .entry)) in
+        ⌜ writeAnswer r ≡ writeCall M (now (book .entry)) ⌝ }
+    ensures book_written { λ r.
+        let M = modelOf n m (now (bounds .entry)) (now (coefs .entry)) (now (rhs .entry)) in
+        ⌜ now (book .exit) ≡ bookWritten M (now (book .entry)) ⌝ }
+    ensures round_trip { λ r.
+        let M = modelOf n m (now (bounds .entry)) (now (coefs .entry)) (now (rhs .entry)) in
+        let bs = now (book .exit) in
+        ⌜ (writeAnswer r ≡ written → (bookFault bs ≡ 0) × (decode bs ≡ M)) ⌝ }
 {
     let fault = write_fault(n, m, bounds, coefs, rhs, book);
     if fault != 0 {

@@ -1,5 +1,5 @@
--- What is kept of an input of any length (D-13: "Whatever comes on standard input is read whole, however long: the trailer is its
--- last 16 bytes").
+-- What is kept of an input of any length: 01 says only that "The program `reduce` reads a book on standard input". By our decision
+-- D-13 the input is read whole, however long it is, and its trailer is its last 16 bytes.
 use Prim.Native.Nat.{_≤_, ℕ}
 use lib.ListN.{drop, length, replicate, take}
 use mathlib.Core.List.{List, _++_}

@@ -33,7 +33,8 @@ fn length_given(tail: &[u8]) -> usize
 // n and m of an input of `len` bytes that ends in `tail`. Refused by 1 to 4, and by 5 where `tail` has not 16 bytes.
 pub fn sizes(tail: &[u8], len: usize) -> SizesAnswer
     ensures answer { λ r. ⌜ sizesAnswer r ≡ inputCall (now (tail .entry)) len ⌝ }
-    ensures right { λ r. ⌜ ((bs : List ℕ) → len ≡ length bs → now (tail .entry) ≡ lastBytes bs → sizesAnswer r ≡ headCall bs) ⌝ }
+    ensures right { λ r.
+        ⌜ ((bs : List ℕ) → len ≡ length bs → now (tail .entry) ≡ lastBytes bs → sizesAnswer r ≡ headCall bs) ⌝ }
     ensures sized { λ r. ⌜ ((n m : ℕ) → sizesAnswer r ≡ sizesAre n m → SizedBook n m len) ⌝ }
 {
     if len < TRAILER {

@@ -9,7 +9,9 @@ ghost use Rattle.intake.specs.Intake.{Held, shifted};
 // Stores the piece at place `at`.
 fn store(start: &mut [u8], at: usize, piece: &[u8])
     requires { ⌜ at + length (now piece) ≤ length (now start) ⌝ }
-    ensures { λ r. ⌜ now (start .exit) ≡ paste (now (start .entry)) at (now (piece .entry)) (length (now (piece .entry))) ⌝ }
+    ensures { λ r.
+        let bs = now (piece .entry) in
+        ⌜ now (start .exit) ≡ paste (now (start .entry)) at bs (length bs) ⌝ }
 {
     let mut i = 0;
     while i < piece.len() {
@@ -34,10 +36,13 @@ fn shift_in(tail: &mut [u8], piece: &[u8])
     }
 }
 
-// Takes in the next piece of an input of which `len` bytes are held. Where `start` has no room left for it, the input is longer
-// than `start`, and only its last bytes and its length count.
+// Takes in the next piece of an input of which `len` bytes are held. Where `start` has no room left for it, the input
+// is longer than `start`, and only its last bytes and its length count.
 pub fn take_in(start: &mut [u8], tail: &mut [u8], len: usize, piece: &[u8])
-    ensures { λ r. ⌜ ((bs : List ℕ) → Held bs (now (start .entry)) (now (tail .entry)) len → Held (bs ++ now (piece .entry)) (now (start .exit)) (now (tail .exit)) (len + length (now (piece .entry)))) ⌝ }
+    ensures { λ r.
+        let more = now (piece .entry) in
+        ⌜ ((bs : List ℕ) → Held bs (now (start .entry)) (now (tail .entry)) len →
+        Held (bs ++ more) (now (start .exit)) (now (tail .exit)) (len + length more)) ⌝ }
 {
     shift_in(tail, piece);
     if len <= start.len() {

@@ -1,7 +1,7 @@
-// An input of any length, kept as far as a book can need it: its start, its last 16 bytes and its length. `take_in` takes in one
-// piece after the other, however they arrive. `sizes` makes checks 1 to 4 of the whole input from its last 16 bytes and its length
-// alone, so the number is right also where the input is longer than any book, and an input that is accepted fits a buffer of
-// MAX_BOOK bytes. `is_too_long` says from when on no more of an input need be read.
+// An input of any length, kept as far as a book can need it: its start, its last 16 bytes and its length. `take_in`
+// takes in one piece after the other, however they arrive. `sizes` makes checks 1 to 4 of the whole input from its last
+// 16 bytes and its length alone, so the number is right also where the input is longer than any book, and an input that
+// is accepted fits a buffer of MAX_BOOK bytes. `is_too_long` says from when on no more of an input need be read.
 mod checking;
 mod input;
 

@@ -1,4 +1,4 @@
--- The model (01: "A model has n variables .. and m rows").
+-- The model (01: "There are n variables, 1 to 128, and m rows, 0 to 120.").
 use Prim.Native.Nat.{ℕ}
 use lib.IntN.{ℤ}
 use mathlib.Core.List.{List}

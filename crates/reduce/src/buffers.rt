@@ -1,4 +1,5 @@
-// The buffers of the largest book, 128 variables and 120 rows. A caller learns what it needs of them, and not each number.
+// The buffers of the largest book, 128 variables and 120 rows. A caller learns what it needs
+// of them, and not each number.
 use intake::MAX_BOOK;
 ghost use mathlib.Core.Path.{_≡_};
 ghost use lib.ListN.{length};

@@ -20,8 +20,8 @@ pub enum Input {
     Failed,
 }
 
-// The input ends where a read gives no byte. A closed standard input is an empty one. No signal is caught here, so no read is
-// interrupted, and any other failure is one of the input.
+// The input ends where a read gives no byte. A closed standard input is an empty one. No signal is caught here, so no
+// read is interrupted, and any other failure is one of the input.
 fn ended(got: isize, len: usize) -> Input
     requires { ⌜ got ≤ℤ pos 0 ⌝ }
     ensures whole { λ r. ⌜ (got ≡ pos 0 → r ≡ endedAt len) ⌝ }

@@ -1,8 +1,8 @@
-// The program `reduce` (01, "Book"): reads a book on standard input, makes up to 8 rounds, and prints `refused N`, `none` or what
-// is left of the model. What it prints for an input is `output` of it. No contract can say which bytes are read or written; that
-// the input is kept as it came, that the answer is the one that `output` gives, that its text is written into a buffer and that as
-// many bytes as it has are handed to standard output are proved. A read or a write that fails is told on standard error, and then
-// nothing more is printed.
+// The program `reduce` (01, "Book"): reads a book on standard input, makes up to 8 rounds, and prints `refused N`,
+// `none` or what is left of the model. What it prints for an input is `output` of it. No contract can say which bytes
+// are read or written; that the input is kept as it came, that the answer is the one that `output` gives, that its text
+// is written into a buffer and that as many bytes as it has are handed to standard output are proved. A read or a write
+// that fails is told on standard error, and then nothing more is printed.
 mod buffers;
 mod input;
 mod output;
@@ -43,12 +43,15 @@ fn main() {
     }
 }
 
-// The answer to an input of `len` bytes that ends in `tail`; where it is no longer than `start`, `start` begins with it.
-// A number by which `sizes` refuses the input is the one of its `output` (`head-output`). True where the whole text was printed.
+// The answer to an input of `len` bytes that ends in `tail`; where it is no longer than `start`, `start`
+// begins with it. A number by which `sizes` refuses the input is the one of its `output` (`head-output`). True
+// where the whole text was printed.
 fn answer(start: &[u8], tail: &[u8], len: usize, printed: &mut usize) -> bool
     requires { ⌜ (maxBook ≤ length (now start)) × ((bs : List ℕ) × Held bs (now start) (now tail) len) ⌝ }
     requires { ⌜ now printed ≡ 0 ⌝ }
-    ensures { λ r. ⌜ ((bs : List ℕ) → Held bs (now (start .entry)) (now (tail .entry)) len → r ≡ true → now (printed .exit) ≡ length (printedText bs)) ⌝ }
+    ensures { λ r.
+        ⌜ ((bs : List ℕ) → Held bs (now (start .entry)) (now (tail .entry)) len → r ≡ true →
+        now (printed .exit) ≡ length (printedText bs)) ⌝ }
 {
     match intake::sizes(tail, len) {
         SizesAnswer::Refused(number) => output::refused(number, printed),

@@ -1,5 +1,5 @@
-// Standard output, in few writes. `printed` counts the bytes that were written: so a contract can say that an answer's text is
-// printed once, and whole.
+// Standard output, in few writes. `printed` counts the bytes that were written: so a contract can say that an answer's
+// text is printed once, and whole.
 use libc::STDOUT_FILENO;
 use report::fill;
 use report::line_count;
@@ -55,7 +55,10 @@ pub fn reduced(
 ) -> bool
     requires { ⌜ Printable n m (now bounds) (now coefs) (now rhs) (now table) ⌝ }
     requires { ⌜ now printed ≡ 0 ⌝ }
-    ensures { λ r. ⌜ (r ≡ true → now (printed .exit) ≡ length (report n m rounds (now (bounds .entry)) (now (coefs .entry)) (now (rhs .entry)) (now (table .entry)))) ⌝ }
+    ensures { λ r.
+        let text = report n m rounds
+        (now (bounds .entry)) (now (coefs .entry)) (now (rhs .entry)) (now (table .entry)) in
+        ⌜ (r ≡ true → now (printed .exit) ≡ length text) ⌝ }
 {
     let count = line_count(n, m);
     let mut buf = io::large_buffer();

@@ -20,7 +20,11 @@ pub enum Answer {
 }
 
 fn answer_of(rounds: RoundsAnswer) -> Answer
-    ensures { λ r. ⌜ ((s : State) → answerText r (s .model .n) (s .model .m) (s .model .box) (s .model .rows .coefs) (s .model .rows .rhs) (s .table) ≡ textOf (roundsAnswer rounds) s) ⌝ }
+    ensures { λ r.
+        ⌜ ((s : State) →
+        answerText r (s .model .n) (s .model .m)
+        (s .model .box) (s .model .rows .coefs) (s .model .rows .rhs) (s .table) ≡
+        textOf (roundsAnswer rounds) s) ⌝ }
 {
     match rounds {
         RoundsAnswer::Refused(number) => Answer::Refused(number),
@@ -30,7 +34,8 @@ fn answer_of(rounds: RoundsAnswer) -> Answer
     }
 }
 
-// Reads the book into the lent buffers and makes the rounds there. `meaning`: what `output` of the book means for its points.
+// Reads the book into the lent buffers and makes the rounds there. `meaning`: what `output` of
+// the book means for its points.
 pub fn solve(
     n: usize,
     m: usize,
@@ -41,7 +46,9 @@ pub fn solve(
     table: &mut [u8],
 ) -> Answer
     requires { ⌜ Ready n m (now book) (now bounds) (now coefs) (now rhs) (now table) ⌝ }
-    ensures text { λ r. ⌜ answerText r n m (now (bounds .exit)) (now (coefs .exit)) (now (rhs .exit)) (now (table .exit)) ≡ output (now (book .entry)) ⌝ }
+    ensures text { λ r.
+        ⌜ answerText r n m (now (bounds .exit)) (now (coefs .exit)) (now (rhs .exit)) (now (table .exit)) ≡
+        output (now (book .entry)) ⌝ }
     ensures meaning { λ r. ⌜ OutputMeans (now (book .entry)) ⌝ }
 {
     if let SizesAnswer::Refused(number) = read(book, bounds, coefs, rhs) {

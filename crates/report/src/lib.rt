@@ -1,5 +1,6 @@
-// The text that `reduce` prints, written into a lent buffer. Its lines are counted from 0 (`lineAt`), and `fill` writes as many of
-// them as have room and says where to go on: a program prints a report by `fill`, writing out, and `fill` again from there.
+// The text that `reduce` prints, written into a lent buffer. Its lines are counted from 0 (`lineAt`), and `fill`
+// writes as many of them as have room and says where to go on: a program prints a report by `fill`, writing out,
+// and `fill` again from there.
 mod line;
 mod number;
 mod report;

@@ -2,7 +2,8 @@
 ghost use mathlib.Core.Path.{_≡_};
 ghost use Prim.Native.Nat.{_+_, _≤_};
 ghost use lib.ListN.{length};
-ghost use Rattle.report.specs.Report.{refusedLine, noneLine, reducedLine, variableLine, rowLine, implicationLine, isZeroRow, maxRowLine, maxShortLine};
+ghost use Rattle.report.specs.Report.{refusedLine, noneLine, reducedLine, variableLine, rowLine, implicationLine};
+ghost use Rattle.report.specs.Report.{isZeroRow, maxRowLine, maxShortLine};
 ghost use Rattle.report.specs.Text.{Wrote};
 use crate::number::write_byte;
 use crate::number::write_integer;

@@ -27,7 +27,8 @@ fn write_row_at(n: usize, coefs: &[i32], rhs: &[i32], r: usize, buf: &mut [u8], 
     requires { ⌜ r < length (now rhs) ⌝ }
     requires { ⌜ r * n + n ≤ length (now coefs) ⌝ }
     requires { ⌜ at + maxLine ≤ length (now buf) ⌝ }
-    ensures { λ r'. ⌜ Wrote (now (buf .entry)) at (rowAt n (now (coefs .entry)) (now (rhs .entry)) r) r' (now (buf .exit)) ⌝ }
+    ensures { λ r'.
+        ⌜ Wrote (now (buf .entry)) at (rowAt n (now (coefs .entry)) (now (rhs .entry)) r) r' (now (buf .exit)) ⌝ }
 {
     let start = r * n;
     let stop = start + n;
@@ -71,7 +72,10 @@ fn write_line(
     requires { ⌜ Printable n m (now bounds) (now coefs) (now rhs) (now table) ⌝ }
     requires { ⌜ i < lineCount n m ⌝ }
     requires { ⌜ at + maxLine ≤ length (now buf) ⌝ }
-    ensures { λ r. ⌜ Wrote (now (buf .entry)) at (lineAt n m rounds (now (bounds .entry)) (now (coefs .entry)) (now (rhs .entry)) (now (table .entry)) i) r (now (buf .exit)) ⌝ }
+    ensures { λ r.
+        let line = lineAt n m rounds
+        (now (bounds .entry)) (now (coefs .entry)) (now (rhs .entry)) (now (table .entry)) in
+        ⌜ Wrote (now (buf .entry)) at (line i) r (now (buf .exit)) ⌝ }
 {
     if i == 0 {
         return write_reduced(n as u32, m as u32, rounds, buf, at);
@@ -96,7 +100,8 @@ pub fn line_count(n: usize, m: usize) -> usize
     1 + (n + (m + 4 * (n * n)))
 }
 
-// Writes the report's lines from `from` on, as many as have room, at the start of the buffer: at least one where one is left.
+// Writes the report's lines from `from` on, as many as have room, at the start of the buffer: at
+// least one where one is left.
 pub fn fill(
     n: usize,
     m: usize,
@@ -111,7 +116,10 @@ pub fn fill(
     requires { ⌜ Printable n m (now bounds) (now coefs) (now rhs) (now table) ⌝ }
     requires { ⌜ from ≤ lineCount n m ⌝ }
     requires { ⌜ maxLine ≤ length (now buf) ⌝ }
-    ensures text { λ r. ⌜ Wrote (now (buf .entry)) 0 (chunk (lineAt n m rounds (now (bounds .entry)) (now (coefs .entry)) (now (rhs .entry)) (now (table .entry))) from (r .next)) (r .end) (now (buf .exit)) ⌝ }
+    ensures text { λ r.
+        let line = lineAt n m rounds
+        (now (bounds .entry)) (now (coefs .entry)) (now (rhs .entry)) (now (table .entry)) in
+        ⌜ Wrote (now (buf .entry)) 0 (chunk line from (r .next)) (r .end) (now (buf .exit)) ⌝ }
     ensures within { λ r. ⌜ (from ≤ r .next) × (r .next ≤ lineCount n m) ⌝ }
     ensures progress { λ r. ⌜ (from < lineCount n m → from < r .next) ⌝ }
 {

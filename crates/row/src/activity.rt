@@ -1,5 +1,5 @@
-// Row sums: the least and the greatest value of a row's left side over the box, and its widest term. At most 128 terms of
-// 10^6 · 32,768 each, so the sums stay far within an i64.
+// Row sums: the least and the greatest value of a row's left side over the box, and its widest term. At most 128 terms
+// of 10^6 · 32,768 each, so the sums stay far within an i64.
 ghost use mathlib.Core.Path.{_≡_};
 ghost use lib.ListN.{length};
 ghost use Rattle.integer.specs.Order.{maxZ};
@@ -72,8 +72,12 @@ pub struct Reach {
 // A coefficient of 0 adds nothing to either, so its bounds are not read.
 pub fn reach_of(coefs: &[i32], bounds: &[i32]) -> Reach
     requires { ⌜ ValidCoefs (length (now coefs)) (now coefs) (now bounds) ⌝ }
-    ensures least { λ r. ⌜ r .least ≡ minActivity (length (now (coefs .entry))) (now (coefs .entry)) (now (bounds .entry)) ⌝ }
-    ensures widest { λ r. ⌜ r .widest ≡ widestTerm (length (now (coefs .entry))) (now (coefs .entry)) (now (bounds .entry)) ⌝ }
+    ensures least { λ r.
+        let A = now (coefs .entry) in
+        ⌜ r .least ≡ minActivity (length A) A (now (bounds .entry)) ⌝ }
+    ensures widest { λ r.
+        let A = now (coefs .entry) in
+        ⌜ r .widest ≡ widestTerm (length A) A (now (bounds .entry)) ⌝ }
 {
     let mut least: i64 = 0;
     let mut widest: i64 = 0;

@@ -36,7 +36,8 @@ fn new_upper(a: i32, b: i64, least: i64, l: i32, u: i32) -> i32
     floor_div(room, g) as i32
 }
 
-// The lower bound that a row with a coefficient −g below 0 leaves: ceiling((least + g·u − b) / g) where that is above l.
+// The lower bound that a row with a coefficient −g below 0 leaves: ceiling((least + g·u − b) / g) where
+// that is above l.
 fn new_lower(a: i32, b: i64, least: i64, l: i32, u: i32) -> i32
     requires { ⌜ ImpliesBounds a b least l u ⌝ }
     requires { ⌜ a <ℤ pos 0 ⌝ }
@@ -54,7 +55,10 @@ fn new_lower(a: i32, b: i64, least: i64, l: i32, u: i32) -> i32
 pub fn tighten_bounds_at(a: i32, b: i64, least: i64, bounds: &mut [i32], j: usize) -> bool
     requires { ⌜ ImpliesBounds a b least (lower (now bounds) j) (upper (now bounds) j) ⌝ }
     requires { ⌜ 2 * j + 1 < length (now bounds) ⌝ }
-    ensures left { λ r. ⌜ now (bounds .exit) ≡ withBounds (now (bounds .entry)) j (newLower a b least (lower (now (bounds .entry)) j) (upper (now (bounds .entry)) j)) (newUpper a b least (lower (now (bounds .entry)) j) (upper (now (bounds .entry)) j)) ⌝ }
+    ensures left { λ r.
+        let B = now (bounds .entry) in
+        ⌜ now (bounds .exit) ≡
+        withBounds B j (newLower a b least (lower B j) (upper B j)) (newUpper a b least (lower B j) (upper B j)) ⌝ }
     ensures moved { λ r. ⌜ r ≡ not (stays a b least (lower (now (bounds .entry)) j) (upper (now (bounds .entry)) j)) ⌝ }
 {
     if a > 0 {
@@ -83,8 +87,12 @@ pub fn tighten_bounds_at(a: i32, b: i64, least: i64, bounds: &mut [i32], j: usiz
 // Gives each variable the bounds that the row implies, and says whether one moved.
 fn tighten_bounds(coefs: &[i32], b: i64, least: i64, bounds: &mut [i32]) -> bool
     requires { ⌜ ImpliesBox (length (now coefs)) (now coefs) b least (now bounds) ⌝ }
-    ensures left { λ r. ⌜ now (bounds .exit) ≡ impliedBox (length (now (coefs .entry))) (now (coefs .entry)) b least (now (bounds .entry)) ⌝ }
-    ensures moved { λ r. ⌜ r ≡ not (all (length (now (coefs .entry))) (staysAt (now (coefs .entry)) b least (now (bounds .entry)))) ⌝ }
+    ensures left { λ r.
+        let A = now (coefs .entry) in
+        ⌜ now (bounds .exit) ≡ impliedBox (length A) A b least (now (bounds .entry)) ⌝ }
+    ensures moved { λ r.
+        let A = now (coefs .entry) in
+        ⌜ r ≡ not (all (length A) (staysAt A b least (now (bounds .entry)))) ⌝ }
 {
     let mut moved = false;
     let mut j: usize = 0;
@@ -97,8 +105,8 @@ fn tighten_bounds(coefs: &[i32], b: i64, least: i64, bounds: &mut [i32]) -> bool
     moved
 }
 
-// Whether propagating the row would answer other than Unchanged: the same sweep, and nothing is written. A row that cannot be met
-// has b − least below 0, so one comparison tells both.
+// Whether propagating the row would answer other than Unchanged: the same sweep, and nothing is written. A row that
+// cannot be met has b − least below 0, so one comparison tells both.
 pub fn moves(coefs: &[i32], b: i32, bounds: &[i32]) -> bool
     requires { ⌜ ValidRow (length (now coefs)) (now coefs) b (now bounds) ⌝ }
     ensures { λ r. ⌜ r ≡ rowMoves (length (now (coefs .entry))) (now (coefs .entry)) b (now (bounds .entry)) ⌝ }
@@ -110,11 +118,16 @@ pub fn moves(coefs: &[i32], b: i32, bounds: &[i32]) -> bool
     (b as i64) - r.least < r.widest
 }
 
-// Propagates the row. Infeasible leaves the empty box in whole: the bounds are only touched once the row is known to be met.
+// Propagates the row. Infeasible leaves the empty box in whole: the bounds are only touched
+// once the row is known to be met.
 pub fn propagate_row(coefs: &[i32], b: i32, bounds: &mut [i32]) -> RowPropagation
     requires { ⌜ ValidRow (length (now coefs)) (now coefs) b (now bounds) ⌝ }
-    ensures answer { λ r. ⌜ propagationOutcome r ≡ propagateRow (length (now (coefs .entry))) (now (coefs .entry)) b (now (bounds .entry)) .outcome ⌝ }
-    ensures left { λ r. ⌜ now (bounds .exit) ≡ propagateRow (length (now (coefs .entry))) (now (coefs .entry)) b (now (bounds .entry)) .box ⌝ }
+    ensures answer { λ r.
+        let A = now (coefs .entry) in
+        ⌜ propagationOutcome r ≡ propagateRow (length A) A b (now (bounds .entry)) .outcome ⌝ }
+    ensures left { λ r.
+        let A = now (coefs .entry) in
+        ⌜ now (bounds .exit) ≡ propagateRow (length A) A b (now (bounds .entry)) .box ⌝ }
 {
     if model::is_empty(bounds) {
         return RowPropagation::Infeasible;

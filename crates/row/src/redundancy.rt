@@ -35,9 +35,15 @@ fn clear(xs: &mut [i32]) -> bool
 // Removes the row where no point of the box can break it (most ≤ b): it becomes 0 ≤ 0.
 pub fn remove_redundant_row(coefs: &mut [i32], b: &mut i32, bounds: &[i32]) -> RowRemoval
     requires { ⌜ ValidRow (length (now coefs)) (now coefs) (now b) (now bounds) ⌝ }
-    ensures answer { λ r. ⌜ removalOutcome r ≡ removeRedundantRow (length (now (coefs .entry))) (now (coefs .entry)) (now (b .entry)) (now (bounds .entry)) .outcome ⌝ }
-    ensures row { λ r. ⌜ now (coefs .exit) ≡ removeRedundantRow (length (now (coefs .entry))) (now (coefs .entry)) (now (b .entry)) (now (bounds .entry)) .coefs ⌝ }
-    ensures side { λ r. ⌜ now (b .exit) ≡ removeRedundantRow (length (now (coefs .entry))) (now (coefs .entry)) (now (b .entry)) (now (bounds .entry)) .rhs ⌝ }
+    ensures answer { λ r.
+        let A = now (coefs .entry) in
+        ⌜ removalOutcome r ≡ removeRedundantRow (length A) A (now (b .entry)) (now (bounds .entry)) .outcome ⌝ }
+    ensures row { λ r.
+        let A = now (coefs .entry) in
+        ⌜ now (coefs .exit) ≡ removeRedundantRow (length A) A (now (b .entry)) (now (bounds .entry)) .coefs ⌝ }
+    ensures side { λ r.
+        let A = now (coefs .entry) in
+        ⌜ now (b .exit) ≡ removeRedundantRow (length A) A (now (b .entry)) (now (bounds .entry)) .rhs ⌝ }
 {
     if model::is_empty(bounds) {
         return RowRemoval::Infeasible;

@@ -8,6 +8,9 @@ ghost use Rattle.row.specs.Answers.{tighteningOutcome};
 ghost use Rattle.row.specs.Tightening.{mayTighten, tightenCoefficient};
 ghost use Rattle.row.specs.ValidRow.{ValidRow};
 
+// No right side is tightened to less (01: "it is not made if the new b is under −1,000,000,000").
+const MIN_RHS: i64 = -1_000_000_000;
+
 // 01's None, Sharpened, Same.
 pub enum CoefficientTightening {
     Infeasible,
@@ -15,8 +18,8 @@ pub enum CoefficientTightening {
     Unchanged,
 }
 
-// The rule's test, for a row with the greatest activity `most`. Where it fails, tightening answers Unchanged (`tighten-fails`), so a
-// caller that knows `most` of a row need not have it found anew for each variable.
+// The rule's test, for a row with the greatest activity `most`. Where it fails, tightening answers Unchanged
+// (`tighten-fails`), so a caller that knows `most` of a row need not have it found anew for each variable.
 pub fn may_tighten(a: i32, b: i32, most: i64) -> bool
     requires { ⌜ Within 1000000 a ⌝ }
     requires { ⌜ Within 5000000000000 most ⌝ }
@@ -32,9 +35,9 @@ pub fn may_tighten(a: i32, b: i32, most: i64) -> bool
     most - (a as i64) < rhs
 }
 
-// Tightens the coefficient of the free binary variable k. Where the row can be broken (most > b) but not without x_k, or not
-// with it (most − |a| < b), the coefficient shrinks to what is needed to keep the same integer points: for a > 0 the right side
-// falls by as much as the coefficient, for a < 0 it stays.
+// Tightens the coefficient of the free binary variable k. Where the row can be broken (most > b) but not without x_k,
+// or not with it (most − |a| < b), the coefficient shrinks to what is needed to keep the same integer points: for a > 0
+// the right side falls by as much as the coefficient, for a < 0 it stays.
 pub fn tighten_coefficient(
     coefs: &mut [i32],
     b: &mut i32,
@@ -43,9 +46,15 @@ pub fn tighten_coefficient(
 ) -> CoefficientTightening
     requires { ⌜ ValidRow (length (now coefs)) (now coefs) (now b) (now bounds) ⌝ }
     requires { ⌜ k < length (now coefs) ⌝ }
-    ensures answer { λ r. ⌜ tighteningOutcome r ≡ tightenCoefficient (length (now (coefs .entry))) (now (coefs .entry)) (now (b .entry)) (now (bounds .entry)) k .outcome ⌝ }
-    ensures row { λ r. ⌜ now (coefs .exit) ≡ tightenCoefficient (length (now (coefs .entry))) (now (coefs .entry)) (now (b .entry)) (now (bounds .entry)) k .coefs ⌝ }
-    ensures side { λ r. ⌜ now (b .exit) ≡ tightenCoefficient (length (now (coefs .entry))) (now (coefs .entry)) (now (b .entry)) (now (bounds .entry)) k .rhs ⌝ }
+    ensures answer { λ r.
+        let A = now (coefs .entry) in
+        ⌜ tighteningOutcome r ≡ tightenCoefficient (length A) A (now (b .entry)) (now (bounds .entry)) k .outcome ⌝ }
+    ensures row { λ r.
+        let A = now (coefs .entry) in
+        ⌜ now (coefs .exit) ≡ tightenCoefficient (length A) A (now (b .entry)) (now (bounds .entry)) k .coefs ⌝ }
+    ensures side { λ r.
+        let A = now (coefs .entry) in
+        ⌜ now (b .exit) ≡ tightenCoefficient (length A) A (now (b .entry)) (now (bounds .entry)) k .rhs ⌝ }
 {
     if model::is_empty(bounds) {
         return CoefficientTightening::Infeasible;
@@ -63,7 +72,7 @@ pub fn tighten_coefficient(
         if rhs <= most - a {
             return CoefficientTightening::Unchanged;
         }
-        if most - a < -1_000_000_000 {
+        if most - a < MIN_RHS {
             return CoefficientTightening::Unchanged;
         }
         coefs[k] = (most - rhs) as i32;

@@ -14,8 +14,8 @@ use test_support::print::count;
 use test_support::print::line;
 use test_support::print::text;
 
-// A tally has these counts, in this order: models, their integer points, calls, calls that disagreed, pairs of runs whose ends do not
-// meet.
+// A tally has these counts, in this order: models, their integer points, calls, calls that disagreed, pairs of
+// runs whose ends do not meet.
 const MODELS: usize = 0;
 
 const POINTS: usize = 1;
@@ -147,8 +147,8 @@ pub fn families() {
     family(b"n 4 m 3", 4, 1_000, 0);
 }
 
-// The same comparison over calls that leave something wrong: a right side lowered with a negative coefficient, an upper bound cut, an
-// upper bound moved out, an implication invented, None said.
+// The same comparison over calls that leave something wrong: a right side lowered with a negative coefficient, an upper
+// bound cut, an upper bound moved out, an implication invented, None said.
 pub fn lies() {
     family(b"lie 1", 2, 20_000, 1);
     family(b"lie 2", 2, 2_000, 2);

@@ -1,5 +1,5 @@
-// The points of a model of at most four variables, and what holds at them. The points are those of a grid: every whole number from
-// -2 to 3 for each variable.
+// The points of a model of at most four variables, and what holds at them. The points are those of a grid: every whole
+// number from -2 to 3 for each variable.
 ghost use Prim.Native.Nat.{_≤_};
 
 const GRID: [i32; 6] = [0, 1, 2, 3, -2, -1];

@@ -15,7 +15,8 @@ fn is_raised(before: &[i32], coefs: &[i32]) -> bool {
     false
 }
 
-// The predecessor's mistake in a sharpen: the right side lowered with a negative coefficient, which can only go from -2 to -1 here.
+// The predecessor's mistake in a sharpen: the right side lowered with a negative coefficient, which
+// can only go from -2 to -1 here.
 fn lower(code: usize, call: [u32; 4], coefs: &[i32], rhs: &mut [i32]) {
     if call[0] != 4 {
         return;
@@ -44,8 +45,8 @@ fn set_byte(table: &mut [u8], at: usize) {
     }
 }
 
-// 1: a right side lowered; 2: the upper bound of variable 0 cut to 0; 3: moved out to 3; 4: the implication that variable 0 is 0
-// where it is 1.
+// 1: a right side lowered; 2: the upper bound of variable 0 cut to 0; 3: moved out to 3; 4: the implication that
+// variable 0 is 0 where it is 1.
 pub fn spoil(
     lie: u32,
     code: usize,

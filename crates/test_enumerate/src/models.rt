@@ -1,5 +1,5 @@
-// The models by number. The digits of the number choose the box of each of four variables, each of twelve coefficients and each of
-// three right sides; a family uses the first of them.
+// The models by number. The digits of the number choose the box of each of four variables, each of twelve coefficients
+// and each of three right sides; a family uses the first of them.
 
 const LOWER: [i32; 10] = [0, 0, 0, 1, 1, 2, -1, -1, -1, -1];
 

@@ -1,5 +1,5 @@
-// Two runs that part with the same model: visits, a settle and probes upwards, and probes, visits and a settle of one pass downwards,
-// until the rest call says yes.
+// Two runs that part with the same model: visits, a settle and probes upwards, and probes, visits and a settle of one
+// pass downwards, until the rest call says yes.
 use crate::attempt::agrees;
 use crate::models::put_model;
 use crate::rooms::bounds_part;

@@ -2,8 +2,10 @@
 //   name NAME                      writes the name
 //   model NAME                     the same as a line of its own
 //   head NAME                      writes the name with the bounds, and the rows as `reduce` prints them
-//   write bounds                   writes the bounds; coefs, rhs and table likewise; matrix, implications: as `reduce` prints them
-//   all ROW VARIABLE BUDGET        the six calls, each on its own copy of the model: the answer and the numbers that changed
+//   write bounds                   writes the bounds; coefs, rhs and table likewise;
+//                                  matrix, implications: as `reduce` prints them
+//   all ROW VARIABLE BUDGET        the six calls, each on its own copy of the model: the answer and the numbers
+//                                  that changed
 //   1 ROW VARIABLE BUDGET          one of them, by the number of its kind; 6 is the rest call
 //   CALL KIND ROW VARIABLE BUDGET  one on the model itself: the record and the answer
 //   execute LENGTH X ..            runs the list of as many numbers and writes the four counts

@@ -1,5 +1,5 @@
-// A call on a copy of the model: its answer, and the numbers that changed, each as place = value. No place behind an answer means that
-// every number stayed.
+// A call on a copy of the model: its answer, and the numbers that changed, each as place = value. No place behind an
+// answer means that every number stayed.
 use crate::in_words;
 use crate::made;
 use crate::parts::bytes_part_mut;

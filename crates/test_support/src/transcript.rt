@@ -1,4 +1,5 @@
-// An example as a transcript: how it starts, each call with its answer, and the rows and implications as `reduce` prints them.
+// An example as a transcript: how it starts, each call with its answer, and the rows and
+// implications as `reduce` prints them.
 use crate::in_words;
 use crate::made;
 use crate::print::count;

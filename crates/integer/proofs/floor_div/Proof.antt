@@ -1,3 +1,5 @@
+-- `integer::floor_div` is floorDiv: the machine's quotient where p is at least 0, else one less than that of p + 1 (`quot-floor`,
+-- `quot-floor-neg`). Assumes nothing.
 use lib.IntN.{pos, _+ℤ_, _-ℤ_}
 use lib.Signed.{_≤ℤ_, _<ℤ_, quotZ}
 use mir.Syntax.{w64}

@@ -1,3 +1,5 @@
+-- `report::number::write_integers` writes a field for each number: after j of them the text is that of j fields, and no field is
+-- longer than 12 bytes. Assumes nothing.
 use Prim.Native.Nat.{_*_, _+_, _-_, _≤_}
 use lib.ListN.{length}
 use mathlib.Core.Path.{_≡_}

@@ -7,14 +7,14 @@ use mathlib.Core.List.{List}
 use mathlib.Core.Path.{_∙_, _≡_, ap, refl, sym}
 use mir.Facts.{toZ-ofZ}
 use mir.Syntax.{w32, w64}
-use mir.Val.{SFits, ofZ, toZ}
+use mir.Val.{ofZ, toZ}
 use native.Mathlib.Omega.{arith}
 use Rattle.integer.specs.Index.{sum as total}
 use Rattle.integer.specs.Order.{maxZ}
 use Rattle.integer.specs.Range.{Within}
 use Rattle.integer.proofs.RangeLaws.{within-fits}
 use Rattle.model.specs.Box.{at, lower, upper}
-use Rattle.row.specs.Activity.{greatest, minActivity, minTerm, termWidth, widestTerm}
+use Rattle.row.specs.Activity.{greatest, minActivity, minTerm, widestTerm}
 use Rattle.row.specs.ValidRow.{ValidCoefs}
 use Rattle.row.proofs.ReachLaws.{greatest-more, least-zero, widest-zero, minTermAt, widthAt}
 use Rattle.row.proofs.RowLoops.{bounds-small, coefs-small, min-terms, turn, turn-fits}

@@ -6,7 +6,6 @@ use mathlib.Core.Path.{_∙_, _≡_, ap₂}
 use mir.Facts.{toZ-ofZ}
 use mir.Syntax.{w32, w64}
 use mir.Val.{SFits, ofZ, toZ}
-use Rattle.integer.specs.Order.{maxZ}
 use Rattle.integer.proofs.Parts.{zarith, zify}
 use Rattle.integer.proofs.RangeLaws.{within-fits}
 use Rattle.integer.proofs.Reading.{gt-read, le-read}

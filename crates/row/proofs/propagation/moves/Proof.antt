@@ -1,8 +1,7 @@
 -- `row::propagation::moves` is rowMoves: in a box that is not empty, one comparison of the room with the widest term tells
 -- (`moves-test`). Assumes nothing.
 use borrow.Author.Needs.{needs}
-use mathlib.Core.Bool.{false}
-use mathlib.Core.Path.{_∙_, _≡_, ap₂, sym}
+use mathlib.Core.Path.{_∙_, ap₂, sym}
 use Rattle.integer.proofs.Reading.{wide-fits}
 use lib.Signed.{ltZ}
 use Rattle.row.proofs.ReachLaws.{moves-empty, moves-test, slack-fits, slack-read, widest-read}

@@ -4,7 +4,7 @@ use lib.Signed.{_<ℤ_, _≤ℤ_, ltZ}
 use mathlib.Core.Path.{_∙_, _≡_, ap₂, refl}
 use mir.Facts.{toZ-ofZ}
 use mir.Syntax.{w32, w64}
-use mir.Val.{SFits, ofZ, toZ}
+use mir.Val.{ofZ, toZ}
 use Rattle.integer.proofs.Parts.{lt-is, lt-isn't}
 use Rattle.integer.proofs.RangeLaws.{within-add, within-fits, within-sub}
 use Rattle.integer.proofs.Reading.{gt-read, le-read, read, read-wide, wide-fits}
