@@ -9,8 +9,8 @@ use Rattle.model.specs.Model.{Model}
 use Rattle.model.specs.State.{State}
 use Rattle.semantics.specs.Call.{Call, Kind, hasBudget, hasRow, hasTable, hasVariable, isUnknown, kindOf, lengthsOf}
 
--- the largest budget, 01's: one more than 128 × 65,535, the most that bounds in range can be apart in all. "The largest budget remains"
--- (02, C-22), though an accepted model is at most 128 × 4,096 wide (`LargestBudget`).
+-- the largest budget, 01's: one more than 128 × 65,535, the most that bounds in range can be apart in all. "The largest budget
+-- remains" (02, C-22), though an accepted model is at most 128 × 4,096 wide (`LargestBudget`).
 abbrev pub maxBudget : ℕ
 maxBudget = 8_388_481
 

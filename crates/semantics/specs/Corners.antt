@@ -104,7 +104,7 @@ corners =
     ∷ (let s = single (pos 0) (negℤ (pos 1_000_000_001)) (pos 0) (pos 5) in is (perform s (propagateRowCall s 0)) (kept s (refused 9)))
     ∷ (let s = single (pos 0) (pos 1_000_000_001) (pos 0) (pos 5) in is (perform s (propagateRowCall s 0)) (kept s (refused 9)))
     ∷ (let s = single (pos 1_000_000) (pos 1_000_000_000) (pos 0) (pos 5) in is (perform s (propagateRowCall s 0)) (kept s (propagatedRow unchanged)))
-    -- 23: a width of 4,096 is accepted and 4,097 refused, at 0, across it and at the ends of the range; the empty box has no such width
+    -- 23: a width of 4,096 is accepted and 4,097 refused, from 0, across 0 and at the ends of the range
     ∷ (let s = single (pos 0) (pos 5) (pos 0) (pos 4_096) in is (perform s (propagateRowCall s 0)) (kept s (propagatedRow unchanged)))
     ∷ (let s = single (pos 0) (pos 5) (pos 0) (pos 4_097) in is (perform s (propagateRowCall s 0)) (kept s (refused 23)))
     ∷ (let s = single (pos 0) (pos 5) (negℤ (pos 2_048)) (pos 2_048) in is (perform s (propagateRowCall s 0)) (kept s (propagatedRow unchanged)))
@@ -120,7 +120,7 @@ corners =
     ∷ is (perform wide (callOn wide 6 0 0 1)) (kept wide (refused 23))
     ∷ is (restFault wide) 23
     ∷ is (runList wide []) (record { answer = refusedList 23; state = wide })
-    -- 7 before 23, whichever variable is too wide; and 23 where another variable has l = 1 and u = 0 is 7: that box is not the empty one
+    -- 7 before 23, whichever variable is too wide; a box of which one variable has l = 1 and u = 0 is not the empty one
     ∷ (let s = withBox wide (pos 0 ∷ pos 4_097 ∷ pos 3 ∷ pos 2 ∷ []) (wide .table) in is (perform s (propagateRowCall s 0)) (kept s (refused 7)))
     ∷ (let s = withBox wide (pos 1 ∷ pos 0 ∷ pos 0 ∷ pos 4_097 ∷ []) (wide .table) in is (perform s (propagateRowCall s 0)) (kept s (refused 7)))
     -- 10: a table byte of 2 refuses a probe, and no call that is lent no table

@@ -26,7 +26,8 @@ pub record LengthsFit (s : State) (c : Call) : Type 0 where
   pub rhs : (c .lengths .rhs ≡ length (s .model .rows .rhs)) × (length (s .model .rows .rhs) ≡ c .m)
   pub table : T (hasTable (kindOf (c .kind))) → (c .lengths .table ≡ length (s .table)) × (length (s .table) ≡ 4 * (c .n * c .n))
 
--- Check number N passes, or does not apply; in the order in which they are made. Numbers that are no check of a call (1, 2 and 4 are a book's) pass.
+-- Check number N passes, or does not apply; they stand in the order in which they are made. Numbers that are no check of a call
+-- (1, 2 and 4 are a book's) pass.
 pub record Passes (N : ℕ) (s : State) (c : Call) : Type 0 where
   pub check3 : N ≡ 3 → (1 ≤ c .n) × (c .n ≤ maxVariables) × (c .m ≤ maxRows)
   pub check5 : N ≡ 5 → LengthsFit s c
