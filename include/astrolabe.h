@@ -30,8 +30,8 @@
  * A FREE BINARY VARIABLE (01's free 0-1) is one whose bounds are now 0 and 1.
  *
  * WHAT IS PROMISED, and proved for every input: each call does exactly what the specification
- * (document 01) says; the integer points after it are those before it, and no fractional point is
- * added; a call answers INFEASIBLE only where no integer point exists.
+ * (document 01, and 02 where it changes 01) says; the integer points after it are those before it, and
+ * no fractional point is added; a call answers INFEASIBLE only where no integer point exists.
  *
  * REFUSALS. Every function returns ASTROLABE_OK (0), or the number of the first check that fails. The
  * order of the checks is that of the numbers but for 23, which came later and stands straight after 7:
