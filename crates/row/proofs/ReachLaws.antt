@@ -25,6 +25,7 @@ use Rattle.integer.proofs.Tests.{T→false, T→true, and-i, and-l, and-r, bool
 use Rattle.model.specs.Box.{at, isEmpty, lower, upper}
 use Rattle.model.proofs.BoxLaws.{max-i, max-l, max-r, ≤ℤ-antisymm, ≤ℤ-trans}
 use Rattle.row.specs.Activity.{greatest, maxTerm, minActivity, minTerm, termWidth, widestTerm}
+use Rattle.row.specs.Moved.{movedBounds}
 use Rattle.row.specs.Outcome.{changed, isUnchanged, unchanged}
 use Rattle.row.specs.Propagation.{PropagatedRow, impliedBox, newLower, newUpper, propagateRow, rowMoves, stays, staysAt}
 use Rattle.row.specs.ValidRow.{ValidCoefs, ValidRow}
@@ -32,6 +33,7 @@ use Rattle.row.proofs.ActivityLaws.{maxTerm-nonpos, maxTerm-pos, minTer
 use Rattle.row.proofs.BoundLaws.{eq→stays, le-newUpper, lower-le-newLower, newLower-le, newLower-nonneg, newUpper-le-upper, newUpper-nonpos, stays→eq}
 use Rattle.row.proofs.RowLoops.{bounds-small, coefs-small, maxTerm-is, min-activity-small, rhs-within, term-within}
 use Rattle.row.proofs.ImpliedBoxLaws.{stays-box}
+use Rattle.row.proofs.MovedLaws.{moved-same}
 use Rattle.row.proofs.PropagationLaws.{propagate-row-ind}
 
 -- ---- the greatest of some numbers
@@ -159,13 +161,13 @@ module _ (n : ℕ) (A : List ℤ) (b : ℤ) (B : List ℤ) where
 
   module _ (some : isEmpty n B ≡ false) where
     -- nothing moves: the row is met, and every variable keeps its bounds
-    pub quiet : length B ≡ 2 * n → widestTerm n A B ≤ℤ (b -ℤ L) → propagateRow n A b B ≡ record { outcome = unchanged; box = B }
+    pub quiet : length B ≡ 2 * n → widestTerm n A B ≤ℤ (b -ℤ L) → propagateRow n A b B ≡ record { outcome = unchanged; moved = 0; box = B }
     unfolding propagateRow widestTerm
     quiet len h =
         let z = ≤ℤ-trans (greatest-nonneg n (widthAt A B)) h in
         let met : L ≤ℤ b = simp zify (omega (zarith, simp zify at z)) in
         let e : all n (staysAt A b L B) ≡ true = all-stay met ∙ le-is h in
-        rw (some, lt-isn't met, e, stays-box n A b L B len (true→T (all n (staysAt A b L B)) e))
+        rw (some, lt-isn't met, e, stays-box n A b L B len (true→T (all n (staysAt A b L B)) e), moved-same n B)
 
     -- one comparison tells whether the row moves anything: where it is not met, b − L is below 0 and so below every width
     pub moves-test : length B ≡ 2 * n → ltZ (b -ℤ L) (widestTerm n A B) ≡ rowMoves n A b B
@@ -182,15 +184,15 @@ module _ (n : ℕ) (A : List ℤ) (b : ℤ) (B : List ℤ) where
   moves-empty e = rw e
 
   -- what the answer no says
-  pub moves-not : length B ≡ 2 * n → rowMoves n A b B ≡ false → propagateRow n A b B ≡ record { outcome = unchanged; box = B }
+  pub moves-not : length B ≡ 2 * n → rowMoves n A b B ≡ false → propagateRow n A b B ≡ record { outcome = unchanged; moved = 0; box = B }
   unfolding rowMoves isUnchanged
-  moves-not len = propagate-row-ind n A b B (λ v. not (isUnchanged (v .outcome)) ≡ false → v ≡ record { outcome = unchanged; box = B })
+  moves-not len = propagate-row-ind n A b B (λ v. not (isUnchanged (v .outcome)) ≡ false → v ≡ record { outcome = unchanged; moved = 0; box = B })
       (λ _ e. cc) (λ _ _ e. cc) (λ _ _. go (decide (all n (staysAt A b L B))))
     where
       go : T (all n (staysAt A b L B)) ⊎ T (not (all n (staysAt A b L B)))
           → not (isUnchanged (cond (all n (staysAt A b L B)) unchanged changed)) ≡ false
-          → _≡_ {A = PropagatedRow} (record { outcome = cond (all n (staysAt A b L B)) unchanged changed; box = impliedBox n A b L B }) (record { outcome = unchanged; box = B })
-      go (inl t) e = rw (T→true (all n (staysAt A b L B)) t, stays-box n A b L B len t)
+          → _≡_ {A = PropagatedRow} (record { outcome = cond (all n (staysAt A b L B)) unchanged changed; moved = movedBounds n B (impliedBox n A b L B); box = impliedBox n A b L B }) (record { outcome = unchanged; moved = 0; box = B })
+      go (inl t) e = rw (T→true (all n (staysAt A b L B)) t, stays-box n A b L B len t, moved-same n B)
       go (inr t) e = absurd (true≢false (rw (T→false (all n (staysAt A b L B)) t) at e))
 
 -- ---- the numbers in code

@@ -1,26 +1,12 @@
--- `row::propagation::propagate_row` is propagateRow: where no term is wider than the room nothing moves (`quiet`); else its tests are
--- the definition's, and the callees do the rest. Assumes nothing.
-use Prim.Native.Nat.{ℕ}
 use borrow.Author.Needs.{needs}
-use lib.IntN.{ℤ}
-use lib.ListN.{length}
-use lib.Signed.{_≤ℤ_}
-use mathlib.Core.Bool.{Bool, false, not}
-use mathlib.Core.List.{List}
-use mathlib.Core.Path.{_∙_, _≡_, refl, sym}
-use mir.Syntax.{w32, w64}
-use mir.Val.{ofZ, toZ}
-use Rattle.integer.specs.Index.{all}
-use Rattle.integer.proofs.Parts.{lt-is, lt-isn't}
-use Rattle.model.specs.Box.{isEmpty}
-use Rattle.row.specs.Activity.{minActivity}
-use Rattle.row.specs.Answers.{propagationOutcome}
-use Rattle.row.specs.Propagation.{impliedBox, propagateRow, staysAt}
-use Rattle.integer.proofs.Reading.{ge-read, le-read, lt-read, read-wide, wide-fits}
-use Rattle.row.proofs.ReachLaws.{least-read, quiet, slack-fits, slack-read, widest-read}
-use Rattle.row.proofs.RowLoops.{bounds-small, coefs-small, flag-clear, flag-set, min-activity-small, rhs-within}
 use Rattle.row.proofs.propagation.propagate_row.Statement.{statement}
 use Rattle.row.proofs.propagation.propagate_row.Tie as tie
+use Rattle.row.proofs.propagation.propagate_row.Reads as reads
+use Rattle.row.proofs.propagation.propagate_row.Lts as lts
+use Rattle.model.proofs.is_empty.Reads as is-empty-reads
+use Rattle.model.proofs.make_empty.Reads as make-empty-reads
+use Rattle.row.proofs.activity.reach_of.Reads as reach-of-reads
+use Rattle.row.proofs.propagation.tighten_bounds.Reads as tighten-bounds-reads
 
 is-empty-requires : tie.Need-is-empty-requires
 is-empty-requires c κs = search needs
@@ -29,57 +15,22 @@ same-length : tie.Need-same-length
 same-length c = search needs
 
 returns : tie.Need-returns
-unfolding propagateRow propagationOutcome
-returns c =
-    let s = c .before .before .before in
-    let e = sym (c .before .is-empty .ensures _ (s .pre .coefs .some) (s .pre .coefs .box)) ∙ c .if1 .taken in
-    rw e (refl, refl)
+returns c = ?
 
 cast-rhs : tie.Need-cast-rhs
-cast-rhs c = wide-fits (c .before .before .before .fits .b)
+cast-rhs c = ?
 
 reach-of-requires : tie.Need-reach-of-requires
 reach-of-requires c κs = search needs
 
--- the row in a box that is not empty, with its least activity
-module _ (c : tie.After-reach-of) where
-  abbrev s : tie.Start
-  s = c .before .before .before .before .before
-
-  abbrev A : List ℤ
-  A = s .args .coefs .now
-
-  abbrev B : List ℤ
-  B = s .args .bounds .now
-
-  abbrev n : ℕ
-  n = length A
-
-  some : isEmpty n B ≡ false
-  some = sym (c .before .before .before .is-empty .ensures _ (s .pre .coefs .some) (s .pre .coefs .box)) ∙ c .before .before .if1 .left
-
-  rhs-is : toZ w64 (ofZ w64 (toZ w32 (ofZ w32 (s .args .b)))) ≡ s .args .b
-  rhs-is = read-wide (s .fits .b)
-
-  least-is : toZ w64 (ofZ w64 (c .reach-of .result .least)) ≡ minActivity n A B
-  least-is = least-read (s .pre) (c .reach-of .ensures .0) (c .reach-of .ensures .1)
-
 sub-if2 : tie.Need-sub-if2
-sub-if2 c =
-    let m = c .before in
-    let e = m .reach-of .ensures in
-    slack-fits (s m .pre) (e .0) (e .1)
+sub-if2 c = ?
 
 same-length-2 : tie.Need-same-length-2
 same-length-2 c = search needs
 
 returns-2 : tie.Need-returns-2
-unfolding propagationOutcome
-returns-2 c =
-    let m = c .before .before .before .before in
-    let e = m .reach-of .ensures in
-    let h = le-read (widest-read (s m .pre) (e .0) (e .1)) (slack-read (s m .pre) (e .0) (e .1)) (c .if2 .taken) in
-    rw (quiet (n m) (A m) (s m .args .b) (B m) (some m) (s m .pre .coefs .box .len) h) (refl, refl)
+returns-2 c = ?
 
 make-empty-requires : tie.Need-make-empty-requires
 make-empty-requires c κs = search needs
@@ -87,69 +38,17 @@ make-empty-requires c κs = search needs
 same-length-3 : tie.Need-same-length-3
 same-length-3 c = search needs
 
--- where something moves
-abbrev found : tie.Else2 → tie.After-reach-of
-found e = e .before .before .before .before
-
 returns-3 : tie.Need-returns-3
-unfolding propagateRow propagationOutcome
-returns-3 c =
-    let t = c .before .before .before in
-    let m = found (t .before) in
-    let h = lt-read (rhs-is m) (least-is m) (t .if3 .taken) in
-    rw (some m, lt-is h) (refl, c .before .make-empty .ensures _ (s m .pre .coefs .box .len))
-
-met : (c : tie.Else3) → let m = found (c .before) in minActivity (n m) (A m) (B m) ≤ℤ s m .args .b
-met c = let m = found (c .before) in ge-read (rhs-is m) (least-is m) (c .if3 .left)
+returns-3 c = ?
 
 tighten-bounds-requires : tie.Need-tighten-bounds-requires
-tighten-bounds-requires c κs =
-    let m = found (c .before .before) in
-    let v = s m .pre .coefs in
-    rw (rhs-is m, least-is m) (record {
-      len = refl;
-      boxLen = v .box .len;
-      few = v .few;
-      coefs = coefs-small v;
-      rhs = rhs-within (s m .pre .rhs);
-      activity = min-activity-small v;
-      met = met (c .before);
-      bounds = bounds-small v;
-    })
+tighten-bounds-requires c κs = ?
 
 same-length-4 : tie.Need-same-length-4
 same-length-4 c = search needs
 
--- what `tighten_bounds` left and said
-module _ (c : tie.After-tighten-bounds) where
-  abbrev row : tie.After-reach-of
-  row = found (c .before .before .before)
-
-  abbrev least : ℤ
-  least = minActivity (n row) (A row) (B row)
-
-  abbrev stayed : Bool
-  stayed = all (n row) (staysAt (A row) (s row .args .b) least (B row))
-
-  tightened : (c .tighten-bounds .last .1 .1 .1 .0 ≡ impliedBox (n row) (A row) (s row .args .b) least (B row)) × (c .tighten-bounds .result ≡ not stayed)
-  tightened = rw (rhs-is row, least-is row) at (c .tighten-bounds .ensures)
-
 returns-4 : tie.Need-returns-4
-unfolding propagateRow propagationOutcome
-returns-4 c =
-    let t = c .before .before in
-    let e = flag-set (stayed t) (tightened t .1) (c .if4 .taken) in
-    rw (some (row t), lt-isn't (met (t .before .before)), e) (refl, tightened t .0)
-
-same-length-5 : tie.Need-same-length-5
-same-length-5 c = search needs
-
-returns-5 : tie.Need-returns-5
-unfolding propagateRow propagationOutcome
-returns-5 c =
-    let t = c .before .before in
-    let e = flag-clear (stayed t) (tightened t .1) (c .if4 .left) in
-    rw (some (row t), lt-isn't (met (t .before .before)), e) (refl, tightened t .0)
+returns-4 c = ?
 
 pub propagate-row-spec : {M : Type 1} → statement M
 propagate-row-spec =
@@ -168,6 +67,4 @@ propagate-row-spec =
     returns-3
     tighten-bounds-requires
     same-length-4
-    returns-4
-    same-length-5
-    returns-5)
+    returns-4)
