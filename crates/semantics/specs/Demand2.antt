@@ -30,8 +30,8 @@ PassesWithin budget passes = (1 ≤ passes) × (passes ≤ budget)
 -- Same: a visit, a sharpen or a drop that changed nothing
 unfoldable pub AnswersSame : Answer → Type 0
 AnswersSame (refused number) = ⊥
-AnswersSame (propagatedRow o) = o ≡ unchanged
-AnswersSame (propagated e p) = ⊥
+AnswersSame (propagatedRow o k) = o ≡ unchanged
+AnswersSame (propagated e p k) = ⊥
 AnswersSame (probed e s0 s1) = ⊥
 AnswersSame (tightened o) = o ≡ unchanged
 AnswersSame (removed o) = o ≡ unchanged
@@ -64,7 +64,7 @@ pub record CallMeans (s : State) (c : Call) : Type 0 where
   pub noPoint : T (answersNone (perform s c .answer)) → (x : List ℤ) → PointOf s x → ⊥
   -- "every accepted call ends within its pass budget": a settle with 1 to budget passes, a probe's sides likewise, or 0 and 0 on
   -- the empty box
-  pub passes : (e : Ending) (p : ℕ) → perform s c .answer ≡ propagated e p → PassesWithin (c .budget) p
+  pub passes : (e : Ending) (p k : ℕ) → perform s c .answer ≡ propagated e p k → PassesWithin (c .budget) p
   pub sidePasses : (e : ProbeEnding) (s0 s1 : Side) → perform s c .answer ≡ probed e s0 s1 → s .model .box ≢ emptyBox (s .model .n)
       → PassesWithin (c .budget) (s0 .passes) × PassesWithin (c .budget) (s1 .passes)
   pub emptySides : (e : ProbeEnding) (s0 s1 : Side) → perform s c .answer ≡ probed e s0 s1 → s .model .box ≡ emptyBox (s .model .n)

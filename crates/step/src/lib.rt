@@ -49,7 +49,7 @@ fn class_of_row(p: RowPropagation) -> CallClass
 {
     match p {
         RowPropagation::Infeasible => CallClass::Infeasible,
-        RowPropagation::Tightened => CallClass::Changed,
+        RowPropagation::Tightened(_) => CallClass::Changed,
         RowPropagation::Unchanged => CallClass::Unchanged,
     }
 }
@@ -74,20 +74,19 @@ fn class_of_removal(t: RowRemoval) -> CallClass
     }
 }
 
-// A propagation changed a bound unless its first pass moved nothing.
+// A propagation changed a bound if it moved one.
 fn class_of_propagation(p: Propagation) -> CallClass
     ensures { λ r. ⌜ classIs r ≡ propagationClass p ⌝ }
 {
     match p {
-        Propagation::Infeasible(_) => CallClass::Infeasible,
-        Propagation::Converged(passes) => {
-            if passes == 1 {
+        Propagation::Infeasible(_, _) => CallClass::Infeasible,
+        Propagation::Converged(_, moved) | Propagation::BudgetSpent(_, moved) => {
+            if moved == 0 {
                 CallClass::Unchanged
             } else {
                 CallClass::Changed
             }
         }
-        Propagation::BudgetSpent(_) => CallClass::Changed,
     }
 }
 
