@@ -56,8 +56,8 @@ Added before t (bothFeasible a) = ones t ≡ ones before + a
 
 abbrev Numbers : State → Call → List ℕ → Answer → Type 0
 Numbers s c t (refused number) = Unit {0}
-Numbers s c t (propagatedRow o) = Unit {0}
-Numbers s c t (propagated e p) = PassesWithin (c .budget) p
+Numbers s c t (propagatedRow o k) = Unit {0}
+Numbers s c t (propagated e p k) = PassesWithin (c .budget) p
 Numbers s c t (probed e s0 s1) =
     (s .model .box ≢ emptyBox (s .model .n) → PassesWithin (c .budget) (s0 .passes) × PassesWithin (c .budget) (s1 .passes))
     × (s .model .box ≡ emptyBox (s .model .n) → (s0 .passes ≡ 0) × (s1 .passes ≡ 0))
@@ -140,7 +140,7 @@ demand-2 s c e =
       fractional = p .fractional;
       none = none;
       noPoint = λ t x z. no-point (rw (p .sizes .0) (a .model .some)) (rw (p .sizes .0) (none .0 t)) (p .points x .1 z);
-      passes = λ b q g. with (propagated b q) g;
+      passes = λ b q k g. with (propagated b q k) g;
       sidePasses = λ b s0 s1 g. with (probed b s0 s1) g .0;
       emptySides = λ b s0 s1 g. with (probed b s0 s1) g .1;
       added = λ b s0 s1 g. with (probed (bothFeasible b) s0 s1) g .2;
