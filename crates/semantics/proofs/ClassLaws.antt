@@ -25,7 +25,7 @@ use Rattle.row.proofs.ImpliedBoxLaws.{valid-nonEmpty}
 use Rattle.row.proofs.PropagationLaws.{propagate-row-changed, propagate-row-feasible-ind, propagate-row-unchanged}
 use Rattle.row.proofs.RedundancyLaws.{remove-redundant-row-changed, remove-redundant-row-replaces, remove-redundant-row-unchanged}
 use Rattle.row.proofs.TighteningLaws.{tighten-coefficient-changed, tighten-coefficient-length, tighten-coefficient-unchanged}
-use Rattle.semantics.specs.Call.{Call, Kind, hasBudget, hasRow, hasTable, hasVariable, kindOf, probing, propagation, removal, rowPropagation, tightening}
+use Rattle.semantics.specs.Call.{Call, Kind, hasRow, hasTable, hasVariable, kindOf, probing, propagation, removal, rowPropagation, tightening}
 use Rattle.semantics.specs.CallChecks.{callFault}
 use Rattle.semantics.specs.Demand2.{ones}
 use Rattle.semantics.specs.Perform.{act, perform}
@@ -198,7 +198,7 @@ module _ (s : State) (c : Call) (e : callFault s c ≡ 0) where
 
   pub propagate-class : kindOf (c .kind) ≡ propagation → let r = propagate (c .budget) (s .model .n) (s .model .m) (s .model .rows) (s .model .box) in
       classOf s c ≡ classBy (isNone (r .ending)) (eqb (r .moved) 0)
-  unfolding act answersNone isRefused hasBudget isNone
+  unfolding act answersNone isRefused isNone
   propagate-class q =
       let a = accepted-kind propagation q in
       let r = propagate (c .budget) (s .model .n) (s .model .m) (s .model .rows) (s .model .box) in

@@ -1,8 +1,8 @@
 -- A budget above the box's width is never spent: propagation then ends in the greatest fixpoint inside, or infeasible where there is
 -- none. So the test of the rest call, and rest in the demand's own words, say what a probing fixpoint is.
-use Prim.Native.Nat.{_*_, _+_, _<_, suc, zero, ℕ}
+use Prim.Native.Nat.{_*_, _+_, _<_, _≤_, suc, zero, ℕ}
 use lib.Dec.{T, T-not, not-T}
-use lib.IntN.{_-ℤ_, pos, ℤ}
+use lib.IntN.{_+ℤ_, _-ℤ_, pos, ℤ}
 use lib.Signed.{_<ℤ_, _≤ℤ_}
 use mathlib.Core.Bool.{Bool, _&&_, _||_, false, not, true}
 use mathlib.Core.List.{List}
@@ -17,6 +17,7 @@ use Rattle.integer.proofs.Parts.{sub-parts, zarith, zify}
 use Rattle.integer.proofs.RangeLaws.{within!, zwithin}
 use Rattle.integer.proofs.Tests.{all-three, both, false→T, or-cases, or-inl, or-inr, true→T}
 use Rattle.model.specs.Box.{Inside, NonEmpty, at, emptyBox, isEmpty, isFree, lower, sameList, upper, width}
+use Rattle.model.specs.Model.{Model}
 use Rattle.model.specs.Rows.{Rows, rowAt}
 use Rattle.model.specs.State.{State}
 use Rattle.model.specs.Valid.{ValidModel}
@@ -26,13 +27,13 @@ use Rattle.row.specs.Propagation.{PropagatedRow, propagateRowOf}
 use Rattle.row.proofs.PropagationLaws.{box→stable, propagate-row-moved-none, propagate-row-unchanged, stable→same}
 use Rattle.row.proofs.Width.{width-mono, width-nonneg}
 use Rattle.semantics.specs.CallChecks.{maxBudget}
-use Rattle.semantics.specs.Convergence.{Ends, EnoughPasses, LargestBudget, NothingMoves, RestInOwnWords, RestIsTested, UniqueGreatest}
+use Rattle.semantics.specs.Convergence.{Ends, EnoughPasses, LargestBudget, MovedLimit, NothingMoves, RestInOwnWords, RestIsTested, UniqueGreatest}
 use Rattle.semantics.specs.Fixpoint.{Fixpoint, GreatestFixpoint, ProbedFixpoint, ProbingFixpoint, SidesSpan}
 use Rattle.semantics.specs.Probe.{ProbeEnding, bothFeasible, fix, fixed, hull, infeasible, probe}
 use Rattle.semantics.specs.Propagate.{isNone, isSpent, passTo, propagate, propagateFrom}
 use Rattle.semantics.specs.RestTest.{isFixpoint, isProbingFixpoint, sidesSpan}
 use Rattle.semantics.proofs.ProbeLaws.{fix-inside, fix-nonEmpty, probe-ind}
-use Rattle.semantics.proofs.PropagateLaws.{pass-ind, pass-infeasible-box, pass-keeps, pass-moved-none, pass-moved-width, pass-nonEmpty, pass-shrinks, propagate-ind, propagateFrom-ind}
+use Rattle.semantics.proofs.PropagateLaws.{moved-at-most, pass-ind, pass-infeasible-box, pass-keeps, pass-moved-none, pass-moved-width, pass-nonEmpty, pass-shrinks, propagate-empty, propagate-ind, propagate-moved-le, propagateFrom-ind}
 
 -- ---- a pass that moved nothing
 
@@ -101,6 +102,22 @@ width-limit M v =
         let a = v .box .range (2 * j) in
         let b = v .box .range (2 * j + 1) in
         within! 65_535 (upper (M .box) j -ℤ lower (M .box) j) (omega (zarith, sub-parts (upper (M .box) j) (lower (M .box) j)))
+
+-- k bounds that moved from the box of a model to P, which is not empty, are within that
+pub moved-limit : (M : Model) → ValidModel M → (k : ℕ) {P : List ℤ} → NonEmpty (M .n) P
+    → (pos k +ℤ width (M .n) P) ≤ℤ width (M .n) (M .box) → k ≤ 8_388_480
+unfolding LargestBudget
+moved-limit M v k p f =
+    let w = width-limit M v .0 in
+    let g = moved-at-most (M .n) k (M .box) p f in
+    omega zarith
+
+pub propagate-moved-limit : MovedLimit
+unfolding MovedLimit LargestBudget
+propagate-moved-limit M v budget = ⊎-elim
+    (λ (e : M .box ≡ emptyBox (M .n)). rw (e, propagate-empty budget (M .n) (M .m) (M .rows)) (omega arith))
+    (λ p. let w = width-limit M v .0 in let g = propagate-moved-le (M .m) (M .rows) budget p in omega zarith)
+    (v .box .shape)
 
 pub greatest-unique : UniqueGreatest
 unfolding UniqueGreatest
