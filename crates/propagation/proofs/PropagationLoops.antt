@@ -1,6 +1,5 @@
 -- What the two loops of `propagate` need: the part of the matrix that is a row, one row more of a pass, and one pass more.
-use Prim.Native.Nat.{_*_, _+_, _-_, _<_, _≤_, suc, zero, ℕ}
-use lib.Dec.{lt→ltb}
+use Prim.Native.Nat.{_*_, _+_, _-_, _<_, _^_, _≤_, suc, zero, ℕ}
 use lib.IntN.{_+ℤ_, pos, ℤ}
 use lib.ListN.{drop, getD, length, length-drop, take}
 use lib.Seq.{getD-drop, getD-take, length-take-le}
@@ -34,7 +33,8 @@ use Rattle.row_view.specs.RowIn.{RowIn}
 use Rattle.propagation.specs.Marks.{Clean}
 use Rattle.row.proofs.RowLoops.{rhs-within}
 use Rattle.semantics.specs.Propagate.{Propagated, budgetSpent, converged, infeasible, passTo, propagateFrom}
-use Rattle.semantics.proofs.PropagateLaws.{pass-ended, pass-next, propagate-again, propagate-converged, propagate-none-now, propagate-spent}
+use Rattle.semantics.proofs.Convergence.{width-limit}
+use Rattle.semantics.proofs.PropagateLaws.{moved-at-most, moved-then, pass-ended, pass-moved-width, pass-next, propagate-again, propagate-converged, propagate-none-now, propagate-spent}
 
 -- ---- row r of the matrix
 
@@ -70,7 +70,7 @@ module _ {n m : ℕ} {B₀ C R : List ℤ} (v : ValidModel (modelOf n m B₀ C R
 
 -- ---- one row more of the pass over the box B
 
--- rows 0 to r − 1 left the box P; the bounds moved before the pass and by them are `sum`, no more than the width that was lost
+-- rows 0 to r − 1 left the box P; `before` bounds moved before the pass, and with those that these rows moved they are `sum`
 pub record PassIs (n r : ℕ) (C R B : List ℤ) (before : ℕ) (over : Bool) (sum : ℕ) (P : List ℤ) : Type 0 where
   pub ended : passTo n r (rowsOf C R) B .ended ≡ over
   pub moved : before + passTo n r (rowsOf C R) B .moved ≡ sum
@@ -116,11 +116,15 @@ pass-over {n} {m} {C} {R} B {before} {sum} {P} {marks} r (suc s) e p c h k f =
         let v = c .same p s (omega arith) (f s (omega arith) (omega arith)) in
         rw (add-one s) at (row-feasible n s C R B before Unchanged P (w (omega arith)) (sym v) {k = 0} (inr (refl, refl)))
 
--- ---- the bounds moved are no more than the width that was lost
+-- ---- the bounds moved are no more than the width that was lost since the box B₀, so their number fits
 
--- `sum` moved bounds that led to the box P are at most `before` and the width lost since the box B
-abbrev pub Narrowed : ℕ → ℕ → List ℤ → ℕ → List ℤ → Type 0
-Narrowed n before B sum P = (pos sum +ℤ width n P) ≤ℤ (pos before +ℤ width n B)
+module _ {n r : ℕ} {C R B : List ℤ} {before sum : ℕ} {Q : List ℤ} (i : PassIs n r C R B before false sum Q) (B₀ : List ℤ)
+    (w : (pos before +ℤ width n B) ≤ℤ width n B₀) where
+  pub pass-width : (pos sum +ℤ width n Q) ≤ℤ width n B₀
+  pass-width = rw (i .moved, i .box) at (moved-then n before _ B₀ B _ w (pass-moved-width n (rowsOf C R) r B (rw (i .ended) tt)))
+
+  pub sum-fits : {m : ℕ} → ValidModel (modelOf n m B₀ C R) → NonEmpty n Q → sum < 2 ^ 32
+  sum-fits {m} v p = let a = moved-at-most n sum B₀ p pass-width in let b = width-limit (modelOf n m B₀ C R) v .0 in omega zarith
 
 -- ---- one pass more, after `made` of `budget` that moved `before` bounds; W is what the whole comes to
 
@@ -137,13 +141,13 @@ module _ (budget made before n m : ℕ) (C R B : List ℤ) {W : Propagated} (h :
       → W ≡ record { ending = converged; passes = made + 1; moved = before; box = Q }
   pass-converged i =
       let e : passTo n m (rowsOf C R) B .moved ≡ 0 = omega (arith, i .moved) in
-      sym left-one ∙ propagate-converged (budget - (made + 1)) made before n m (rowsOf C R) B (rw (i .ended) tt) (rw e tt) ∙ rw (i .box, add-one)
+      sym left-one ∙ propagate-converged (budget - (made + 1)) made before n m (rowsOf C R) B (rw (i .ended) tt) e ∙ rw (i .box, add-one)
 
   pub pass-moved : {sum : ℕ} {Q : List ℤ} → PassIs n m C R B before false sum Q → (sum ≡ before → ⊥)
       → propagateFrom (budget - (made + 1)) (made + 1) sum n m (rowsOf C R) Q ≡ W
   pass-moved i d =
       let e : 0 < passTo n m (rowsOf C R) B .moved = omega (arith, i .moved) in
-      sym (sym left-one ∙ propagate-again (budget - (made + 1)) made before n m (rowsOf C R) B (rw (i .ended) tt) (lt→ltb 0 (passTo n m (rowsOf C R) B .moved) e) ∙ rw (i .moved, i .box, add-one made))
+      sym (sym left-one ∙ propagate-again (budget - (made + 1)) made before n m (rowsOf C R) B (rw (i .ended) tt) e ∙ rw (i .moved, i .box, add-one made))
 
 pub budget-spent : (budget made sum n m : ℕ) (C R B : List ℤ) {W : Propagated} → budget ≤ made
     → propagateFrom (budget - made) made sum n m (rowsOf C R) B ≡ W → W ≡ record { ending = budgetSpent; passes = made; moved = sum; box = B }
