@@ -269,6 +269,9 @@ module _ {w : PropagatedRow} (v : RowPropagation) (Q : List ℤ) (e : propagated
   box-of (Tightened k) = refl
   box-of Unchanged = refl
 
+  pub said : {u : RowPropagation} → v ≡ u → propagatedRowOf u Q ≡ w
+  said t = rw t at e
+
   pub left-by : Q ≡ w .box
   left-by = sym (box-of v) ∙ ap (λ (u : PropagatedRow). u .box) e
 

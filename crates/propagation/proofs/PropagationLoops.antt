@@ -32,6 +32,7 @@ use Rattle.row.specs.declared.propagation.RowPropagation.the-variants.{Infeasib
 use Rattle.row_view.specs.RowIn.{RowIn}
 use Rattle.propagation.specs.Marks.{Clean}
 use Rattle.row.proofs.RowLoops.{rhs-within}
+use Rattle.semantics.specs.Convergence.{LargestBudget}
 use Rattle.semantics.specs.Propagate.{Propagated, budgetSpent, converged, infeasible, passTo, propagateFrom}
 use Rattle.semantics.proofs.Convergence.{width-limit}
 use Rattle.semantics.proofs.PropagateLaws.{moved-at-most, moved-then, pass-ended, pass-moved-width, pass-next, propagate-again, propagate-converged, propagate-none-now, propagate-spent}
@@ -124,6 +125,7 @@ module _ {n r : ℕ} {C R B : List ℤ} {before sum : ℕ} {Q : List ℤ} (i : P
   pass-width = rw (i .moved, i .box) at (moved-then n before _ B₀ B _ w (pass-moved-width n (rowsOf C R) r B (rw (i .ended) tt)))
 
   pub sum-fits : {m : ℕ} → ValidModel (modelOf n m B₀ C R) → NonEmpty n Q → sum < 2 ^ 32
+  unfolding LargestBudget
   sum-fits {m} v p = let a = moved-at-most n sum B₀ p pass-width in let b = width-limit (modelOf n m B₀ C R) v .0 in omega zarith
 
 -- ---- one pass more, after `made` of `budget` that moved `before` bounds; W is what the whole comes to

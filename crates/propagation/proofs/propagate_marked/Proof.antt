@@ -1,136 +1,402 @@
+-- `propagation::propagate_marked` is the definition: rows 0 to r − 1 came to what `passTo` says, and the passes that are left from here
+-- give what the whole gives. The two ways out of the passes meet in `met`. Assumes nothing.
+use Prim.Native.Nat.{_+_, _-_, _≤_, ℕ}
+use borrow.Author.Needs.{needs}
+use lib.Dec.{T}
+use lib.IntN.{_+ℤ_, pos, ℤ}
+use lib.ListN.{length}
+use lib.Signed.{_≤ℤ_}
+use mathlib.Core.Bool.{Bool, cond, false, not}
+use mathlib.Core.List.{List}
+use mathlib.Core.Logic.{_⊎_, inl, inr, ⊎-elim}
+use mathlib.Core.Path.{_∙_, _≡_, ap, refl, sym}
+use native.Mathlib.Nat.{sub-zero}
+use native.Mathlib.Omega.{arith}
+use Rattle.integer.proofs.Parts.{zarith, zify}
+use Rattle.integer.proofs.Tests.{false→T}
+use Rattle.model.specs.Box.{at, isEmpty, width}
+use Rattle.model.specs.Rows.{rowOf, rowsOf}
+use Rattle.row.specs.Answers.{propagatedRowOf}
+use Rattle.row.specs.Outcome.{isInfeasible}
+use Rattle.row.specs.Propagation.{propagateRow}
+use Rattle.row.specs.declared.propagation.RowPropagation.the-variants.{Tightened, Unchanged}
+use Rattle.semantics.specs.Propagate.{Propagated, propagate, propagateFrom}
+use Rattle.propagation.specs.Results.{propagationOf}
+use Rattle.propagation.specs.declared.Propagation.the-variants as code
+use Rattle.propagation.proofs.PropagationLoops.{PassIs, budget-spent, pass-begins, pass-converged, pass-infeasible, pass-moved, pass-over, pass-width, row-feasible, row-infeasible, sum-fits}
+use Rattle.row.proofs.ImpliedBoxLaws.{valid-nonEmpty}
+use Rattle.propagation.specs.Marks.{Watched}
+use Rattle.propagation.proofs.MarkLaws.{Ready, left-by, model-at, ready, ready-trans, ready-visit, tightened, unmoved}
 use Rattle.propagation.proofs.propagate_marked.Statement.{statement}
 use Rattle.propagation.proofs.propagate_marked.Tie as tie
-use Rattle.propagation.proofs.propagate_marked.Reads as reads
-use Rattle.propagation.proofs.propagate_marked.Lts as lts
-use Rattle.model.proofs.is_empty.Reads as is-empty-reads
-use Rattle.propagation.proofs.Tally.add.Reads as add-reads
-use Rattle.propagation.proofs.marks.next_row.Reads as next-row-reads
-use Rattle.propagation.proofs.marks.propagate_row_marked.Reads as propagate-row-marked-reads
 
 abbrev Inv-rows : tie.InvT-rows
 Inv-rows n m bounds₀ coefs rhs budget across₀ signs₀ seen₀ marks₀ passes tally₀ infeasible₀ before r₀ bounds across signs seen marks tally infeasible r =
-    ?
+    (r ≤ m)
+    × PassIs n r coefs rhs bounds₀ before false (tally .moved) bounds
+    × Ready n m coefs rhs bounds₀ across₀ signs₀ seen₀ marks₀ bounds across signs seen marks
+    × (infeasible ≡ false)
 
 abbrev μ-rows : tie.MeasureT-rows
-μ-rows n m bounds₀ coefs rhs budget across₀ signs₀ seen₀ marks₀ passes tally₀ infeasible₀ before r₀ bounds across signs seen marks tally infeasible r =
-    ?
+μ-rows n m bounds₀ coefs rhs budget across₀ signs₀ seen₀ marks₀ passes tally₀ infeasible₀ before r₀ bounds across signs seen marks tally infeasible r = m - r
 
 abbrev Inv-passes : tie.InvT-passes
 Inv-passes n m bounds₀ coefs rhs budget across₀ signs₀ seen₀ marks₀ passes₀ tally₀ infeasible₀ bounds across signs seen marks passes tally infeasible =
-    ?
+    (passes ≤ budget)
+    × (propagateFrom (budget - passes) passes (tally .moved) n m (rowsOf coefs rhs) bounds ≡ propagateFrom budget 0 0 n m (rowsOf coefs rhs) bounds₀)
+    × Ready n m coefs rhs bounds₀ across₀ signs₀ seen₀ marks₀ bounds across signs seen marks
+    × (infeasible ≡ false)
+    × ((pos (tally .moved) +ℤ width n bounds) ≤ℤ width n bounds₀)
 
 abbrev μ-passes : tie.MeasureT-passes
-μ-passes n m bounds₀ coefs rhs budget across₀ signs₀ seen₀ marks₀ passes₀ tally₀ infeasible₀ bounds across signs seen marks passes tally infeasible =
-    ?
+μ-passes n m bounds₀ coefs rhs budget across₀ signs₀ seen₀ marks₀ passes₀ tally₀ infeasible₀ bounds across signs seen marks passes tally infeasible = budget - passes
 
 is-empty-requires : tie.Need-is-empty-requires Inv-rows μ-rows Inv-passes μ-passes
-is-empty-requires c κs = ?
+is-empty-requires c κs = let p = c .before .before .before .before .pre .0 in omega (arith, p .some, p .box .len)
 
 same-length : tie.Need-same-length Inv-rows μ-rows Inv-passes μ-passes
-same-length c = ?
+same-length c = search needs
 
 returns : tie.Need-returns Inv-rows μ-rows Inv-passes μ-passes
-returns c = ?
+unfolding propagate propagationOf
+returns c =
+    let s = c .before .before .before .before .before .before in
+    let p = s .pre .0 in
+    (rw (sym (c .before .is-empty .ensures _ (p .some) (p .box)) ∙ c .if1 .taken), s .pre .1 .0)
 
 passes-holds : tie.Need-passes-holds Inv-rows μ-rows Inv-passes μ-passes
-passes-holds c = ?
+passes-holds c =
+    let s = c .before .before .before .before .before .before in
+    let p = s .pre .0 in
+    let e = sym (c .before .is-empty .ensures _ (p .some) (p .box)) ∙ c .if1 .left in
+    (omega arith, rw sub-zero, ready (p .box) (valid-nonEmpty (p .box) (false→T (isEmpty (s .args .n) (s .args .bounds .now)) e)) (s .pre .1 .0), refl, simp zify (omega zarith))
 
 add-passes : tie.Need-add-passes Inv-rows μ-rows Inv-passes μ-passes
-add-passes c = ?
+add-passes c = omega arith
 
 next-row-requires : tie.Need-next-row-requires Inv-rows μ-rows Inv-passes μ-passes
-next-row-requires c κs = ?
+next-row-requires c κs =
+    let q = c .before .before in
+    (omega arith, omega (arith, q .before .before .before .before .before .before .before .pre .1 .1, q .passes .inv .2 .marksLen))
 
 rows-holds : tie.Need-rows-holds Inv-rows μ-rows Inv-passes μ-passes
-rows-holds c = ?
+rows-holds c =
+    let i = c .before .before .before .passes .inv in
+    let t = c .next-row .ensures in
+    (t .1, pass-over _ 0 _ (pass-begins _ _ _ _ _) (i .2 .nonEmpty) (i .2 .watched .clean) (t .0) (t .1) (t .2), ready (i .2 .box) (i .2 .nonEmpty) (i .2 .watched), i .3)
 
-propagate-row-marked-requires :
-    tie.Need-propagate-row-marked-requires Inv-rows μ-rows Inv-passes μ-passes
-propagate-row-marked-requires c κs = ?
+-- the call, where it comes to a pass
+module _ (h : tie.At-passes Inv-rows μ-rows Inv-passes μ-passes) where
+  abbrev s : tie.Start Inv-rows μ-rows Inv-passes μ-passes
+  s = h .before .before .before .before .before .before .before
+
+  abbrev n : ℕ
+  n = s .args .n
+
+  abbrev m : ℕ
+  m = s .args .m
+
+  abbrev budget : ℕ
+  budget = s .args .budget
+
+  abbrev C : List ℤ
+  C = s .args .coefs .now
+
+  abbrev R : List ℤ
+  R = s .args .rhs .now
+
+  abbrev B₀ : List ℤ
+  B₀ = s .args .bounds .now
+
+  abbrev made : ℕ
+  made = h .passes .passes
+
+  abbrev B : List ℤ
+  B = h .passes .bounds
+
+  abbrev before : ℕ
+  before = h .passes .tally .moved
+
+  whole : propagate budget n m (rowsOf C R) B₀ ≡ propagateFrom budget 0 0 n m (rowsOf C R) B₀
+  unfolding propagate
+  whole = rw (sym (h .before .before .is-empty .ensures _ (s .pre .0 .some) (s .pre .0 .box)) ∙ h .before .if1 .left)
+
+-- and to a row of it, which lies in the matrix
+module _ (c : tie.In-rows Inv-rows μ-rows Inv-passes μ-passes) where
+  abbrev here : tie.At-passes Inv-rows μ-rows Inv-passes μ-passes
+  here = c .before .before .before .before .before
+
+  abbrev r : ℕ
+  r = c .before .rows .r
+
+  abbrev P : List ℤ
+  P = c .before .rows .bounds
+
+propagate-row-marked-requires : tie.Need-propagate-row-marked-requires Inv-rows μ-rows Inv-passes μ-passes
+propagate-row-marked-requires c κs =
+    let i = c .before .before .before .before .before in
+    let q = here i in
+    let t = s q in
+    let y = i .before .rows .inv .2 in (
+      record {
+        valid = model-at (t .pre .0) (y .box);
+        nonEmpty = y .nonEmpty;
+        watched = y .watched;
+        room = omega (arith, t .pre .1 .1, y .marksLen, q .passes .inv .2 .marksLen);
+      },
+      i .rows-test .taken,
+    )
+
+-- what the row answers and leaves
+module _ (c : tie.After-propagate-row-marked Inv-rows μ-rows Inv-passes μ-passes) where
+  abbrev row : tie.In-rows Inv-rows μ-rows Inv-passes μ-passes
+  row = c .before .before .before .before .before .before
+
+  abbrev h : tie.At-passes Inv-rows μ-rows Inv-passes μ-passes
+  h = here row
+
+  abbrev Q : List ℤ
+  Q = c .propagate-row-marked .last .1 .1 .0
+
+  abbrev A : List ℤ
+  A = rowOf (n h) (C h) (r row)
+
+  abbrev b : ℤ
+  b = at (R h) (r row)
+
+  heard : propagatedRowOf (c .propagate-row-marked .result) Q ≡ propagateRow (n h) A b (P row)
+  heard = c .propagate-row-marked .ensures .0
+
+  left : Q ≡ propagateRow (n h) A b (P row) .box
+  left = left-by _ Q heard
+
+  -- one that is feasible leaves all ready for the next
+  row-ready : T (not (isInfeasible (propagateRow (n h) A b (P row) .outcome))) →
+      let q = c .propagate-row-marked .last .1 .1 .1 .1 .1 .1 in
+      Ready (n h) (m h) (C h) (R h) (B h) (h .passes .across) (h .passes .signs) (h .passes .seen) (h .passes .marks) Q (q .0) (q .1 .0) (q .1 .1 .0) (q .1 .1 .1 .0)
+  row-ready f =
+      let l = c .propagate-row-marked .kept .1 .1 in
+      ready-visit A b (row .before .rows .inv .2) left f (c .propagate-row-marked .ensures .1)
+      (l .0) (l .1 .1 .1 .1 .0) (l .1 .1 .1 .1 .1 .0) (l .1 .1 .1 .1 .1 .1 .0) (l .1 .1 .1 .1 .1 .1 .1 .0)
+
+  -- and the pass so far, with it
+  one-row : {k now : ℕ} → ((c .propagate-row-marked .result ≡ Tightened k) × (now ≡ row .before .rows .tally .moved + k))
+      ⊎ ((c .propagate-row-marked .result ≡ Unchanged) × (now ≡ row .before .rows .tally .moved))
+      → PassIs (n h) (r row + 1) (C h) (R h) (B h) (before h) false now Q
+  one-row = row-feasible (n h) (r row) (C h) (R h) (B h) (before h) _ Q (row .before .rows .inv .1) heard
 
 enum-told : tie.Need-enum-told Inv-rows μ-rows Inv-passes μ-passes
-enum-told c = ?
+enum-told c = search needs
 
 enum-known-moved : tie.Need-enum-known-moved Inv-rows μ-rows Inv-passes μ-passes
-enum-known-moved c = ?
+enum-known-moved c = search needs
 
 add-requires : tie.Need-add-requires Inv-rows μ-rows Inv-passes μ-passes
-add-requires c κs = ?
+add-requires c κs =
+    let d = c .before .before .before .before .before .before .before .before .before .before .before in
+    let told = c .before .moved .given .1 in
+    sum-fits (one-row d (inl (told, refl))) (B₀ (h d)) (h d .passes .inv .4) (s (h d) .pre .0) (row-ready d (tightened _ (Q d) (heard d) told) .nonEmpty)
 
 enum-told-2 : tie.Need-enum-told-2 Inv-rows μ-rows Inv-passes μ-passes
-enum-told-2 c = ?
+enum-told-2 c = search needs
+
+-- where the row moved bounds or did not
+module _ (c : tie.At-match-came Inv-rows μ-rows Inv-passes μ-passes) where
+  abbrev d : tie.After-propagate-row-marked Inv-rows μ-rows Inv-passes μ-passes
+  d = c .before .before .before .before .before .before .before .before .before
+
+  abbrev k : tie.At-rows Inv-rows μ-rows Inv-passes μ-passes
+  k = row d .before
+
+  feasible : T (not (isInfeasible (propagateRow (n (h d)) (A d) (b d) (P (row d)) .outcome)))
+  feasible = ⊎-elim (λ w. tightened _ (Q d) (heard d) (w .1 .given .1)) (λ w. unmoved _ (Q d) (heard d) (w .1 .given .1) .0) (c .match .came)
+
+  counted : PassIs (n (h d)) (r (row d) + 1) (C (h d)) (R (h d)) (B (h d)) (before (h d)) false (c .match .tally .moved) (Q d)
+  counted =
+      ⊎-elim
+      (λ w. one-row d (inl (w .1 .given .1, ap (λ t. t .moved) (w .4) ∙ w .3 .ensures)))
+      (λ w. one-row d {k = 0} (inr (w .1 .given .1, ap (λ t. t .moved) (w .2))))
+      (c .match .came)
 
 add-next-row : tie.Need-add-next-row Inv-rows μ-rows Inv-passes μ-passes
-add-next-row c = ?
+add-next-row c = let e = d (c .before) in omega (arith, row e .rows-test .taken, s (h e) .pre .0 .fewRows)
 
 next-row-requires-2 : tie.Need-next-row-requires-2 Inv-rows μ-rows Inv-passes μ-passes
-next-row-requires-2 c κs = ?
+next-row-requires-2 c κs =
+    let e = d (c .before) in
+    let q = h e in
+    let l = e .propagate-row-marked .kept .1 .1 .1 .1 .1 .1 .1 .1 .1 .0 in
+    (omega (arith, row e .rows-test .taken), omega (arith, s q .pre .1 .1, l, k (c .before) .rows .inv .2 .marksLen, q .passes .inv .2 .marksLen))
 
 rows-less : tie.Need-rows-less Inv-rows μ-rows Inv-passes μ-passes
-rows-less c = ?
+rows-less c = let t = c .next-row2 .ensures in omega (arith, t .0, t .1, row (d (c .before .before)) .rows-test .taken)
 
 rows-again : tie.Need-rows-again Inv-rows μ-rows Inv-passes μ-passes
-rows-again c = ?
+rows-again c =
+    let a = c .before .before in
+    let t = c .next-row2 .ensures in
+    let y = row-ready (d a) (feasible a) in
+    (t .1, pass-over _ _ _ (counted a) (y .nonEmpty) (y .watched .clean) (t .0) (t .1) (t .2), y, k a .rows .inv .3)
+
+-- a pass over all rows
+passed : (c : tie.After-rows Inv-rows μ-rows Inv-passes μ-passes) →
+    let q = c .before .before .before .before .before in
+    PassIs (n q) (m q) (C q) (R q) (B q) (before q) false (c .before .rows .tally .moved) (c .before .rows .bounds)
+passed c =
+    let q = c .before .before .before .before .before in
+    let k : c .before .rows .r ≡ m q = omega arith in
+    rw k at (c .before .rows .inv .1)
+
+-- box, copy and marks after the rows of a pass
+pass-ready : (c : tie.After-rows Inv-rows μ-rows Inv-passes μ-passes) →
+    let q = c .before .before .before .before .before in
+    let w = c .before .rows in
+    Ready (n q) (m q) (C q) (R q) (B₀ q) (s q .args .across .now) (s q .args .signs .now) (s q .args .seen .now) (s q .args .marks .now) (w .bounds) (w .across) (w .signs) (w .seen) (w .marks)
+pass-ready c = ready-trans (c .before .before .before .before .before .passes .inv .2) (c .before .rows .inv .2)
 
 same-length-2 : tie.Need-same-length-2 Inv-rows μ-rows Inv-passes μ-passes
-same-length-2 c = ?
+same-length-2 c = pass-ready (c .before .before) .boxLen
 
 same-length-3 : tie.Need-same-length-3 Inv-rows μ-rows Inv-passes μ-passes
-same-length-3 c = ?
+same-length-3 c = pass-ready (c .before .before) .acrossLen
 
 same-length-4 : tie.Need-same-length-4 Inv-rows μ-rows Inv-passes μ-passes
-same-length-4 c = ?
+same-length-4 c = pass-ready (c .before .before) .signsLen
 
 same-length-5 : tie.Need-same-length-5 Inv-rows μ-rows Inv-passes μ-passes
-same-length-5 c = ?
+same-length-5 c = pass-ready (c .before .before) .seenLen
 
 same-length-6 : tie.Need-same-length-6 Inv-rows μ-rows Inv-passes μ-passes
-same-length-6 c = ?
+same-length-6 c = pass-ready (c .before .before) .marksLen
 
 returns-2 : tie.Need-returns-2 Inv-rows μ-rows Inv-passes μ-passes
-returns-2 c = ?
+unfolding propagationOf
+returns-2 c =
+    let e = c .before .before in
+    let q = e .before .before .before .before .before in
+    let i = rw (c .if2 .taken) at (passed e) in (
+      sym (whole q ∙ pass-converged (budget q) (made q) (before q) (n q) (m q) (C q) (R q) (B q) (e .before .before .before .before .passes-test .taken) (q .passes .inv .1) i),
+      e .before .rows .inv .2 .watched,
+    )
 
 passes-less : tie.Need-passes-less Inv-rows μ-rows Inv-passes μ-passes
-passes-less c = ?
+passes-less c = omega arith
 
 passes-again : tie.Need-passes-again Inv-rows μ-rows Inv-passes μ-passes
-passes-again c = ?
+passes-again c =
+    let e = c .before .before in
+    let q = e .before .before .before .before .before in (
+      omega arith,
+      pass-moved (budget q) (made q) (before q) (n q) (m q) (C q) (R q) (B q) (e .before .before .before .before .passes-test .taken) (q .passes .inv .1) (passed e) (c .if2 .left),
+      pass-ready e,
+      e .before .rows .inv .3,
+      pass-width (passed e) (B₀ q) (q .passes .inv .4),
+    )
+
+-- where the two ways out of the passes meet
+abbrev after : Bool → ℕ → ℕ → List ℤ → Propagated
+after i p k B = propagationOf (cond i (code.Infeasible p k) (code.BudgetSpent p k)) B
+
+after-is : {i j : Bool} {p q k l : ℕ} {B P : List ℤ} → i ≡ j → p ≡ q → k ≡ l → B ≡ P → after i p k B ≡ after j q l P
+after-is d e t f = rw (d, e, t, f)
+
+watched-is : {n m : ℕ} {C R B P : List ℤ} {a a′ s s′ : List ℕ} {e e′ : List ℤ} {k k′ : List ℕ} → B ≡ P → a ≡ a′ → s ≡ s′ → e ≡ e′ → k ≡ k′
+    → Watched n m C R P a′ s′ e′ k′ → Watched n m C R B a s e k
+watched-is b a s e k w = rw (b, a, s, e, k) w
+
+-- the lengths of what is lent, and what is known of the rows
+record Left (q : tie.At-passes Inv-rows μ-rows Inv-passes μ-passes) (bounds : List ℤ) (across signs : List ℕ) (seen : List ℤ) (marks : List ℕ) : Type 0 where
+  boxLen : length bounds ≡ length (B₀ q)
+  acrossLen : length across ≡ length (s q .args .across .now)
+  signsLen : length signs ≡ length (s q .args .signs .now)
+  seenLen : length seen ≡ length (s q .args .seen .now)
+  marksLen : length marks ≡ length (s q .args .marks .now)
+  watched : Watched (n q) (m q) (C q) (R q) bounds across signs seen marks
+
+met : (c : tie.Left-passes Inv-rows μ-rows Inv-passes μ-passes) →
+    let q = c .before in
+    let o = c .passes-test in
+    (after (o .infeasible) (o .passes) (o .tally .moved) (o .bounds) ≡ propagate (budget q) (n q) (m q) (rowsOf (C q) (R q)) (B₀ q)) × Left q (o .bounds) (o .across) (o .signs) (o .seen) (o .marks)
+unfolding propagationOf
+met c =
+    let q = c .before in
+    let y = q .passes .inv .2 in
+    ⊎-elim
+    (λ w. (
+      after-is (w .8 ∙ q .passes .inv .3) (w .6) (ap (λ t. t .moved) (w .7)) (w .1)
+          ∙ sym (whole q ∙ budget-spent (budget q) (made q) (before q) (n q) (m q) (C q) (R q) (B q) (w .0 .left) (q .passes .inv .1)),
+      record {
+        boxLen = ap length (w .1) ∙ y .boxLen;
+        acrossLen = ap length (w .2) ∙ y .acrossLen;
+        signsLen = ap length (w .3) ∙ y .signsLen;
+        seenLen = ap length (w .4) ∙ y .seenLen;
+        marksLen = ap length (w .5) ∙ y .marksLen;
+        watched = watched-is (w .1) (w .2) (w .3) (w .4) (w .5) (y .watched);
+      },
+    ))
+    (λ w.
+    let i : tie.In-rows Inv-rows μ-rows Inv-passes μ-passes = record { before = record { before = record { before = record { before = record { before = q; passes-test = w .0 }; next-row-arg = w .1 }; next-row = w .2 }; rows = w .3 }; rows-test = w .4 } in
+    let d : tie.After-propagate-row-marked Inv-rows μ-rows Inv-passes μ-passes = record {
+      before = record {
+        before = record {
+          before = record { before = record { before = record { before = i; propagate-row-marked-arg = w .5 }; propagate-row-marked-arg2 = w .6 }; propagate-row-marked-arg3 = w .7 };
+          propagate-row-marked-arg4 = w .8;
+        };
+        propagate-row-marked-arg5 = w .9;
+      };
+      propagate-row-marked = w .10;
+    } in
+    let z = ready-trans y (w .3 .inv .2) in
+    let k = w .10 .kept in
+    let e = row-infeasible (n q) (r (row d)) (C q) (R q) (B q) (before q) _ (Q d) (w .3 .inv .1) (heard d) (m q) (w .4 .taken) (w .20 .given .1) in (
+      after-is (w .28) (w .26) (ap (λ t. t .moved) (w .27)) (w .21)
+          ∙ sym (whole q ∙ pass-infeasible (budget q) (made q) (before q) (n q) (m q) (C q) (R q) (B q) (w .0 .taken) (q .passes .inv .1) e),
+      record {
+        boxLen = ap length (w .21) ∙ k .1 .1 .0 ∙ z .boxLen;
+        acrossLen = ap length (w .22) ∙ k .1 .1 .1 .1 .1 .1 .0 ∙ z .acrossLen;
+        signsLen = ap length (w .23) ∙ k .1 .1 .1 .1 .1 .1 .1 .0 ∙ z .signsLen;
+        seenLen = ap length (w .24) ∙ k .1 .1 .1 .1 .1 .1 .1 .1 .0 ∙ z .seenLen;
+        marksLen = ap length (w .25) ∙ k .1 .1 .1 .1 .1 .1 .1 .1 .1 .0 ∙ z .marksLen;
+        watched = watched-is (w .21) (w .22) (w .23) (w .24) (w .25) (w .10 .ensures .1);
+      },
+    ))
+    (c .passes-test .came)
 
 same-length-7 : tie.Need-same-length-7 Inv-rows μ-rows Inv-passes μ-passes
-same-length-7 c = ?
+same-length-7 c = met (c .before) .1 .boxLen
 
 same-length-8 : tie.Need-same-length-8 Inv-rows μ-rows Inv-passes μ-passes
-same-length-8 c = ?
+same-length-8 c = met (c .before) .1 .acrossLen
 
 same-length-9 : tie.Need-same-length-9 Inv-rows μ-rows Inv-passes μ-passes
-same-length-9 c = ?
+same-length-9 c = met (c .before) .1 .signsLen
 
 same-length-10 : tie.Need-same-length-10 Inv-rows μ-rows Inv-passes μ-passes
-same-length-10 c = ?
+same-length-10 c = met (c .before) .1 .seenLen
 
 same-length-11 : tie.Need-same-length-11 Inv-rows μ-rows Inv-passes μ-passes
-same-length-11 c = ?
+same-length-11 c = met (c .before) .1 .marksLen
 
 returns-3 : tie.Need-returns-3 Inv-rows μ-rows Inv-passes μ-passes
-returns-3 c = ?
+returns-3 c = let k = met (c .before) in (rw (c .if3 .taken) at (k .0), k .1 .watched)
 
 same-length-12 : tie.Need-same-length-12 Inv-rows μ-rows Inv-passes μ-passes
-same-length-12 c = ?
+same-length-12 c = met (c .before) .1 .boxLen
 
 same-length-13 : tie.Need-same-length-13 Inv-rows μ-rows Inv-passes μ-passes
-same-length-13 c = ?
+same-length-13 c = met (c .before) .1 .acrossLen
 
 same-length-14 : tie.Need-same-length-14 Inv-rows μ-rows Inv-passes μ-passes
-same-length-14 c = ?
+same-length-14 c = met (c .before) .1 .signsLen
 
 same-length-15 : tie.Need-same-length-15 Inv-rows μ-rows Inv-passes μ-passes
-same-length-15 c = ?
+same-length-15 c = met (c .before) .1 .seenLen
 
 same-length-16 : tie.Need-same-length-16 Inv-rows μ-rows Inv-passes μ-passes
-same-length-16 c = ?
+same-length-16 c = met (c .before) .1 .marksLen
 
 returns-4 : tie.Need-returns-4 Inv-rows μ-rows Inv-passes μ-passes
-returns-4 c = ?
+returns-4 c = let k = met (c .before) in (rw (c .if3 .left) at (k .0), k .1 .watched)
 
 pub propagate-marked-spec : {M : Type 1} → statement M
 propagate-marked-spec =

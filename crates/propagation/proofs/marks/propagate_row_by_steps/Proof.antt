@@ -4,17 +4,16 @@ use borrow.Author.Needs.{needs}
 use lib.IntN.{ℤ}
 use lib.ListN.{length}
 use mathlib.Core.List.{List}
-use mathlib.Core.Path.{_∙_, _≡_, ap, sym}
+use mathlib.Core.Path.{_≡_}
 use native.Mathlib.Omega.{arith}
 use Rattle.model.specs.Box.{at}
 use Rattle.model.specs.Rows.{rowOf}
 use Rattle.row.specs.Answers.{propagatedRowOf}
 use Rattle.row.specs.Propagation.{propagateRow}
-use Rattle.row.specs.declared.propagation.RowPropagation.{RowPropagation}
 use Rattle.propagation.specs.Marks.{Visitable}
 use Rattle.propagation.proofs.IndexLoops.{row-end}
 use Rattle.propagation.proofs.PropagationLoops.{row-fits, row-in, valid-row}
-use Rattle.propagation.proofs.MarkLaws.{broken, left-by, steps-in, tightened, unmoved, visited-empty, visited-moved, visited-remarks, visited-unmoved}
+use Rattle.propagation.proofs.MarkLaws.{broken, left-by, said, steps-in, tightened, unmoved, visited-empty, visited-moved, visited-remarks, visited-unmoved}
 use Rattle.propagation.proofs.marks.propagate_row_by_steps.Statement.{statement}
 use Rattle.propagation.proofs.marks.propagate_row_by_steps.Tie as tie
 
@@ -81,7 +80,7 @@ returns c =
     let k = c .before .before .before in
     let told = c .enum-told .given .1 in
     let t = s k in (
-      rw told at (heard k),
+      said _ (Q k) (heard k) told,
       visited-empty (given t) (r t) (t .pre .1 .0) (left k) (broken _ (Q k) (heard k) told),
     )
 
@@ -118,7 +117,7 @@ returns-2 c =
     let told = c .before .before .before .before .before .before .before .before .before .before .before .moved .given .1 in
     let call = c .before .before .before .before .before .remark in
     let t = s k in (
-      rw told at (heard k),
+      said _ (Q k) (heard k) told,
       visited-moved (given t) (r t) (t .pre .1 .0) (left k) (tightened _ (Q k) (heard k) told) (call .last .1 .1 .1 .1 .1 .1 .1 .1 .0) (call .ensures .1 .1) (call .ensures .0)
           (call .kept .1 .1 .1 .1 .1 .1 .1 .1 .0) (call .ensures .1 .0),
     )
@@ -141,7 +140,7 @@ returns-3 c =
     let told = c .enum-told2 .given .1 in
     let f = unmoved _ (Q k) (heard k) told in
     let t = s k in (
-      rw told at (heard k),
+      said _ (Q k) (heard k) told,
       visited-unmoved (given t) (r t) (t .pre .1 .0) (left k) (f .0) (f .1),
     )
 
