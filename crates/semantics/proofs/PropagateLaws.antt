@@ -1,4 +1,5 @@
--- Laws of propagation: it shrinks the box, keeps every fixpoint inside and keeps within the limits; its endings and its passes.
+-- Laws of propagation: it shrinks the box, keeps every fixpoint inside and keeps within the limits; its endings, its passes and how
+-- many bounds it moved.
 use Prim.Native.Nat.{_+_, _<_, _≤_, suc, zero, ℕ}
 use lib.Dec.{T, T-not, lt→ltb, ltb, ltb→lt, nltb→le}
 use lib.IntN.{_+ℤ_, pos, ℤ}
@@ -229,7 +230,7 @@ module _ (n m : ℕ) (A : Rows) where
   propagate-infeasible-box budget B = propagate-ind budget n m A B (λ r. T (isNone (r .ending)) → r .box ≡ emptyBox n)
       (λ t _. isEmpty→eq n B t) (λ _. propagateFrom-infeasible-box budget 0 0 B)
 
-  pub propagateFrom-shrinks : (left made sum : ℕ) (B : List ℤ) → T (not (isNone (propagateFrom left made sum n m A B .ending)))
+  propagateFrom-shrinks : (left made sum : ℕ) (B : List ℤ) → T (not (isNone (propagateFrom left made sum n m A B .ending)))
       → Inside n (propagateFrom left made sum n m A B .box) B
   unfolding propagateFrom isNone
   propagateFrom-shrinks zero made sum B = λ _. inside-refl n B

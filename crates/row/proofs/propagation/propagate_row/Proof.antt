@@ -7,7 +7,7 @@ use lib.ListN.{length}
 use lib.Signed.{_≤ℤ_}
 use mathlib.Core.Bool.{false}
 use mathlib.Core.List.{List}
-use mathlib.Core.Path.{_∙_, _≡_, refl, sym}
+use mathlib.Core.Path.{_∙_, _≡_, sym}
 use mir.Syntax.{w32, w64}
 use mir.Val.{ofZ, toZ}
 use Rattle.model.specs.Box.{isEmpty}
@@ -15,7 +15,7 @@ use Rattle.integer.proofs.Reading.{ge-read, gt-read, le-read, lt-read, read-wid
 use Rattle.row.specs.Activity.{minActivity, widestTerm}
 use Rattle.row.specs.Answers.{propagatedRowOf}
 use Rattle.row.proofs.ReachLaws.{least-read, moving, on-empty, quiet, slack, slack-fits, slack-read, unmet, widest-read}
-use Rattle.row.proofs.RowLoops.{bounds-small, coefs-small, min-activity-small, rhs-within}
+use Rattle.row.proofs.RowLoops.{implies-box}
 use Rattle.row.proofs.propagation.propagate_row.Statement.{statement}
 use Rattle.row.proofs.propagation.propagate_row.Tie as tie
 
@@ -105,17 +105,7 @@ met c = let m = found (c .before) in ge-read (rhs-is m) (least-is m) (c .if3 .le
 tighten-bounds-requires : tie.Need-tighten-bounds-requires
 tighten-bounds-requires c κs =
     let m = found (c .before .before) in
-    let v = s m .pre .coefs in
-    rw (rhs-is m, least-is m) (record {
-      len = refl;
-      boxLen = v .box .len;
-      few = v .few;
-      coefs = coefs-small v;
-      rhs = rhs-within (s m .pre .rhs);
-      activity = min-activity-small v;
-      met = met (c .before);
-      bounds = bounds-small v;
-    })
+    rw (rhs-is m, least-is m) (implies-box (s m .pre) (met (c .before)))
 
 same-length-4 : tie.Need-same-length-4
 same-length-4 c = search needs
