@@ -43,7 +43,7 @@ LargestBudget = (M : Model) → ValidModel M → (width (M .n) (M .box) ≤ℤ p
 -- so is the sum of the bounds that a settle moves (02, C-11), which 32 bits hold (`propagate-moved-limit`)
 unfoldable pub MovedLimit : Type 0
 MovedLimit =
-    (M : Model) → ValidModel M → (budget : ℕ) → propagate budget (M .n) (M .m) (M .rows) (M .box) .moved ≤ 8_388_480
+    (M : Model) → ValidModel M → (budget : ℕ) → propagate budget (M .n) (M .m) (M .rows) (M .box) .moved ≤ 524_288
 
 -- "contains every other": there is at most one largest quiet box (`greatest-unique`)
 unfoldable pub UniqueGreatest : Type 0
