@@ -13,7 +13,7 @@ const SPENT: u64 = 2;
 #[test]
 fn two_x_at_most_five() {
     let mut model = Model::new(&[(0, 5)], &[(&[2], 5)]);
-    assert_eq!(model.propagate_row(0), ok(&[CHANGED]));
+    assert_eq!(model.propagate_row(0), ok(&[CHANGED, 1]));
     assert_eq!(model.bounds, [0, 2]);
     assert_eq!(model.propagate_row(0), ok(&[SAME]));
 }
@@ -21,14 +21,14 @@ fn two_x_at_most_five() {
 #[test]
 fn a_negative_coefficient_raises_the_lower_bound() {
     let mut model = Model::new(&[(0, 5)], &[(&[-2], -3)]);
-    assert_eq!(model.propagate_row(0), ok(&[CHANGED]));
+    assert_eq!(model.propagate_row(0), ok(&[CHANGED, 1]));
     assert_eq!(model.bounds, [2, 5]);
 }
 
 #[test]
 fn floor_goes_towards_minus_infinity() {
     let mut model = Model::new(&[(-5, 5)], &[(&[2], -3)]);
-    assert_eq!(model.propagate_row(0), ok(&[CHANGED]));
+    assert_eq!(model.propagate_row(0), ok(&[CHANGED, 1]));
     assert_eq!(model.bounds, [-5, -2]);
 }
 
@@ -44,7 +44,7 @@ fn all_zero_rows() {
 #[test]
 fn both_must_be_one() {
     let mut model = Model::binary(2, &[(&[-1, -1], -2)]);
-    assert_eq!(model.propagate_row(0), ok(&[CHANGED]));
+    assert_eq!(model.propagate_row(0), ok(&[CHANGED, 2]));
     assert_eq!(model.bounds, [1, 1, 1, 1]);
     let mut model = Model::binary(2, &[(&[-1, -1], -3)]);
     assert_eq!(model.propagate_row(0), ok(&[NONE]));
@@ -81,8 +81,8 @@ fn a_redundant_row_is_removed_and_not_tightened() {
 #[test]
 fn passes_and_budget() {
     let model = Model::new(&[(0, 5)], &[(&[2], 5)]);
-    assert_eq!(model.clone().propagate(1), ok(&[SPENT, 1]));
-    assert_eq!(model.clone().propagate(2), ok(&[SETTLED, 2]));
+    assert_eq!(model.clone().propagate(1), ok(&[SPENT, 1, 1]));
+    assert_eq!(model.clone().propagate(2), ok(&[SETTLED, 2, 1]));
 }
 
 #[test]
@@ -92,7 +92,7 @@ fn a_propagation_fixpoint_need_not_be_at_rest() {
     assert_eq!(model.propagate_row(1), ok(&[SAME]));
     assert_eq!(model.at_rest(), ok(&[0]));
     // Side 0 moves nothing. Side 1: row 0 puts y at 1, row 1 finds 2 > 1 in the same pass.
-    assert_eq!(model.probe(0, 1_000), ok(&[1, 0, 1, 0, 1, 0]));
+    assert_eq!(model.probe(0, 1_000), ok(&[1, 0, 1, 0, 0, 1, 0, 1]));
     assert_eq!(model.bounds, [0, 0, 0, 1]);
     assert_eq!(model.at_rest(), ok(&[1]));
 }
@@ -155,8 +155,8 @@ fn thirty_lots_typed_as_thirty_thousand() {
     model.bounds = vec![0, 4_097];
     assert_eq!(model.propagate(1_000), Err(23));
     model.bounds = vec![0, 4_096];
-    assert_eq!(model.propagate(1_000), ok(&[SETTLED, 2]));
+    assert_eq!(model.propagate(1_000), ok(&[SETTLED, 2, 1]));
     assert_eq!(model.bounds, [0, 30]);
     model.bounds = vec![0, 30];
-    assert_eq!(model.propagate(1_000), ok(&[SETTLED, 1]));
+    assert_eq!(model.propagate(1_000), ok(&[SETTLED, 1, 0]));
 }
