@@ -26,5 +26,5 @@ use Rattle.semantics.specs.Run.{answersNone, classOf, countCall, isRefus
 use Rattle.semantics.specs.WorkedBooks.{binary2, empty2, pair, single}
 
 pub corners-hold : AllHold corners
-unfolding corners alike deep either emptied listed neither spentSide unlent unspent wide callsMade listChecks listFault recordAt recordsFrom recordsOf runList run withLengths withSizes modelChecks modelFault restFault answersNone classOf countCall isRefused noCounts probeInfeasible sameBytes sameState tally binary2 empty2 pair single boxed callOn removeCall kept fresh probeCall rowed propagateCall tightenCall propagateRowCall callChecks callFault givenModel isLent lentTable recordChecks act perform byteOf fix hull implies isFixed joinSides literal probe put recordSide recordTo sideOf isNone isSpent passRow passTo propagate propagateFrom isFixpoint isProbingFixpoint sidesSpan step hasBudget hasRow hasTable hasVariable isUnknown kindOf lengthsOf stateOf splice setRow withBox withRow isChanged isInfeasible impliedBox newLower newUpper propagateRow stays removeRedundantRow zeroRow tightenAt tightenCoefficient maxActivity maxTerm minActivity minTerm rowOf bits first inRange lengthChecks boxChecks narrow numberChecks ordered sizeChecks tableByteChecks tableLengthChecks boxOf emptyBox isEmpty isFree sameList eqZ maxZ minZ all sum ceilDiv floorDiv falling laterNone twice differs movedBounds
+unfolding corners alike deep either emptied listed neither spentSide unlent unspent wide callsMade listChecks listFault recordAt recordsFrom recordsOf runList run withLengths withSizes modelChecks modelFault restFault answersNone classOf countCall isRefused noCounts probeInfeasible sameBytes sameState tally binary2 empty2 pair single boxed callOn removeCall kept fresh probeCall rowed propagateCall tightenCall propagateRowCall callChecks callFault givenModel isLent lentTable recordChecks act perform byteOf fix hull implies isFixed joinSides literal probe put recordSide recordTo sideOf isNone isSpent passRow passTo propagate propagateFrom isFixpoint isProbingFixpoint sidesSpan step hasBudget hasRow hasTable hasVariable isUnknown kindOf lengthsOf stateOf splice setRow withBox withRow isInfeasible impliedBox newLower newUpper propagateRow stays removeRedundantRow zeroRow tightenAt tightenCoefficient maxActivity maxTerm minActivity minTerm rowOf bits first inRange lengthChecks boxChecks narrow numberChecks ordered sizeChecks tableByteChecks tableLengthChecks boxOf emptyBox isEmpty isFree sameList eqZ maxZ minZ all sum ceilDiv floorDiv falling laterNone twice differs movedBounds
 corners-hold = (refl, (refl, (refl, (refl, (refl, (refl, (refl, (refl, (refl, (refl, (refl, (refl, (refl, (refl, (refl, (refl, (refl, (refl, (refl, (refl, (refl, (refl, (refl, (refl, (refl, (refl, (refl, (refl, (refl, (refl, (refl, (refl, (refl, (refl, (refl, (refl, (refl, (refl, (refl, (refl, (refl, (refl, (refl, (refl, (refl, (refl, (refl, (refl, (refl, (refl, (refl, (refl, (refl, (refl, (refl, (refl, (refl, (refl, (refl, (refl, (refl, (refl, (refl, (refl, (refl, (refl, (refl, (refl, (refl, (refl, (refl, (refl, (refl, (refl, (refl, (refl, (refl, (refl, (refl, (refl, (refl, (refl, (refl, (refl, (refl, (refl, (refl, (refl, (refl, (refl, (refl, (refl, (refl, (refl, (refl, (refl, (refl, (refl, (refl, (refl, (refl, (refl, (refl, (refl, (refl, (refl, (refl, (refl, (refl, (refl, (refl, (refl, (refl, (refl, (refl, tt)))))))))))))))))))))))))))))))))))))))))))))))))))))))))))))))))))))))))))))))))))))))))))))))))))))))))))))))))))

@@ -25,5 +25,5 @@ use Rattle.semantics.specs.Run.{run, step}
 use Rattle.semantics.specs.WorkedBooks.{atRest, binary2, boxAfter, chained, clique, crossed, empty2, pair, single, workedBooks}
 
 pub worked-books-hold : AllHold workedBooks
-unfolding workedBooks atRest binary2 boxAfter chained clique crossed empty2 pair single boxed callOn removeCall kept fresh probeCall rowed propagateCall tightenCall propagateRowCall callChecks callFault givenModel isLent lentTable recordChecks ones act perform byteOf fix hull implies isFixed joinSides literal probe put recordSide recordTo sideOf isNone isSpent passRow passTo propagate propagateFrom isFixpoint isProbingFixpoint sidesSpan run step hasBudget hasRow hasTable hasVariable isUnknown kindOf lengthsOf stateOf splice setRow withBox withRow isChanged isInfeasible impliedBox newLower newUpper propagateRow stays removeRedundantRow zeroRow tightenAt tightenCoefficient maxActivity maxTerm minActivity minTerm rowOf bits first inRange lengthChecks modelChecks boxChecks narrow numberChecks ordered sizeChecks tableByteChecks tableLengthChecks boxOf emptyBox isEmpty isFree sameList eqZ maxZ minZ all sum ceilDiv floorDiv differs movedBounds
+unfolding workedBooks atRest binary2 boxAfter chained clique crossed empty2 pair single boxed callOn removeCall kept fresh probeCall rowed propagateCall tightenCall propagateRowCall callChecks callFault givenModel isLent lentTable recordChecks ones act perform byteOf fix hull implies isFixed joinSides literal probe put recordSide recordTo sideOf isNone isSpent passRow passTo propagate propagateFrom isFixpoint isProbingFixpoint sidesSpan run step hasBudget hasRow hasTable hasVariable isUnknown kindOf lengthsOf stateOf splice setRow withBox withRow isInfeasible impliedBox newLower newUpper propagateRow stays removeRedundantRow zeroRow tightenAt tightenCoefficient maxActivity maxTerm minActivity minTerm rowOf bits first inRange lengthChecks modelChecks boxChecks narrow numberChecks ordered sizeChecks tableByteChecks tableLengthChecks boxOf emptyBox isEmpty isFree sameList eqZ maxZ minZ all sum ceilDiv floorDiv differs movedBounds
 worked-books-hold = (refl, (refl, (refl, (refl, (refl, (refl, (refl, (refl, (refl, (refl, (refl, (refl, (refl, (refl, (refl, (refl, (refl, (refl, (refl, (refl, (refl, (refl, (refl, (refl, (refl, (refl, tt))))))))))))))))))))))))))
