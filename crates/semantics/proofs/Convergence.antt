@@ -12,7 +12,7 @@ use native.Mathlib.Decide.{ℕ-discrete}
 use native.Mathlib.Omega.{arith}
 use Rattle.integer.specs.Index.{all}
 use Rattle.integer.proofs.IndexLaws.{all-test}
-use Rattle.integer.proofs.Parts.{zarith}
+use Rattle.integer.proofs.Parts.{zarith, zify}
 use Rattle.integer.proofs.Tests.{all-three, both, false→T, or-cases, or-inl, or-inr, true→T}
 use Rattle.model.specs.Box.{Inside, NonEmpty, at, emptyBox, isEmpty, isFree, sameList, width}
 use Rattle.model.specs.Model.{Model}
