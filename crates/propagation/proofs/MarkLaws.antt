@@ -262,18 +262,18 @@ module _ {n m : ℕ} {B C R : List ℤ} {across signs : List ℕ} {seen : List �
       }
 
 -- by the answer v, with which the box Q was left
-module _ {w : PropagatedRow} (v : RowPropagation) (Q : List ℤ) (e : propagatedRowOf v Q ≡ w) where
-  box-of : (u : RowPropagation) → propagatedRowOf u Q .box ≡ Q
-  unfolding propagatedRowOf
-  box-of Infeasible = refl
-  box-of (Tightened k) = refl
-  box-of Unchanged = refl
+box-of : (v : RowPropagation) (Q : List ℤ) → propagatedRowOf v Q .box ≡ Q
+unfolding propagatedRowOf
+box-of Infeasible Q = refl
+box-of (Tightened k) Q = refl
+box-of Unchanged Q = refl
 
+module _ {w : PropagatedRow} (v : RowPropagation) (Q : List ℤ) (e : propagatedRowOf v Q ≡ w) where
   pub said : {u : RowPropagation} → v ≡ u → propagatedRowOf u Q ≡ w
   said t = rw t at e
 
   pub left-by : Q ≡ w .box
-  left-by = sym (box-of v) ∙ ap (λ (u : PropagatedRow). u .box) e
+  left-by = sym (box-of v Q) ∙ ap (λ (u : PropagatedRow). u .box) e
 
   pub tightened : {k : ℕ} → v ≡ Tightened k → T (not (isInfeasible (w .outcome)))
   unfolding propagatedRowOf isInfeasible

@@ -1,5 +1,5 @@
--- `propagation::propagate_marked` is the definition: rows 0 to r − 1 came to what `passTo` says, and the passes that are left from here
--- give what the whole gives. The two ways out of the passes meet in `met`. Assumes nothing.
+-- `propagation::propagate_marked` is the definition: rows 0 to r − 1 came to what `passTo` says, and the passes that are left from here,
+-- with the tally so far, give what the whole gives. The two ways out of the passes meet in `met`. Assumes nothing.
 use Prim.Native.Nat.{_+_, _-_, _≤_, ℕ}
 use borrow.Author.Needs.{needs}
 use lib.Dec.{T}
