@@ -51,7 +51,8 @@ impl<'a> Row<'a> {
         requires { ⌜ ValidRow (length (now (self .coefs))) (now (self .coefs)) (self .b) (now bounds) ⌝ }
         ensures { λ r.
             let A = now (self .entry .coefs) in
-            ⌜ propagatedRowOf r (now (bounds .exit)) ≡ propagateRow (length A) A (self .entry .b) (now (bounds .entry)) ⌝ }
+            let B = now (bounds .entry) in
+            ⌜ propagatedRowOf r (now (bounds .exit)) ≡ propagateRow (length A) A (self .entry .b) B ⌝ }
     {
         propagate_row(self.coefs, self.b, bounds)
     }
@@ -62,7 +63,8 @@ impl<'a> Row<'a> {
             × Steps (length (now (self .coefs))) (now (self .coefs)) (now steps) ⌝ }
         ensures { λ t.
             let A = now (self .entry .coefs) in
-            ⌜ propagatedRowOf t (now (bounds .exit)) ≡ propagateRow (length A) A (self .entry .b) (now (bounds .entry)) ⌝ }
+            let B = now (bounds .entry) in
+            ⌜ propagatedRowOf t (now (bounds .exit)) ≡ propagateRow (length A) A (self .entry .b) B ⌝ }
     {
         propagate_row_by(self.coefs, steps, self.b, bounds)
     }
