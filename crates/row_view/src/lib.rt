@@ -49,8 +49,12 @@ impl<'a> Row<'a> {
     // 01's visit of the row, with the box lent.
     pub fn propagate<'b>(self, bounds: &'b mut [i32]) -> RowPropagation
         requires { ⌜ ValidRow (length (now (self .coefs))) (now (self .coefs)) (self .b) (now bounds) ⌝ }
-        ensures answer { λ r. ⌜ propagationOutcome r ≡ propagateRow (length (now (self .entry .coefs))) (now (self .entry .coefs)) (self .entry .b) (now (bounds .entry)) .outcome ⌝ }
-        ensures left { λ r. ⌜ now (bounds .exit) ≡ propagateRow (length (now (self .entry .coefs))) (now (self .entry .coefs)) (self .entry .b) (now (bounds .entry)) .box ⌝ }
+        ensures answer { λ r.
+            ⌜ propagationOutcome r ≡ propagateRow (length (now (self .entry .coefs))) (now (self .entry .coefs))
+            (self .entry .b) (now (bounds .entry)) .outcome ⌝ }
+        ensures left { λ r. ⌜ now (bounds .exit)
+            ≡ propagateRow (length (now (self .entry .coefs))) (now (self .entry .coefs)) (self .entry .b)
+            (now (bounds .entry)) .box ⌝ }
     {
         propagate_row(self.coefs, self.b, bounds)
     }
@@ -63,7 +67,9 @@ impl<'a> Row<'a> {
             ⌜ propagationOutcome t
             ≡ propagateRow (length (now (self .entry .coefs))) (now (self .entry .coefs)) (self .entry .b)
             (now (bounds .entry)) .outcome ⌝ }
-        ensures left { λ t. ⌜ now (bounds .exit) ≡ propagateRow (length (now (self .entry .coefs))) (now (self .entry .coefs)) (self .entry .b) (now (bounds .entry)) .box ⌝ }
+        ensures left { λ t. ⌜ now (bounds .exit)
+            ≡ propagateRow (length (now (self .entry .coefs))) (now (self .entry .coefs)) (self .entry .b)
+            (now (bounds .entry)) .box ⌝ }
     {
         propagate_row_by(self.coefs, steps, self.b, bounds)
     }
@@ -99,8 +105,11 @@ pub fn propagate_row_at<'a, 'b, 'c>(
     bounds: &'c mut [i32],
 ) -> RowPropagation
     requires { ⌜ RowIn n (now coefs) (now rhs) r × ValidRow n (rowOf n (now coefs) r) (at (now rhs) r) (now bounds) ⌝ }
-    ensures answer { λ s. ⌜ propagationOutcome s ≡ propagateRow n (rowOf n (now (coefs .entry)) r) (at (now (rhs .entry)) r) (now (bounds .entry)) .outcome ⌝ }
-    ensures left { λ s. ⌜ now (bounds .exit) ≡ propagateRow n (rowOf n (now (coefs .entry)) r) (at (now (rhs .entry)) r) (now (bounds .entry)) .box ⌝ }
+    ensures answer { λ s.
+        ⌜ propagationOutcome s ≡ propagateRow n (rowOf n (now (coefs .entry)) r) (at (now (rhs .entry)) r)
+        (now (bounds .entry)) .outcome ⌝ }
+    ensures left { λ s. ⌜ now (bounds .exit)
+        ≡ propagateRow n (rowOf n (now (coefs .entry)) r) (at (now (rhs .entry)) r) (now (bounds .entry)) .box ⌝ }
 {
     row_at(n, coefs, rhs, r).propagate(bounds)
 }
@@ -116,7 +125,9 @@ fn propagate_row_with<'a, 'b, 'c, 'd>(
 ) -> RowPropagation
     requires { ⌜ RowIn n (now coefs) (now rhs) r × ValidRow n (rowOf n (now coefs) r) (at (now rhs) r) (now bounds)
         × Steps n (rowOf n (now coefs) r) (now steps) ⌝ }
-    ensures answer { λ t. ⌜ propagationOutcome t ≡ propagateRow n (rowOf n (now (coefs .entry)) r) (at (now (rhs .entry)) r) (now (bounds .entry)) .outcome ⌝ }
+    ensures answer { λ t.
+        ⌜ propagationOutcome t ≡ propagateRow n (rowOf n (now (coefs .entry)) r) (at (now (rhs .entry)) r)
+        (now (bounds .entry)) .outcome ⌝ }
     ensures left { λ t.
         ⌜ now (bounds .exit)
         ≡ propagateRow n (rowOf n (now (coefs .entry)) r) (at (now (rhs .entry)) r) (now (bounds .entry)) .box ⌝ }
