@@ -1,10 +1,10 @@
 //! A presolve library for 0-1 and small-integer linear models whose every function is proved.
 //!
-//! A [`Model`] has n variables (1 to 128) with whole bounds and m rows (0 to 120), each row saying
-//! `sum of coefficient · variable ≤ right-hand side`. Its methods make the model smaller: after each of
-//! them the integer points are exactly those before, no fractional point is added, and "infeasible" is
-//! said only where there is no integer point. That is proved of the library behind this wrapper, for
-//! every input.
+//! A [`Model`] has n variables (1 to 128) with whole bounds at most 4,096 apart and m rows (0 to 120),
+//! each row saying `sum of coefficient · variable ≤ right-hand side`. Its methods make the model smaller:
+//! after each of them the integer points are exactly those before, no fractional point is added, and
+//! "infeasible" is said only where there is no integer point. That is proved of the library behind this
+//! wrapper, for every input.
 //!
 //! ```
 //! use astrolabe::{Model, Propagation};
@@ -50,5 +50,8 @@ pub const VERSION: &str = env!("CARGO_PKG_VERSION");
 pub const MAX_VARIABLES: usize = 128;
 /// The most rows that a model has.
 pub const MAX_ROWS: usize = 120;
-/// The largest budget. It is never spent: no propagation makes more passes.
+/// The most that a variable's upper bound lies above its lower.
+pub const MAX_WIDTH: i32 = 4_096;
+/// The largest budget. It is never spent: the widest box, 128 variables of 4,096, takes at most 524,289
+/// passes.
 pub const MAX_BUDGET: u32 = 8_388_481;

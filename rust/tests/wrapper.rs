@@ -143,8 +143,28 @@ fn bad_books_are_refused_in_the_books_own_order() {
     assert_eq!(with(28, 1), Err(Refusal::BookLayout));
     assert_eq!(with(6, 1), Err(Refusal::BoundOutOfRange));
     assert_eq!(with(0, 2), Err(Refusal::BoundsCrossed));
+    assert_eq!(with(5, 0x10), Err(Refusal::VariableTooWide)); // u = 4,097
     assert_eq!(with(23, 1), Err(Refusal::CoefficientOutOfRange));
     assert_eq!(with(19, 0x7f), Err(Refusal::RightHandSideOutOfRange));
+}
+
+#[test]
+fn a_bound_that_is_too_wide_is_retyped() {
+    // What docs/INTEGRATION.md says of a stored book: 30,000 typed for 30 lots.
+    let mut book = Model::new(vec![0, 30], vec![10], vec![305]).unwrap().to_book().unwrap();
+    book[4..8].copy_from_slice(&30_000_i32.to_le_bytes());
+    let refusal = Model::from_book(&book).unwrap_err();
+    assert_eq!((refusal, refusal.check()), (Refusal::VariableTooWide, 23));
+    assert_eq!(refusal.to_string(), "refused by check 23: a variable is over 4096 wide");
+    book[4..8].copy_from_slice(&30_i32.to_le_bytes());
+    assert_eq!(Model::from_book(&book).unwrap().bounds(), [0, 30]);
+    // Bounds that a branch sets are checked at the next call, and a refusal changes nothing.
+    let mut model = Model::from_book(&book).unwrap();
+    model.set_bounds(0, 0, 4_097);
+    assert_eq!(model.propagate(1), Err(Refusal::VariableTooWide));
+    assert_eq!(model.bounds(), [0, 4_097]);
+    model.set_bounds(0, 0, 4_096);
+    assert_eq!(model.propagate(1), Ok(Propagation::BudgetSpent { passes: 1 }));
 }
 
 #[test]
@@ -161,6 +181,11 @@ fn a_model_is_checked_when_it_is_made() {
     assert_eq!(new(&[-32_769, 1], &[], &[]), Err(Refusal::BoundOutOfRange));
     assert_eq!(new(&[2, 1], &[], &[]), Err(Refusal::BoundsCrossed));
     assert_eq!(new(&[1, 0], &[], &[]), Ok(()));
+    assert_eq!(new(&[-1, 4_096], &[], &[]), Err(Refusal::VariableTooWide));
+    assert_eq!(new(&[-1, 4_095], &[], &[]), Ok(()));
+    // Straight after 7, before 8.
+    assert_eq!(new(&[-1, 4_096, 2, 1], &[], &[]), Err(Refusal::BoundsCrossed));
+    assert_eq!(new(&[-1, 4_096], &[1_000_001], &[3]), Err(Refusal::VariableTooWide));
     assert_eq!(new(&[0, 1], &[1_000_001], &[3]), Err(Refusal::CoefficientOutOfRange));
     assert_eq!(new(&[0, 1], &[1], &[1_000_000_001]), Err(Refusal::RightHandSideOutOfRange));
 }

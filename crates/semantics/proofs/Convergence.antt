@@ -1,8 +1,8 @@
 -- A budget above the box's width is never spent: propagation then ends in the greatest fixpoint inside, or infeasible where there is
 -- none. So the test of the rest call, and rest in the demand's own words, say what a probing fixpoint is.
-use Prim.Native.Nat.{_*_, _+_, _<_, suc, zero, ℕ}
+use Prim.Native.Nat.{_<_, suc, zero, ℕ}
 use lib.Dec.{T, T-not, not-T}
-use lib.IntN.{_-ℤ_, pos, ℤ}
+use lib.IntN.{pos, ℤ}
 use lib.Signed.{_<ℤ_, _≤ℤ_}
 use mathlib.Core.Bool.{Bool, _&&_, _||_, false, not, true}
 use mathlib.Core.List.{List}
@@ -11,16 +11,15 @@ use mathlib.Core.Path.{_∙_, _≡_, ap, ap₂, refl, subst}
 use native.Mathlib.Decide.{ℕ-discrete}
 use native.Mathlib.Omega.{arith}
 use Rattle.integer.specs.Index.{all}
-use Rattle.integer.specs.Range.{Within}
-use Rattle.integer.proofs.IndexLaws.{all-test, sum-within}
-use Rattle.integer.proofs.Parts.{sub-parts, zarith}
-use Rattle.integer.proofs.RangeLaws.{within!, zwithin}
+use Rattle.integer.proofs.IndexLaws.{all-test}
+use Rattle.integer.proofs.Parts.{zarith}
 use Rattle.integer.proofs.Tests.{all-three, both, false→T, not-or-l, not-or-r, or-cases, or-inl, or-inr, true→T}
-use Rattle.model.specs.Box.{Inside, NonEmpty, at, emptyBox, isEmpty, isFree, lower, sameList, upper, width}
+use Rattle.model.specs.Box.{Inside, NonEmpty, at, emptyBox, isEmpty, isFree, sameList, width}
 use Rattle.model.specs.Rows.{Rows, rowAt}
 use Rattle.model.specs.State.{State}
 use Rattle.model.specs.Valid.{ValidModel}
 use Rattle.model.proofs.BoxLaws.{empty-is, inside-antisymm, inside-refl, inside-trans, isEmpty→eq, nonEmpty-isn't, not-in-empty, sameList-refl, sameList→eq}
+use Rattle.model.proofs.CheckLaws.{model-width}
 use Rattle.row.specs.Outcome.{isChanged, isInfeasible}
 use Rattle.row.specs.Propagation.{PropagatedRow, propagateRowOf}
 use Rattle.row.proofs.PropagationLaws.{box→stable, propagate-row-nonEmpty, propagate-row-shrinks, propagate-row-unchanged, propagate-row-width, stable→same}
@@ -117,17 +116,8 @@ propagate-ends budget n m A B h p w = propagate-ind budget n m A B (Ends n m A B
     (λ _. propagateFrom-ends budget 0 n m A B h p w)
 
 pub width-limit : LargestBudget
-unfolding LargestBudget width
-width-limit M v =
-    let w : Within (M .n * 65_535) (width (M .n) (M .box)) = sum-within 65_535 (λ j. upper (M .box) j -ℤ lower (M .box) j) term (M .n) in
-    let f = v .few in
-    (omega zwithin, omega zwithin)
-  where
-    term : (j : ℕ) → Within 65_535 (upper (M .box) j -ℤ lower (M .box) j)
-    term j =
-        let a = v .box .range (2 * j) in
-        let b = v .box .range (2 * j + 1) in
-        within! 65_535 (upper (M .box) j -ℤ lower (M .box) j) (omega (zarith, sub-parts (upper (M .box) j) (lower (M .box) j)))
+unfolding LargestBudget
+width-limit M v = let w = model-width M v in (w, omega zarith)
 
 pub greatest-unique : UniqueGreatest
 unfolding UniqueGreatest

@@ -36,9 +36,9 @@ unfoldable pub EnoughPasses : Type 0
 EnoughPasses =
     (budget n m : ℕ) (A : Rows) (B : List ℤ) → 0 < n → NonEmpty n B → width n B <ℤ pos budget → Ends n m A B (propagate budget n m A B)
 
--- the total width of any accepted model is at most 8,388,480, so the largest budget is always enough (`width-limit`)
+-- the total width of any accepted model is at most 128 × 4,096, so the largest budget is always enough (`width-limit`)
 unfoldable pub LargestBudget : Type 0
-LargestBudget = (M : Model) → ValidModel M → (width (M .n) (M .box) ≤ℤ pos 8_388_480) × (width (M .n) (M .box) <ℤ pos maxBudget)
+LargestBudget = (M : Model) → ValidModel M → (width (M .n) (M .box) ≤ℤ pos 524_288) × (width (M .n) (M .box) <ℤ pos maxBudget)
 
 -- "contains every other": there is at most one largest quiet box (`greatest-unique`)
 unfoldable pub UniqueGreatest : Type 0

@@ -1,4 +1,4 @@
--- Corner cases, as a table like that of the worked books (proved as `corners-hold`): what 01 says in half a sentence, computed.
+-- Corner cases, as a table like that of the worked books (proved as `corners-hold`): what 01 and 02 say in half a sentence, computed.
 use Prim.Native.Nat.{ℕ}
 use lib.IntN.{negsuc, negℤ, pos, ℤ}
 use lib.ListN.{replicate}
@@ -19,6 +19,10 @@ use Rattle.semantics.specs.WorkedBooks.{binary2, empty2, pair, single}
 -- x + y ≤ 1 on the empty box
 unfoldable pub emptied : State
 emptied = fresh 2 1 empty2 (pos 1 ∷ pos 1 ∷ []) (pos 1 ∷ [])
+
+-- x + y ≤ 1, y too wide by 1
+unfoldable pub wide : State
+wide = fresh 2 1 (pos 0 ∷ pos 1 ∷ pos 0 ∷ pos 4_097 ∷ []) (pos 1 ∷ pos 1 ∷ []) (pos 1 ∷ [])
 
 -- −y ≤ −1: both sides of x fix y at 1
 unfoldable pub alike : State
@@ -89,7 +93,8 @@ corners =
     -- 6 to 9: the number just outside each range refuses, the last one inside does not
     ∷ (let s = single (pos 2) (pos 5) (negℤ (pos 32_769)) (pos 5) in is (perform s (propagateRowCall s 0)) (kept s (refused 6)))
     ∷ (let s = single (pos 2) (pos 5) (pos 0) (pos 32_768) in is (perform s (propagateRowCall s 0)) (kept s (refused 6)))
-    ∷ (let s = single (pos 0) (pos 5) (negℤ (pos 32_768)) (pos 32_767) in is (perform s (propagateRowCall s 0)) (kept s (propagatedRow unchanged)))
+    ∷ (let s = single (pos 0) (pos 5) (negℤ (pos 32_768)) (negℤ (pos 28_672)) in is (perform s (propagateRowCall s 0)) (kept s (propagatedRow unchanged)))
+    ∷ (let s = single (pos 0) (pos 5) (pos 28_671) (pos 32_767) in is (perform s (propagateRowCall s 0)) (kept s (propagatedRow unchanged)))
     ∷ (let s = single (pos 2) (pos 5) (pos 1) (pos 0) in is (perform s (propagateRowCall s 0)) (kept s (propagatedRow infeasible)))
     ∷ (let s = single (pos 2) (pos 5) (pos 2) (pos 1) in is (perform s (propagateRowCall s 0)) (kept s (refused 7)))
     ∷ (let s = fresh 2 1 (pos 1 ∷ pos 0 ∷ pos 0 ∷ pos 1 ∷ []) (pos 1 ∷ pos 1 ∷ []) (pos 1 ∷ []) in is (perform s (propagateRowCall s 0)) (kept s (refused 7)))
@@ -99,16 +104,37 @@ corners =
     ∷ (let s = single (pos 0) (negℤ (pos 1_000_000_001)) (pos 0) (pos 5) in is (perform s (propagateRowCall s 0)) (kept s (refused 9)))
     ∷ (let s = single (pos 0) (pos 1_000_000_001) (pos 0) (pos 5) in is (perform s (propagateRowCall s 0)) (kept s (refused 9)))
     ∷ (let s = single (pos 1_000_000) (pos 1_000_000_000) (pos 0) (pos 5) in is (perform s (propagateRowCall s 0)) (kept s (propagatedRow unchanged)))
+    -- 23: a width of 4,096 is accepted and 4,097 refused, from 0, across 0 and at the ends of the range
+    ∷ (let s = single (pos 0) (pos 5) (pos 0) (pos 4_096) in is (perform s (propagateRowCall s 0)) (kept s (propagatedRow unchanged)))
+    ∷ (let s = single (pos 0) (pos 5) (pos 0) (pos 4_097) in is (perform s (propagateRowCall s 0)) (kept s (refused 23)))
+    ∷ (let s = single (pos 0) (pos 5) (negℤ (pos 2_048)) (pos 2_048) in is (perform s (propagateRowCall s 0)) (kept s (propagatedRow unchanged)))
+    ∷ (let s = single (pos 0) (pos 5) (negℤ (pos 2_048)) (pos 2_049) in is (perform s (propagateRowCall s 0)) (kept s (refused 23)))
+    ∷ (let s = single (pos 0) (pos 5) (pos 28_670) (pos 32_767) in is (perform s (propagateRowCall s 0)) (kept s (refused 23)))
+    ∷ (let s = single (pos 0) (pos 5) (negℤ (pos 32_768)) (pos 32_767) in is (perform s (propagateRowCall s 0)) (kept s (refused 23)))
+    ∷ is (perform wide (propagateRowCall wide 0)) (kept wide (refused 23))
+    -- "in every call"
+    ∷ is (perform wide (propagateCall wide 1)) (kept wide (refused 23))
+    ∷ is (perform wide (probeCall wide 0 1)) (kept wide (refused 23))
+    ∷ is (perform wide (tightenCall wide 0 0)) (kept wide (refused 23))
+    ∷ is (perform wide (removeCall wide 0)) (kept wide (refused 23))
+    ∷ is (perform wide (callOn wide 6 0 0 1)) (kept wide (refused 23))
+    ∷ is (restFault wide) 23
+    ∷ is (runList wide []) (record { answer = refusedList 23; state = wide })
+    -- 7 before 23, whichever variable is too wide; a box of which one variable has l = 1 and u = 0 is not the empty one
+    ∷ (let s = withBox wide (pos 0 ∷ pos 4_097 ∷ pos 3 ∷ pos 2 ∷ []) (wide .table) in is (perform s (propagateRowCall s 0)) (kept s (refused 7)))
+    ∷ (let s = withBox wide (pos 1 ∷ pos 0 ∷ pos 0 ∷ pos 4_097 ∷ []) (wide .table) in is (perform s (propagateRowCall s 0)) (kept s (refused 7)))
     -- 10: a table byte of 2 refuses a probe, and no call that is lent no table
     ∷ (let s = withBox emptied binary2 (0 ∷ 0 ∷ 0 ∷ 0 ∷ 0 ∷ 0 ∷ 0 ∷ 0 ∷ 0 ∷ 0 ∷ 0 ∷ 0 ∷ 0 ∷ 0 ∷ 0 ∷ 2 ∷ []) in
     is (perform s (probeCall s 0 7)) (kept s (refused 10)))
     ∷ (let s = withBox emptied binary2 (0 ∷ 0 ∷ 0 ∷ 0 ∷ 0 ∷ 0 ∷ 0 ∷ 0 ∷ 0 ∷ 0 ∷ 0 ∷ 0 ∷ 0 ∷ 0 ∷ 0 ∷ 2 ∷ []) in
     is (perform s (propagateRowCall s 0)) (kept s (propagatedRow unchanged)))
-    -- in their order: 6 before 7 before 8 before 9 before 10, and 10 before the call's own checks
+    -- in their order: 6 before 7 before 23 before 8 before 9 before 10, and 10 before the call's own checks
     ∷ (let s = withBox (single (pos 1_000_001) (pos 1_000_000_001) (pos 0) (pos 0)) (pos 32_768 ∷ pos 0 ∷ []) (0 ∷ 0 ∷ 0 ∷ 2 ∷ []) in
     is (perform s (probeCall s 1 0)) (kept s (refused 6)))
     ∷ (let s = withBox (single (pos 1_000_001) (pos 1_000_000_001) (pos 0) (pos 0)) (pos 5 ∷ pos 0 ∷ []) (0 ∷ 0 ∷ 0 ∷ 2 ∷ []) in
     is (perform s (probeCall s 1 0)) (kept s (refused 7)))
+    ∷ (let s = withBox (single (pos 1_000_001) (pos 1_000_000_001) (pos 0) (pos 0)) (pos 0 ∷ pos 4_097 ∷ []) (0 ∷ 0 ∷ 0 ∷ 2 ∷ []) in
+    is (perform s (probeCall s 1 0)) (kept s (refused 23)))
     ∷ (let s = withBox (single (pos 1_000_001) (pos 1_000_000_001) (pos 0) (pos 0)) (pos 0 ∷ pos 1 ∷ []) (0 ∷ 0 ∷ 0 ∷ 2 ∷ []) in
     is (perform s (probeCall s 1 0)) (kept s (refused 8)))
     ∷ (let s = withBox (single (pos 1) (pos 1_000_000_001) (pos 0) (pos 0)) (pos 0 ∷ pos 1 ∷ []) (0 ∷ 0 ∷ 0 ∷ 2 ∷ []) in

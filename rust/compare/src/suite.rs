@@ -67,8 +67,8 @@ pub fn play(
         // No answer looks like this: what a call leaves unwritten is seen.
         lent.answer.fill(0x5a5a_5a5a_5a5a_5a5a);
         let said = compare(operation, &mut lent, expected, actual)?;
-        if let Some(check) = case.refused_by {
-            assert_eq!(said, check, "{operation:?} was made to fail check {check}: {lent:?}");
+        if let Some(number) = case.returns {
+            assert_eq!(said, number, "{operation:?} was made to return {number}: {lent:?}");
         }
         coverage.note(operation, said, &lent.answer);
     }

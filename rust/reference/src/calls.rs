@@ -36,7 +36,7 @@ fn reply(answer: &mut [u64], call: impl FnOnce(usize) -> Answer) -> u32 {
     }
 }
 
-/// Checks 3 and 5 to 10 of a model, with its table where the call is lent one; `others` are the lengths
+/// Checks 3, 5, 6, 7, 23, 8, 9 and 10 of a model, with its table where the call is lent one; `others` are the lengths
 /// of further lent buffers, with the lengths that they need.
 fn check_model(
     n: usize,

@@ -3,7 +3,8 @@
 use crate::bounds;
 use crate::row::{self, Outcome, Rows};
 
-/// The largest budget: 128 variables of width 65,535, and one pass that moves nothing.
+/// The largest budget: 128 variables of width 65,535, and one pass that moves nothing. Since C-22 no
+/// accepted variable is wider than 4,096; "The largest budget remains".
 pub const MAX_BUDGET: u32 = 8_388_481;
 
 /// How a propagation ended, with the passes made.

@@ -1,5 +1,5 @@
-//! Corner cases: what docs/DECISIONS.md decides where 01 leaves a point open (D-1 and following), and
-//! what the issue fixes for the C interface.
+//! Corner cases: what docs/DECISIONS.md decides where 01 leaves a point open (D-1 and following), what
+//! 02's requests change, and what the issue fixes for the C interface.
 
 mod common;
 use common::{Model, ok};
@@ -13,14 +13,16 @@ fn empty_box() -> Model {
 }
 
 #[test]
-fn checks_run_strictly_by_number() {
-    // D-1: everything is wrong; repairing one check after another shows the next number.
+fn checks_run_strictly_in_their_order() {
+    // D-1: everything is wrong; repairing one check after another shows the next number, 23 after 7.
     let mut model = Model::new(&[(0, 40_000), (1, 0)], &[(&[1_000_001, 0], 1_000_000_001)]);
     model.table[0] = 2;
     assert_eq!(model.probe(9, 0), Err(6));
     model.bounds[1] = 1;
     assert_eq!(model.probe(9, 0), Err(7));
-    model.bounds[3] = 2;
+    model.bounds[3] = 4_098;
+    assert_eq!(model.probe(9, 0), Err(23));
+    model.bounds[3] = 4_097;
     assert_eq!(model.probe(9, 0), Err(8));
     model.coefs[0] = 1_000_000;
     assert_eq!(model.probe(9, 0), Err(9));
@@ -60,6 +62,70 @@ fn a_box_that_is_nearly_empty_is_refused() {
     assert_eq!(model.propagate(1), ok(&[0, 1]));
     model.bounds = vec![1, 0, 2, 1];
     assert_eq!(model.propagate(1), Err(7));
+}
+
+/// C-22: "A variable whose u − l is over 4,096 is refused, in books and in memory, in every call".
+#[test]
+fn a_variable_is_at_most_4_096_wide() {
+    // Wherever it stands in its range, and whichever of the variables it is.
+    for low in [-32_768, -4_097, -2_048, 0, 1, 32_767 - 4_097] {
+        for place in 0..3 {
+            let mut model = Model::new(&[(0, 1); 3], &[(&[1, 1, 1], 40_000)]);
+            model.bounds[2 * place..][..2].copy_from_slice(&[low, low + 4_096]);
+            assert_eq!(every_call(&mut model), [0; 10]);
+            model.bounds[2 * place + 1] += 1;
+            assert_eq!(every_call(&mut model), [23; 10]);
+        }
+    }
+    // The whole range, and a box with the empty box's first pair: that one is crossed, and 7 comes first.
+    assert_eq!(every_call(&mut Model::new(&[(-32_768, 32_767)], &[(&[0], 0)])), [23; 10]);
+    assert_eq!(every_call(&mut Model::new(&[(1, 0), (0, 4_097)], &[(&[0, 0], 0)])), [7; 10]);
+}
+
+/// What each of the ten calls that are lent bounds or a book of the model returns, each on its own copy;
+/// 0 also where only the variable is refused (by 14, after every check of the model).
+fn every_call(model: &mut Model) -> [u32; 10] {
+    let calls: [fn(&mut Model) -> common::Said; 8] = [
+        |model| model.propagate_row(0),
+        |model| model.propagate(1),
+        |model| model.probe(0, 1),
+        |model| model.tighten(0, 0),
+        |model| model.remove(0),
+        |model| model.at_rest(),
+        |model| model.run(&[]),
+        |model| model.rounds(0),
+    ];
+    let mut numbers = [0; 10];
+    for (number, call) in numbers.iter_mut().zip(calls) {
+        *number = call(&mut model.clone()).err().filter(|&check| check != 14).unwrap_or(0);
+    }
+    let (n, m) = (model.n, model.m);
+    let mut book = reference::book::write(n, m, &model.bounds, &model.coefs, &model.rhs);
+    let (mut bounds, mut coefs, mut rhs) = (vec![9; 2 * n], vec![9; m * n], vec![9; m]);
+    numbers[8] = calls::book_read(&book, &mut bounds, &mut coefs, &mut rhs, &mut [0; 6]);
+    assert_eq!(numbers[8] == 0, bounds != vec![9; 2 * n], "a refusal writes nothing");
+    numbers[9] = calls::book_write(n, m, &model.bounds, &model.coefs, &model.rhs, &mut book);
+    numbers
+}
+
+#[test]
+fn the_width_comes_straight_after_7_and_before_8() {
+    let wide = (0, 4_097);
+    let said = |first, second, a, b| Model::new(&[first, second], &[(&[0, a], b)]).propagate(0);
+    let (big_a, big_b) = (1_000_001, 1_000_000_001);
+    assert_eq!(said(wide, (0, 32_768), big_a, big_b), Err(6));
+    assert_eq!(said((0, 32_768), wide, big_a, big_b), Err(6));
+    assert_eq!(said(wide, (1, 0), big_a, big_b), Err(7));
+    assert_eq!(said((2, 1), wide, big_a, big_b), Err(7));
+    assert_eq!(said(wide, (0, 1), big_a, big_b), Err(23));
+    assert_eq!(said((0, 1), wide, 0, big_b), Err(23));
+    assert_eq!(said((0, 1), wide, 0, 0), Err(23));
+    assert_eq!(said((0, 1), (0, 4_096), big_a, big_b), Err(8));
+    assert_eq!(said((0, 1), (0, 4_096), 0, 0), Err(15));
+    // A bound out of its range by far: the width is looked at only after 6.
+    assert_eq!(said((i32::MIN, i32::MAX), wide, 0, 0), Err(6));
+    // The empty box has no width, and with it every other check applies as before.
+    assert_eq!(empty_box().propagate(0), Err(15));
 }
 
 #[test]
@@ -112,6 +178,7 @@ fn a_book_is_checked_in_order() {
     assert_eq!(read(&good, 3), 5);
     assert_eq!(read(&with(6, 1), 4), 6);
     assert_eq!(read(&with(0, 2), 4), 7);
+    assert_eq!(read(&with(5, 0x10), 4), 23); // u = 4,097
     assert_eq!(read(&with(23, 1), 4), 8);
     assert_eq!(read(&with(19, 0x7f), 4), 9);
 }
@@ -281,5 +348,9 @@ fn reduce_prints_none_and_refusals() {
     assert_eq!(reduce(&[0; 16]), "refused 2\n");
     assert_eq!(reduce(&Model::binary(1, &[(&[1], -1)]).book()), "none\n");
     assert_eq!(reduce(&empty_box().book()), "none\n");
+    let wide = reference::book::write(1, 0, &[0, 4_097], &[], &[]);
+    assert_eq!(reduce(&wide), "refused 23\n");
+    let widest = reference::book::write(1, 0, &[-2_048, 2_048], &[], &[]);
+    assert_eq!(reduce(&widest), "reduced 1 0 1\nv 0 -2048 2048\n");
     assert_eq!(reduce(&Model::new(&[(-2, 7)], &[(&[0], 5)]).book()), "reduced 1 1 2\nv 0 -2 7\n");
 }

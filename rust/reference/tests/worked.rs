@@ -1,4 +1,4 @@
-//! 01's worked books, line by line, and 000's clique example.
+//! 01's worked books, line by line, 000's clique example, and what 02's requests tell.
 
 mod common;
 use common::{Model, ok};
@@ -145,4 +145,18 @@ fn the_book_of_44_bytes() {
     assert_eq!(book[28..], [0, 0, 0, 0, 16, 0, 0, 0, 2, 0, 1, 0, 44, 0, 0, 0]);
     let expected = "reduced 2 1 2\nv 0 0 1\nv 1 0 1\nr 0 1 1 1\ni 0 1 1 0\ni 1 1 0 0\n";
     assert_eq!(reference::report::reduce(&book), expected);
+}
+
+#[test]
+fn thirty_lots_typed_as_thirty_thousand() {
+    // C-22: x lots of 10 tons, of which at most 305 go. The bound as typed is refused, retyped it is not.
+    let mut model = Model::new(&[(0, 30_000)], &[(&[10], 305)]);
+    assert_eq!(model.propagate(1_000), Err(23));
+    model.bounds = vec![0, 4_097];
+    assert_eq!(model.propagate(1_000), Err(23));
+    model.bounds = vec![0, 4_096];
+    assert_eq!(model.propagate(1_000), ok(&[SETTLED, 2]));
+    assert_eq!(model.bounds, [0, 30]);
+    model.bounds = vec![0, 30];
+    assert_eq!(model.propagate(1_000), ok(&[SETTLED, 1]));
 }
