@@ -20,7 +20,7 @@
  *                                 Start it with all 0
  *     calls    uint32_t   4 each  call records: kind, row, variable, budget       any
  *     book     uint8_t    16+     a model as a file, see "Books" below
- *     answer   uint64_t   6       the answer; places that a call does not use
+ *     answer   uint64_t   12      the answer; places that a call does not use
  *                                 are set to 0
  *
  * THE EMPTY BOX (01's void box) has every lower bound 1 and every upper bound 0. It is the only box
@@ -82,7 +82,7 @@ extern "C" {
 /* The largest budget. It is never spent: the widest box, 128 variables of 4,096, takes at most 524,289 passes. */
 #define ASTROLABE_MAX_BUDGET 8388481
 /* The count of every answer buffer. */
-#define ASTROLABE_ANSWER_LEN 6
+#define ASTROLABE_ANSWER_LEN 12
 /* The bytes of a book's trailer. */
 #define ASTROLABE_TRAILER_LEN 16
 
@@ -115,7 +115,7 @@ extern "C" {
 
 /* Cases of astrolabe_propagate_row, answer[0]. */
 #define ASTROLABE_ROW_INFEASIBLE 0 /* 01's None: the box is empty now */
-#define ASTROLABE_ROW_TIGHTENED 1  /* 01's Narrowed: a bound moved */
+#define ASTROLABE_ROW_TIGHTENED 1  /* 01's Narrowed: bounds moved */
 #define ASTROLABE_ROW_UNCHANGED 2  /* 01's Same */
 
 /*
@@ -124,6 +124,7 @@ extern "C" {
  *
  *     bounds      written   narrowed, or made the empty box
  *     answer[0]   ASTROLABE_ROW_..
+ *     answer[1]   the bounds moved: those that differ before and after. TIGHTENED: 1 to n; else 0
  *
  * Refused by 3 5 6 7 23 8 9 12, in this order. On the empty box: infeasible.
  */
@@ -146,8 +147,11 @@ uint32_t astrolabe_propagate_row(size_t n, size_t m,
  *     bounds      written   narrowed, or made the empty box
  *     answer[0]   ASTROLABE_PROPAGATE_..
  *     answer[1]   the passes made, 1 to budget; a pass that an infeasible row breaks off counts
+ *     answer[2]   the bounds moved, summed over the rows' propagations: a bound counts each time that it
+ *                 moves. An infeasible row adds nothing; what moved before it, in its pass too, is in the
+ *                 sum. At least answer[1] - 1, at most the total width that was lost: 32 bits hold it
  *
- * Refused by 3 5 6 7 23 8 9 15, in this order. On the empty box: infeasible with 1 pass.
+ * Refused by 3 5 6 7 23 8 9 15, in this order. On the empty box: infeasible with 1 pass, 0 moved.
  */
 uint32_t astrolabe_propagate(size_t n, size_t m,
                              int32_t *bounds, size_t bounds_len,
@@ -177,10 +181,13 @@ uint32_t astrolabe_propagate(size_t n, size_t m,
  *                 INFEASIBLE: 0
  *     answer[2]   the passes of side 0
  *     answer[3]   1 where side 0 spent its budget, else 0; 0 where side 0 is infeasible
- *     answer[4]   the passes of side 1
- *     answer[5]   1 where side 1 spent its budget, else 0; 0 where side 1 is infeasible
+ *     answer[4]   the bounds that the propagation of side 0 moved, as answer[2] of astrolabe_propagate; that
+ *                 the variable is set is not counted
+ *     answer[5]   the passes of side 1
+ *     answer[6]   1 where side 1 spent its budget, else 0; 0 where side 1 is infeasible
+ *     answer[7]   the bounds that the propagation of side 1 moved
  *
- * Refused by 3 5 6 7 23 8 9 10 13 14 15, in this order. On the empty box: infeasible with 0 passes for each side.
+ * Refused by 3 5 6 7 23 8 9 10 13 14 15, in this order. On the empty box: infeasible, all else 0.
  */
 uint32_t astrolabe_probe(size_t n, size_t m,
                          int32_t *bounds, size_t bounds_len,

@@ -12,7 +12,7 @@
 //! # fn main() -> Result<(), astrolabe::Refusal> {
 //! // 2x ≤ 5 and y ≤ x, both variables from 0 to 5.
 //! let mut model = Model::new(vec![0, 5, 0, 5], vec![2, 0, -1, 1], vec![5, 0])?;
-//! assert_eq!(model.propagate(1_000)?, Propagation::Converged { passes: 2 });
+//! assert_eq!(model.propagate(1_000)?, Propagation::Converged { passes: 2, moved: 2 });
 //! assert_eq!(model.bounds(), [0, 2, 0, 2]);
 //! # Ok(())
 //! # }
@@ -27,7 +27,7 @@
 //! let root = Model::new(vec![0, 1, 0, 1, 0, 1], vec![2, 3, 4], vec![5])?;
 //! let mut branch = root.clone();
 //! branch.set_bounds(2, 1, 1); // variable 2 is 1: then 2x + 3y ≤ 1
-//! assert_eq!(branch.propagate(1_000)?, Propagation::Converged { passes: 2 });
+//! assert_eq!(branch.propagate(1_000)?, Propagation::Converged { passes: 2, moved: 2 });
 //! assert_eq!(branch.bounds(), [0, 0, 0, 0, 1, 1]);
 //! # Ok(())
 //! # }
@@ -40,7 +40,7 @@ pub mod ffi;
 mod model;
 mod refusal;
 
-pub use answer::{Counts, Outcome, Probe, Propagation, Rounds, Side};
+pub use answer::{Counts, Outcome, Probe, Propagation, Rounds, RowPropagation, Side};
 pub use model::{Call, Model, book_size};
 pub use refusal::Refusal;
 

@@ -88,6 +88,7 @@ fn the_header_has_the_limits_and_numbers_of_the_wrapper() {
     assert_eq!(defined("MAX_VARIABLES"), astrolabe::MAX_VARIABLES.to_string());
     assert_eq!(defined("MAX_ROWS"), astrolabe::MAX_ROWS.to_string());
     assert_eq!(defined("MAX_WIDTH"), astrolabe::MAX_WIDTH.to_string());
+    assert_eq!(defined("ANSWER_LEN"), astrolabe::ffi::ANSWER_LEN.to_string());
     assert_eq!(defined("MAX_BUDGET"), astrolabe::MAX_BUDGET.to_string());
     assert_eq!(defined("REFUSED_BUDGET"), Refusal::BudgetOutOfRange.check().to_string());
     assert_eq!(defined("REFUSED_VARIABLE_TOO_WIDE"), Refusal::VariableTooWide.check().to_string());

@@ -22,7 +22,7 @@ ghost use mathlib.Core.Path.{_≡_};
 ghost use Rattle.model.specs.State.{stateOf};
 ghost use Rattle.capi.specs.Exports.{callExport, exported, listExport, restExport, roundsExport};
 
-// 01's visit: {0 None | 1 Narrowed | 2 Same}. Refused by 12.
+// 01's visit: {0 None | 1 Narrowed | 2 Same, moved}. Refused by 12.
 #[no_mangle]
 pub extern "C" fn astrolabe_propagate_row(
     n: usize,
@@ -47,7 +47,7 @@ pub extern "C" fn astrolabe_propagate_row(
     )
 }
 
-// 01's settle: {0 None | 1 Settled | 2 Spent, passes}. Refused by 15.
+// 01's settle: {0 None | 1 Settled | 2 Spent, passes, moved}. Refused by 15.
 #[no_mangle]
 pub extern "C" fn astrolabe_propagate(
     n: usize,
@@ -72,8 +72,8 @@ pub extern "C" fn astrolabe_propagate(
     )
 }
 
-// 01's probe: {0 None | 1 Fixed | 2 Both, v or new bytes, passes0, spent0, passes1, spent1}. Refused by 10, 13 to
-// 15.
+// 01's probe: {0 None | 1 Fixed | 2 Both, v or new bytes, passes0, spent0, moved0, passes1, spent1, moved1}. Refused
+// by 10, 13 to 15.
 #[no_mangle]
 pub extern "C" fn astrolabe_probe(
     n: usize,

@@ -16,7 +16,7 @@ use Rattle.probing.specs.declared.sides.Probing.{Probing}
 use Rattle.probing.specs.declared.sides.Probing.the-variants as probing
 
 unfoldable pub reportOf : Side → semantic.Side
-reportOf s = record { passes = s .passes; spent = s .spent }
+reportOf s = record { passes = s .passes; spent = s .spent; moved = s .moved }
 
 -- 01's None, Fixed, Both with their numbers, and the box and table that are left
 unfoldable pub probingOf : Probing → List ℤ → List ℕ → semantic.Probed

@@ -67,7 +67,7 @@ fn hull_is(zero: &[i32], one: &[i32], bounds: &[i32]) -> bool
 fn is_infeasible(p: Propagation) -> bool
     ensures { λ r. ⌜ r ≡ isNone (propagationOf p [] .ending) ⌝ }
 {
-    let Propagation::Infeasible(_) = p else {
+    let Propagation::Infeasible(_, _) = p else {
         return false;
     };
     true

@@ -31,10 +31,11 @@ ghost use Rattle.propagation.specs.Marks.{Unread};
 ghost use Rattle.probing.specs.Results.{probingOf, reportOf, Joinable};
 ghost use Rattle.probing.specs.Marked.{Marked, SideReady};
 
-// A side's passes, and whether its budget was spent.
+// A side's passes, whether its budget was spent, and the number of bounds that its rows moved.
 pub struct Side {
     pub passes: u32,
     pub spent: bool,
+    pub moved: u32,
 }
 
 // 01's None; Fixed with the surviving side's value; Both with the number of table bytes that went from 0 to 1.
@@ -49,17 +50,20 @@ fn side_of(p: Propagation) -> Side
     ensures { λ r. ⌜ reportOf r ≡ sideOf (propagationOf p []) ⌝ }
 {
     match p {
-        Propagation::Infeasible(passes) => Side {
+        Propagation::Infeasible(passes, moved) => Side {
             passes: passes,
             spent: false,
+            moved: moved,
         },
-        Propagation::Converged(passes) => Side {
+        Propagation::Converged(passes, moved) => Side {
             passes: passes,
             spent: false,
+            moved: moved,
         },
-        Propagation::BudgetSpent(passes) => Side {
+        Propagation::BudgetSpent(passes, moved) => Side {
             passes: passes,
             spent: true,
+            moved: moved,
         },
     }
 }
@@ -178,8 +182,8 @@ fn join<'a>(
     let len = bounds.len();
     let side0 = side_of(s0);
     let side1 = side_of(s1);
-    let Propagation::Infeasible(_) = s0 else {
-        let Propagation::Infeasible(_) = s1 else {
+    let Propagation::Infeasible(_, _) = s0 else {
+        let Propagation::Infeasible(_, _) = s1 else {
             let added = record_implications(n, k, bounds, &zero[..len], &one[..len], table);
             hull(&zero[..len], &one[..len], bounds);
             return Probing::BothFeasible(added, side0, side1);
@@ -187,7 +191,7 @@ fn join<'a>(
         copy_box(survivor(zero, one, len), bounds);
         return Probing::Fixed(0, side0, side1);
     };
-    let Propagation::Infeasible(_) = s1 else {
+    let Propagation::Infeasible(_, _) = s1 else {
         copy_box(survivor(zero, one, len), bounds);
         return Probing::Fixed(1, side0, side1);
     };
@@ -295,11 +299,12 @@ fn finish_probe<'a>(
 
 // A side that was not tried: the box is empty already.
 fn untried() -> Side
-    ensures { λ r. ⌜ r ≡ record { passes = 0; spent = false } ⌝ }
+    ensures { λ r. ⌜ r ≡ record { passes = 0; spent = false; moved = 0 } ⌝ }
 {
     Side {
         passes: 0,
         spent: false,
+        moved: 0,
     }
 }
 

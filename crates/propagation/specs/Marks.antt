@@ -15,7 +15,7 @@ use Rattle.propagation.specs.Index.{ColumnSigns, Index, RowSteps, signOf
 
 -- the invariant; of the empty box it says nothing
 pub record Clean (n m : ℕ) (C R B : List ℤ) (marks : List ℕ) : Type 0 where
-  pub same : NonEmpty n B → (r : ℕ) → r < m → getD marks r 0 ≡ 1 → propagateRow n (rowOf n C r) (at R r) B ≡ record { outcome = unchanged; box = B }
+  pub same : NonEmpty n B → (r : ℕ) → r < m → getD marks r 0 ≡ 1 → propagateRow n (rowOf n C r) (at R r) B ≡ record { outcome = unchanged; moved = 0; box = B }
 
 -- the index, the marks, and the copy of the box by which a row's moves are found
 pub record Watched (n m : ℕ) (C R B : List ℤ) (across signs : List ℕ) (seen : List ℤ) (marks : List ℕ) : Type 0 where

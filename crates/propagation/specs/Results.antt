@@ -5,8 +5,8 @@ use Rattle.semantics.specs.Propagate as ended
 use Rattle.propagation.specs.declared.Propagation.{Propagation}
 use Rattle.propagation.specs.declared.Propagation.the-variants.{Infeasible, Converged, BudgetSpent}
 
--- 01's None, Settled, Spent with the passes, and the box that is left
+-- 01's None, Settled, Spent with the passes, the bounds moved and the box that is left
 unfoldable pub propagationOf : Propagation → List ℤ → ended.Propagated
-propagationOf (Infeasible p) B = record { ending = ended.infeasible; passes = p; box = B }
-propagationOf (Converged p) B = record { ending = ended.converged; passes = p; box = B }
-propagationOf (BudgetSpent p) B = record { ending = ended.budgetSpent; passes = p; box = B }
+propagationOf (Infeasible p k) B = record { ending = ended.infeasible; passes = p; moved = k; box = B }
+propagationOf (Converged p k) B = record { ending = ended.converged; passes = p; moved = k; box = B }
+propagationOf (BudgetSpent p k) B = record { ending = ended.budgetSpent; passes = p; moved = k; box = B }

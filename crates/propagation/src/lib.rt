@@ -17,7 +17,7 @@ ghost use Rattle.model.specs.Valid.{ValidModel};
 ghost use Rattle.model.specs.Rows.{rowsOf};
 ghost use Rattle.model.specs.Model.{modelOf};
 ghost use Rattle.semantics.specs.Propagate.{propagate as propagated};
-ghost use Prim.Native.Nat.{_≤_};
+ghost use Prim.Native.Nat.{_+_, _<_, _^_, _≤_};
 ghost use lib.ListN.{length};
 ghost use Rattle.propagation.specs.Marks.{Watched};
 ghost use Rattle.propagation.specs.Results.{propagationOf};
@@ -25,11 +25,28 @@ ghost use Rattle.propagation.specs.Results.{propagationOf};
 // The largest budget. Any valid box is narrower, so it is never spent.
 pub const MAX_BUDGET: u32 = 8_388_481;
 
-// 01's None, Settled and Spent, each with the passes made.
+// 01's None, Settled and Spent, each with the passes made and the number of bounds moved.
 pub enum Propagation {
-    Infeasible(u32),
-    Converged(u32),
-    BudgetSpent(u32),
+    Infeasible(u32, u32),
+    Converged(u32, u32),
+    BudgetSpent(u32, u32),
+}
+
+// The bounds that the rows of a propagation have moved so far, by value (02: "carries that sum for each side").
+pub struct Tally {
+    pub moved: u32,
+}
+
+impl Tally {
+    // With the bounds that one more row moved.
+    pub fn add(self, moved: u32) -> Tally
+        requires { ⌜ self .moved + moved < 2 ^ 32 ⌝ }
+        ensures { λ r. ⌜ r .moved ≡ self .moved + moved ⌝ }
+    {
+        Tally {
+            moved: self.moved + moved,
+        }
+    }
 }
 
 // Propagates the rows by what is known of them: their index, and which of them are clean. A pass is left by its label
@@ -57,13 +74,14 @@ pub fn propagate_marked(
         (now (signs .exit)) (now (seen .exit)) (now (marks .exit)) ⌝ }
 {
     if model::is_empty(bounds) {
-        return Propagation::Infeasible(1);
+        return Propagation::Infeasible(1, 0);
     }
     let mut passes: u32 = 0;
+    let mut tally = Tally { moved: 0 };
     let mut infeasible = false;
     'passes: while passes < budget {
         passes += 1;
-        let mut moved = false;
+        let before = tally.moved;
         let mut r = next_row(m, marks, 0);
         'rows: while r < m {
             match propagate_row_marked(n, m, bounds, coefs, rhs, r, across, signs, seen, marks) {
@@ -71,21 +89,21 @@ pub fn propagate_marked(
                     infeasible = true;
                     break 'passes;
                 }
-                RowPropagation::Tightened => {
-                    moved = true;
+                RowPropagation::Tightened(moved) => {
+                    tally = tally.add(moved);
                 }
                 RowPropagation::Unchanged => {}
             }
             r = next_row(m, marks, r + 1);
         }
-        if !moved {
-            return Propagation::Converged(passes);
+        if tally.moved == before {
+            return Propagation::Converged(passes, before);
         }
     }
     if infeasible {
-        return Propagation::Infeasible(passes);
+        return Propagation::Infeasible(passes, tally.moved);
     }
-    Propagation::BudgetSpent(passes)
+    Propagation::BudgetSpent(passes, tally.moved)
 }
 
 // Propagates the rows, of which nothing is known yet.

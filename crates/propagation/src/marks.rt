@@ -16,7 +16,7 @@ ghost use Prim.Native.Nat.{ℕ, _*_, _+_, _<_, _≤_};
 ghost use lib.ListN.{length, getD, set};
 ghost use Rattle.model.specs.Box.{at, lower, upper, withBounds};
 ghost use Rattle.model.specs.Rows.{rowOf};
-ghost use Rattle.row.specs.Answers.{propagationOutcome};
+ghost use Rattle.row.specs.Answers.{propagatedRowOf};
 ghost use Rattle.row.specs.Propagation.{propagateRow};
 ghost use Rattle.propagation.specs.Index.{ColumnSigns, GoodStep, signOf};
 ghost use Rattle.propagation.specs.Marks.{Remarks, Unread, Visitable, Watched};
@@ -196,13 +196,9 @@ fn propagate_row_whole(
 ) -> RowPropagation
     requires { ⌜ Visitable n m (now bounds) (now coefs) (now rhs) (now across) (now signs) (now seen) (now marks) ⌝ }
     requires { ⌜ r < m ⌝ }
-    ensures answer { λ s.
-        ⌜ propagationOutcome s
-        ≡ propagateRow n (rowOf n (now (coefs .entry)) r) (at (now (rhs .entry)) r)
-        (now (bounds .entry)) .outcome ⌝ }
-    ensures left { λ s.
-        ⌜ now (bounds .exit)
-        ≡ propagateRow n (rowOf n (now (coefs .entry)) r) (at (now (rhs .entry)) r) (now (bounds .entry)) .box ⌝ }
+    ensures propagated { λ s.
+        ⌜ propagatedRowOf s (now (bounds .exit))
+        ≡ propagateRow n (rowOf n (now (coefs .entry)) r) (at (now (rhs .entry)) r) (now (bounds .entry)) ⌝ }
     ensures watched { λ s.
         ⌜ Watched n m (now (coefs .entry)) (now (rhs .entry)) (now (bounds .exit)) (now (across .entry))
         (now (signs .exit)) (now (seen .exit)) (now (marks .exit)) ⌝ }
@@ -211,10 +207,10 @@ fn propagate_row_whole(
         RowPropagation::Infeasible => {
             return RowPropagation::Infeasible;
         }
-        RowPropagation::Tightened => {
+        RowPropagation::Tightened(moved) => {
             remark_all(n, m, coefs, signs, seen, bounds, marks);
             marks[r] = 1;
-            return RowPropagation::Tightened;
+            return RowPropagation::Tightened(moved);
         }
         RowPropagation::Unchanged => {
             marks[r] = 1;
@@ -239,13 +235,9 @@ fn propagate_row_by_steps(
     requires { ⌜ Visitable n m (now bounds) (now coefs) (now rhs) (now across) (now signs) (now seen) (now marks) ⌝ }
     requires { ⌜ r < m ⌝ }
     requires { ⌜ ((j : ℕ) → j < n → GoodStep n (now coefs) (r * n) (now across) j) ⌝ }
-    ensures answer { λ s.
-        ⌜ propagationOutcome s
-        ≡ propagateRow n (rowOf n (now (coefs .entry)) r) (at (now (rhs .entry)) r)
-        (now (bounds .entry)) .outcome ⌝ }
-    ensures left { λ s.
-        ⌜ now (bounds .exit)
-        ≡ propagateRow n (rowOf n (now (coefs .entry)) r) (at (now (rhs .entry)) r) (now (bounds .entry)) .box ⌝ }
+    ensures propagated { λ s.
+        ⌜ propagatedRowOf s (now (bounds .exit))
+        ≡ propagateRow n (rowOf n (now (coefs .entry)) r) (at (now (rhs .entry)) r) (now (bounds .entry)) ⌝ }
     ensures watched { λ s.
         ⌜ Watched n m (now (coefs .entry)) (now (rhs .entry)) (now (bounds .exit)) (now (across .entry))
         (now (signs .exit)) (now (seen .exit)) (now (marks .exit)) ⌝ }
@@ -254,10 +246,10 @@ fn propagate_row_by_steps(
         RowPropagation::Infeasible => {
             return RowPropagation::Infeasible;
         }
-        RowPropagation::Tightened => {
+        RowPropagation::Tightened(moved) => {
             remark(n, m, coefs, signs, across, r * n, seen, bounds, marks);
             marks[r] = 1;
-            return RowPropagation::Tightened;
+            return RowPropagation::Tightened(moved);
         }
         RowPropagation::Unchanged => {
             marks[r] = 1;
@@ -281,13 +273,9 @@ pub fn propagate_row_marked(
 ) -> RowPropagation
     requires { ⌜ Visitable n m (now bounds) (now coefs) (now rhs) (now across) (now signs) (now seen) (now marks) ⌝ }
     requires { ⌜ r < m ⌝ }
-    ensures answer { λ s.
-        ⌜ propagationOutcome s
-        ≡ propagateRow n (rowOf n (now (coefs .entry)) r) (at (now (rhs .entry)) r)
-        (now (bounds .entry)) .outcome ⌝ }
-    ensures left { λ s.
-        ⌜ now (bounds .exit)
-        ≡ propagateRow n (rowOf n (now (coefs .entry)) r) (at (now (rhs .entry)) r) (now (bounds .entry)) .box ⌝ }
+    ensures propagated { λ s.
+        ⌜ propagatedRowOf s (now (bounds .exit))
+        ≡ propagateRow n (rowOf n (now (coefs .entry)) r) (at (now (rhs .entry)) r) (now (bounds .entry)) ⌝ }
     ensures watched { λ s.
         ⌜ Watched n m (now (coefs .entry)) (now (rhs .entry)) (now (bounds .exit)) (now (across .exit))
         (now (signs .exit)) (now (seen .exit)) (now (marks .exit)) ⌝ }

@@ -34,21 +34,21 @@ performed a s = record { answer = a; state = s }
 
 -- ---- 01's answers
 
--- visit: refused N, None, Narrowed, Same
+-- visit: refused N, None, Narrowed with the number of bounds moved, Same
 unfoldable pub rowAnswer : PropagateRowAnswer → Answer
 rowAnswer (row.Refused number) = refused number
-rowAnswer row.Infeasible = propagatedRow infeasible
-rowAnswer row.Tightened = propagatedRow changed
-rowAnswer row.Unchanged = propagatedRow unchanged
+rowAnswer row.Infeasible = propagatedRow infeasible 0
+rowAnswer (row.Tightened moved) = propagatedRow changed moved
+rowAnswer row.Unchanged = propagatedRow unchanged 0
 
--- settle: refused N, None, Settled, Spent with the passes
+-- settle: refused N, None, Settled, Spent with the passes and the bounds moved
 unfoldable pub propagateAnswer : PropagateAnswer → Answer
 propagateAnswer (rows.Refused number) = refused number
-propagateAnswer (rows.Infeasible passes) = propagated ended.infeasible passes
-propagateAnswer (rows.Converged passes) = propagated ended.converged passes
-propagateAnswer (rows.BudgetSpent passes) = propagated ended.budgetSpent passes
+propagateAnswer (rows.Infeasible passes moved) = propagated ended.infeasible passes moved
+propagateAnswer (rows.Converged passes moved) = propagated ended.converged passes moved
+propagateAnswer (rows.BudgetSpent passes moved) = propagated ended.budgetSpent passes moved
 
--- probe: refused N, None, Fixed v, Both with the new bytes, and both sides' passes and Spent
+-- probe: refused N, None, Fixed v, Both with the new bytes, and both sides' passes, Spent and bounds moved
 unfoldable pub probeAnswer : ProbeAnswer → Answer
 probeAnswer (probes.Refused number) = refused number
 probeAnswer (probes.Infeasible s0 s1) = probed semantic.infeasible (reportOf s0) (reportOf s1)
@@ -97,6 +97,6 @@ pub record Means (s r : State) (a : Answer) : Type 0 where
 
 -- "every accepted call ends within its pass budget"
 pub record Ends (budget : ℕ) (s : State) (a : Answer) : Type 0 where
-  pub passes : (e : ended.Ending) (p : ℕ) → a ≡ propagated e p → (1 ≤ p) × (p ≤ budget)
+  pub passes : (e : ended.Ending) (p k : ℕ) → a ≡ propagated e p k → (1 ≤ p) × (p ≤ budget)
   pub sides : (e : semantic.ProbeEnding) (s0 s1 : semantic.Side) → a ≡ probed e s0 s1 → s .model .box ≢ emptyBox (s .model .n)
       → ((1 ≤ s0 .passes) × (s0 .passes ≤ budget)) × ((1 ≤ s1 .passes) × (s1 .passes ≤ budget))

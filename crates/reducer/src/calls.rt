@@ -31,20 +31,20 @@ ghost use Rattle.model.specs.State.{stateOf};
 ghost use Rattle.reducer.specs.OpenCalls.{Ends, Means, atRest, performed, probeAnswer, propagateAnswer};
 ghost use Rattle.reducer.specs.OpenCalls.{removeAnswer, rest, restVerdict, rowAnswer, tightenAnswer};
 
-// 01's visit: refused N, None, Narrowed, Same.
+// 01's visit: refused N, None, Narrowed with the number of bounds moved, Same.
 pub enum PropagateRowAnswer {
     Refused(u32),
     Infeasible,
-    Tightened,
+    Tightened(u32),
     Unchanged,
 }
 
-// 01's settle: refused N, None, Settled, Spent, with the passes made.
+// 01's settle: refused N, None, Settled, Spent, with the passes made and the number of bounds moved.
 pub enum PropagateAnswer {
     Refused(u32),
-    Infeasible(u32),
-    Converged(u32),
-    BudgetSpent(u32),
+    Infeasible(u32, u32),
+    Converged(u32, u32),
+    BudgetSpent(u32, u32),
 }
 
 // 01's probe: refused N, None, Fixed with the surviving value, Both with the number of new table bytes; with the
@@ -109,7 +109,7 @@ pub fn propagate_row(
     }
     match propagate_row_at(n, coefs, rhs, row as usize, bounds) {
         RowPropagation::Infeasible => PropagateRowAnswer::Infeasible,
-        RowPropagation::Tightened => PropagateRowAnswer::Tightened,
+        RowPropagation::Tightened(moved) => PropagateRowAnswer::Tightened(moved),
         RowPropagation::Unchanged => PropagateRowAnswer::Unchanged,
     }
 }
@@ -146,9 +146,9 @@ pub fn propagate(
         return PropagateAnswer::Refused(fault);
     }
     match propagation::propagate(n, m, bounds, coefs, rhs, budget) {
-        Propagation::Infeasible(passes) => PropagateAnswer::Infeasible(passes),
-        Propagation::Converged(passes) => PropagateAnswer::Converged(passes),
-        Propagation::BudgetSpent(passes) => PropagateAnswer::BudgetSpent(passes),
+        Propagation::Infeasible(passes, moved) => PropagateAnswer::Infeasible(passes, moved),
+        Propagation::Converged(passes, moved) => PropagateAnswer::Converged(passes, moved),
+        Propagation::BudgetSpent(passes, moved) => PropagateAnswer::BudgetSpent(passes, moved),
     }
 }
 

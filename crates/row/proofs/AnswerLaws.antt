@@ -1,6 +1,10 @@
 -- No answer of the code hides another: each of the three meanings is injective.
-use mathlib.Core.Path.{_≡_, refl}
-use Rattle.row.specs.Answers.{propagationOutcome, removalOutcome, tighteningOutcome}
+use lib.IntN.{ℤ}
+use mathlib.Core.List.{List}
+use mathlib.Core.Path.{_≡_, ap, refl}
+use Rattle.row.specs.Answers.{propagatedRowOf, removalOutcome, tighteningOutcome}
+use Rattle.row.specs.Outcome.{changed, infeasible, unchanged}
+use Rattle.row.specs.Propagation.{PropagatedRow}
 use Rattle.row.specs.declared.propagation.RowPropagation.{RowPropagation}
 use Rattle.row.specs.declared.propagation.RowPropagation.the-variants as propagation
 use Rattle.row.specs.declared.tightening.CoefficientTightening.{CoefficientTightening}
@@ -8,17 +12,17 @@ use Rattle.row.specs.declared.tightening.CoefficientTightening.the-varia
 use Rattle.row.specs.declared.redundancy.RowRemoval.{RowRemoval}
 use Rattle.row.specs.declared.redundancy.RowRemoval.the-variants as removal
 
-pub propagationOutcome-injective : (r s : RowPropagation) → propagationOutcome r ≡ propagationOutcome s → r ≡ s
-unfolding propagationOutcome
-propagationOutcome-injective propagation.Infeasible propagation.Infeasible e = refl
-propagationOutcome-injective propagation.Infeasible propagation.Tightened e = cc
-propagationOutcome-injective propagation.Infeasible propagation.Unchanged e = cc
-propagationOutcome-injective propagation.Tightened propagation.Infeasible e = cc
-propagationOutcome-injective propagation.Tightened propagation.Tightened e = refl
-propagationOutcome-injective propagation.Tightened propagation.Unchanged e = cc
-propagationOutcome-injective propagation.Unchanged propagation.Infeasible e = cc
-propagationOutcome-injective propagation.Unchanged propagation.Tightened e = cc
-propagationOutcome-injective propagation.Unchanged propagation.Unchanged e = refl
+pub propagatedRowOf-injective : (r s : RowPropagation) (B : List ℤ) → propagatedRowOf r B ≡ propagatedRowOf s B → r ≡ s
+unfolding propagatedRowOf
+propagatedRowOf-injective propagation.Infeasible propagation.Infeasible B e = refl
+propagatedRowOf-injective propagation.Infeasible (propagation.Tightened k) B e = let o : infeasible ≡ changed = ap (λ (v : PropagatedRow). v .outcome) e in cc
+propagatedRowOf-injective propagation.Infeasible propagation.Unchanged B e = let o : infeasible ≡ unchanged = ap (λ (v : PropagatedRow). v .outcome) e in cc
+propagatedRowOf-injective (propagation.Tightened k) propagation.Infeasible B e = let o : changed ≡ infeasible = ap (λ (v : PropagatedRow). v .outcome) e in cc
+propagatedRowOf-injective (propagation.Tightened k) (propagation.Tightened i) B e = ap propagation.Tightened (ap (λ (v : PropagatedRow). v .moved) e)
+propagatedRowOf-injective (propagation.Tightened k) propagation.Unchanged B e = let o : changed ≡ unchanged = ap (λ (v : PropagatedRow). v .outcome) e in cc
+propagatedRowOf-injective propagation.Unchanged propagation.Infeasible B e = let o : unchanged ≡ infeasible = ap (λ (v : PropagatedRow). v .outcome) e in cc
+propagatedRowOf-injective propagation.Unchanged (propagation.Tightened k) B e = let o : unchanged ≡ changed = ap (λ (v : PropagatedRow). v .outcome) e in cc
+propagatedRowOf-injective propagation.Unchanged propagation.Unchanged B e = refl
 
 pub tighteningOutcome-injective : (r s : CoefficientTightening) → tighteningOutcome r ≡ tighteningOutcome s → r ≡ s
 unfolding tighteningOutcome
@@ -44,7 +48,7 @@ removalOutcome-injective removal.Unchanged removal.Infeasible e = cc
 removalOutcome-injective removal.Unchanged removal.Removed e = cc
 removalOutcome-injective removal.Unchanged removal.Unchanged e = refl
 
-pub answers-injective : ((r s : RowPropagation) → propagationOutcome r ≡ propagationOutcome s → r ≡ s)
+pub answers-injective : ((r s : RowPropagation) (B : List ℤ) → propagatedRowOf r B ≡ propagatedRowOf s B → r ≡ s)
     × ((r s : CoefficientTightening) → tighteningOutcome r ≡ tighteningOutcome s → r ≡ s)
     × ((r s : RowRemoval) → removalOutcome r ≡ removalOutcome s → r ≡ s)
-answers-injective = (propagationOutcome-injective, tighteningOutcome-injective, removalOutcome-injective)
+answers-injective = (propagatedRowOf-injective, tighteningOutcome-injective, removalOutcome-injective)

@@ -3,6 +3,7 @@ pub mod Width
 pub mod ActivityLaws
 pub mod BoundLaws
 pub mod ImpliedBoxLaws
+pub mod MovedLaws
 pub mod PropagationLaws
 pub mod Replacement
 pub mod TighteningLaws

@@ -1,13 +1,14 @@
 -- Laws of propagating a row: it shrinks the box, keeps every point that meets the row and every box that it leaves as it is, and
 -- has nothing more to do when it is done again.
-use Prim.Native.Nat.{_<_, suc, zero, ℕ}
+use Prim.Native.Nat.{_<_, _≤_, suc, zero, ℕ}
 use lib.Dec.{T, T-not, not-T}
-use lib.IntN.{pos, ℤ}
+use lib.IntN.{_+ℤ_, pos, ℤ}
 use lib.Signed.{_<ℤ_, _≤ℤ_, ltZ, ltZ-no, ltZ-yes}
 use mathlib.Core.Bool.{cond, not}
 use mathlib.Core.List.{List}
-use mathlib.Core.Logic.{_≢_, _⊎_, inl, inr}
-use mathlib.Core.Path.{_∙_, _≡_, ap, refl, subst}
+use mathlib.Core.Logic.{_≢_, _⊎_, inl, inr, ⊎-elim}
+use mathlib.Core.Path.{_∙_, _≡_, ap, refl, subst, sym}
+use native.Mathlib.Decide.{ℕ-discrete}
 use native.Mathlib.Omega.{arith}
 use Rattle.integer.specs.Index.{all}
 use Rattle.integer.proofs.Parts.{lt-isn't, mul-cancel-le, zarith, zify}
@@ -17,12 +18,14 @@ use Rattle.model.specs.Point.{InBox, InBoxOver, RowHolds, RowHoldsOver}
 use Rattle.model.specs.Valid.{ValidBox}
 use Rattle.model.proofs.BoxLaws.{box-ext, boxOf-inside, inside-boxOf, inside-refl, inside-trans, isEmpty-empty, isEmpty→eq, lower-boxOf, nonEmpty-isn't, not-in-empty, upper-boxOf, ≤ℤ-antisymm, ≤ℤ-trans}
 use Rattle.row.specs.Activity.{minActivity}
+use Rattle.row.specs.Moved.{movedBounds}
 use Rattle.row.specs.Outcome.{Outcome, changed, infeasible, isChanged, isInfeasible, unchanged}
 use Rattle.row.specs.Propagation.{PropagatedRow, impliedBox, newLower, newUpper, propagateRow, staysAt}
 use Rattle.row.specs.ValidRow.{ValidRow}
 use Rattle.row.proofs.ActivityLaws.{minActivity-at, minActivity-gap, minActivity-le-dot-over, minActivity-mono}
-use Rattle.row.proofs.BoundLaws.{le-newUpper-again, le-newUpper-at, le-newUpper-mono, lower-le-newLower, newLower-again-le, newLower-at-le, newLower-le-mono, newUpper-le-upper}
+use Rattle.row.proofs.BoundLaws.{le-newUpper-again, le-newUpper-at, le-newUpper-mono, lower-le-newLower, newLower-again-le, newLower-at-le, newLower-le-mono, newUpper-le-upper, one-stays}
 use Rattle.row.proofs.ImpliedBoxLaws.{box-stays, implied-inside, implied-nonEmpty, length-implied, lower-implied, minActivity-implied, stays-box, upper-implied, valid-empty, valid-implied, valid-nonEmpty}
+use Rattle.row.proofs.MovedLaws.{moved-half, moved-none, moved-same, moved-width}
 use Rattle.row.proofs.PointBox.{Inside→in, boxAt, in→Inside, lower-at, nonEmpty-at, upper-at}
 use Rattle.row.proofs.Width.{width-same}
 
@@ -30,10 +33,11 @@ use Rattle.row.proofs.Width.{width-same}
 
 module _ (n : ℕ) (A : List ℤ) (b : ℤ) (B : List ℤ) where
   pub propagate-row-ind : (P : PropagatedRow → Type 0)
-      → (T (isEmpty n B) → P (record { outcome = infeasible; box = B }))
-      → (T (not (isEmpty n B)) → b <ℤ minActivity n A B → P (record { outcome = infeasible; box = emptyBox n }))
+      → (T (isEmpty n B) → P (record { outcome = infeasible; moved = 0; box = B }))
+      → (T (not (isEmpty n B)) → b <ℤ minActivity n A B → P (record { outcome = infeasible; moved = 0; box = emptyBox n }))
       → (T (not (isEmpty n B)) → minActivity n A B ≤ℤ b → P (record {
         outcome = cond (all n (staysAt A b (minActivity n A B) B)) unchanged changed;
+        moved = movedBounds n B (impliedBox n A b (minActivity n A B) B);
         box = impliedBox n A b (minActivity n A B) B;
       }))
       → P (propagateRow n A b B)
@@ -45,6 +49,7 @@ module _ (n : ℕ) (A : List ℤ) (b : ℤ) (B : List ℤ) where
   pub propagate-row-feasible-ind : (P : PropagatedRow → Type 0)
       → (T (not (isEmpty n B)) → minActivity n A B ≤ℤ b → P (record {
         outcome = cond (all n (staysAt A b (minActivity n A B) B)) unchanged changed;
+        moved = movedBounds n B (impliedBox n A b (minActivity n A B) B);
         box = impliedBox n A b (minActivity n A B) B;
       }))
       → T (not (isInfeasible (propagateRow n A b B .outcome))) → P (propagateRow n A b B)
@@ -62,7 +67,7 @@ module _ (n : ℕ) (A : List ℤ) (b : ℤ) (B : List ℤ) where
       (λ _ _. cond-ind (all n (staysAt A b (minActivity n A B) B)) unchanged changed
       (λ o. T (isInfeasible o) → impliedBox n A b (minActivity n A B) B ≡ emptyBox n) (λ _ z. absurd z) (λ _ z. absurd z))
 
-pub propagate-row-empty : (n : ℕ) (A : List ℤ) (b : ℤ) → propagateRow n A b (emptyBox n) ≡ record { outcome = infeasible; box = emptyBox n }
+pub propagate-row-empty : (n : ℕ) (A : List ℤ) (b : ℤ) → propagateRow n A b (emptyBox n) ≡ record { outcome = infeasible; moved = 0; box = emptyBox n }
 unfolding propagateRow
 propagate-row-empty n A b = rw (T→true (isEmpty n (emptyBox n)) (isEmpty-empty n))
 
@@ -134,6 +139,56 @@ module _ (A : List ℤ) (b : ℤ) {n : ℕ} {B : List ℤ} (p : NonEmpty n B) wh
       cases (inl h) = h
       cases (inr h) = absurd (propagate-row-changed t (width-same (propagate-row-shrinks n A b B f) (propagate-row-nonEmpty f .len) (p .len) h))
 
+-- ---- how many bounds it moved
+
+module _ (n : ℕ) (A : List ℤ) (b : ℤ) (B : List ℤ) where
+  pub propagate-row-moved : T (not (isInfeasible (propagateRow n A b B .outcome)))
+      → propagateRow n A b B .moved ≡ movedBounds n B (propagateRow n A b B .box)
+  propagate-row-moved = propagate-row-feasible-ind n A b B (λ v. v .moved ≡ movedBounds n B (v .box)) (λ _ _. refl)
+
+  -- "a visit that answers None adds nothing"
+  pub propagate-row-infeasible-moved : T (isInfeasible (propagateRow n A b B .outcome)) → propagateRow n A b B .moved ≡ 0
+  unfolding isInfeasible
+  propagate-row-infeasible-moved = propagate-row-ind n A b B (λ v. T (isInfeasible (v .outcome)) → v .moved ≡ 0)
+      (λ _ _. refl) (λ _ _ _. refl)
+      (λ _ _. cond-ind (all n (staysAt A b (minActivity n A B) B)) unchanged changed
+      (λ o. T (isInfeasible o) → movedBounds n B (impliedBox n A b (minActivity n A B) B) ≡ 0) (λ _ z. absurd z) (λ _ z. absurd z))
+
+  -- "from 1 to n": of each variable one bound stays
+  pub propagate-row-moved-le : propagateRow n A b B .moved ≤ n
+  propagate-row-moved-le = propagate-row-ind n A b B (λ v. v .moved ≤ n) (λ _. omega arith) (λ _ _. omega arith)
+      (λ _ _. moved-half n B (impliedBox n A b L B) (λ j k.
+      ⊎-elim (λ e. inl (lower-implied n A b L B j k ∙ e)) (λ e. inr (upper-implied n A b L B j k ∙ e)) (one-stays (at A j) b L (lower B j) (upper B j))))
+    where
+      L : ℤ
+      L = minActivity n A B
+
+  -- and no more than the width that the box lost
+  pub propagate-row-moved-width : T (not (isInfeasible (propagateRow n A b B .outcome)))
+      → (pos (propagateRow n A b B .moved) +ℤ width n (propagateRow n A b B .box)) ≤ℤ width n B
+  propagate-row-moved-width f = rw (propagate-row-moved f) (moved-width n (propagate-row-shrinks n A b B f))
+
+module _ (A : List ℤ) (b : ℤ) {n : ℕ} {B : List ℤ} (p : NonEmpty n B) where
+  pub propagate-row-moved-none : T (not (isInfeasible (propagateRow n A b B .outcome))) → propagateRow n A b B .moved ≡ 0
+      → propagateRow n A b B .box ≡ B
+  propagate-row-moved-none f e =
+      let z = rw (propagate-row-moved n A b B f) at e in
+      box-ext n (propagateRow n A b B .box) B (propagate-row-nonEmpty A b p f .len) (p .len)
+      (λ j k. sym (moved-none n B (propagateRow n A b B .box) z j k .0)) (λ j k. sym (moved-none n B (propagateRow n A b B .box) z j k .1))
+
+  pub propagate-row-moved-some : T (isChanged (propagateRow n A b B .outcome)) → 1 ≤ propagateRow n A b B .moved
+  propagate-row-moved-some t = go (ℕ-discrete (propagateRow n A b B .moved) 0)
+    where
+      go : Dec (propagateRow n A b B .moved ≡ 0) → 1 ≤ propagateRow n A b B .moved
+      go (yes e) = absurd (propagate-row-changed A b p t (propagate-row-moved-none (changed-feasible (propagateRow n A b B .outcome) t) e))
+      go (no e) = omega arith
+
+  -- the bounds that moved are 0 exactly where the answer is not Narrowed
+  pub propagate-row-still-moved : T (not (isInfeasible (propagateRow n A b B .outcome))) → T (not (isChanged (propagateRow n A b B .outcome)))
+      → propagateRow n A b B .moved ≡ 0
+  propagate-row-still-moved f t =
+      propagate-row-moved n A b B f ∙ rw (propagate-row-unchanged A b p f t) (moved-same n B)
+
 -- ---- boxes that a row leaves as they are
 
 pub record Stable (n : ℕ) (A : List ℤ) (b : ℤ) (Q : List ℤ) : Type 0 where
@@ -150,13 +205,13 @@ module _ {A : List ℤ} {b : ℤ} {n : ℕ} {Q : List ℤ} (h : 0 < n) (p : NonE
       (λ _ f e. let i : Inside n Q (impliedBox n A b (minActivity n A Q) Q) = rw e (inside-refl n Q) in
       record { met = f; low = λ j k. boxOf-inside n Q _ _ i j k .0; high = λ j k. boxOf-inside n Q _ _ i j k .1 })
 
-  pub stable→same : Stable n A b Q → propagateRow n A b Q ≡ record { outcome = unchanged; box = Q }
+  pub stable→same : Stable n A b Q → propagateRow n A b Q ≡ record { outcome = unchanged; moved = 0; box = Q }
   unfolding propagateRow
   stable→same s =
       let e : impliedBox n A b (minActivity n A Q) Q ≡ Q = box-ext n _ Q (length-implied n A b (minActivity n A Q) Q) (p .len)
       (λ j k. lower-implied n A b (minActivity n A Q) Q j k ∙ ≤ℤ-antisymm (s .low j k) (lower-le-newLower _ _ _ _ _))
       (λ j k. upper-implied n A b (minActivity n A Q) Q j k ∙ ≤ℤ-antisymm (newUpper-le-upper _ _ _ _ _) (s .high j k)) in
-      rw (nonEmpty-isn't h p, lt-isn't (s .met), T→true (all n (staysAt A b (minActivity n A Q) Q)) (box-stays n A b (minActivity n A Q) Q e), e)
+      rw (nonEmpty-isn't h p, lt-isn't (s .met), T→true (all n (staysAt A b (minActivity n A Q) Q)) (box-stays n A b (minActivity n A Q) Q e), e, moved-same n Q)
 
 -- one that lies in B lies in the propagated B too
 module _ (A : List ℤ) (b : ℤ) {n : ℕ} {Q B : List ℤ} (h : 0 < n) (p : NonEmpty n Q) (e : propagateRow n A b Q .box ≡ Q) (i : Inside n Q B) where
@@ -188,7 +243,7 @@ propagated-stable n A b B = propagate-row-feasible-ind n A b B (λ v. Stable n A
     })
 
 module _ (A : List ℤ) (b : ℤ) {n : ℕ} {B : List ℤ} (h : 0 < n) (p : NonEmpty n B) (f : T (not (isInfeasible (propagateRow n A b B .outcome)))) where
-  propagated-again : propagateRow n A b (propagateRow n A b B .box) ≡ record { outcome = unchanged; box = propagateRow n A b B .box }
+  propagated-again : propagateRow n A b (propagateRow n A b B .box) ≡ record { outcome = unchanged; moved = 0; box = propagateRow n A b B .box }
   propagated-again = stable→same h (propagate-row-nonEmpty A b p f) (propagated-stable n A b B f)
 
   pub propagate-row-again : propagateRow n A b (propagateRow n A b B .box) .box ≡ propagateRow n A b B .box

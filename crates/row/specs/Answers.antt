@@ -1,5 +1,8 @@
 -- What the enums that the code returns stand for among 01's answers. Each is injective: no answer hides another (`answers-injective`).
+use lib.IntN.{ℤ}
+use mathlib.Core.List.{List}
 use Rattle.row.specs.Outcome.{Outcome, changed, infeasible, unchanged}
+use Rattle.row.specs.Propagation.{PropagatedRow}
 use Rattle.row.specs.declared.propagation.RowPropagation.{RowPropagation}
 use Rattle.row.specs.declared.propagation.RowPropagation.the-variants as propagation
 use Rattle.row.specs.declared.redundancy.RowRemoval.{RowRemoval}
@@ -7,11 +10,11 @@ use Rattle.row.specs.declared.redundancy.RowRemoval.the-variants as remo
 use Rattle.row.specs.declared.tightening.CoefficientTightening.{CoefficientTightening}
 use Rattle.row.specs.declared.tightening.CoefficientTightening.the-variants as tightening
 
--- visit: None, Narrowed, Same
-unfoldable pub propagationOutcome : RowPropagation → Outcome
-propagationOutcome propagation.Infeasible = infeasible
-propagationOutcome propagation.Tightened = changed
-propagationOutcome propagation.Unchanged = unchanged
+-- visit: None, Narrowed with the number of bounds that moved, Same; and the box that is left
+unfoldable pub propagatedRowOf : RowPropagation → List ℤ → PropagatedRow
+propagatedRowOf propagation.Infeasible B = record { outcome = infeasible; moved = 0; box = B }
+propagatedRowOf (propagation.Tightened moved) B = record { outcome = changed; moved = moved; box = B }
+propagatedRowOf propagation.Unchanged B = record { outcome = unchanged; moved = 0; box = B }
 
 -- sharpen: None, Sharpened, Same
 unfoldable pub tighteningOutcome : CoefficientTightening → Outcome

@@ -1,5 +1,6 @@
 pub mod Outcome
 pub mod Activity
+pub mod Moved
 pub mod Propagation
 pub mod Tightening
 pub mod Redundancy

@@ -10,6 +10,7 @@ use Rattle.integer.specs.Order.{eqZ, maxZ, minZ}
 use Rattle.model.specs.Box.{at, boxOf, emptyBox, isEmpty, lower, upper}
 use Rattle.model.specs.Rows.{Row}
 use Rattle.row.specs.Activity.{minActivity}
+use Rattle.row.specs.Moved.{movedBounds}
 use Rattle.row.specs.Outcome.{Outcome, changed, infeasible, isUnchanged, unchanged}
 
 -- "for each a > 0, u becomes the lesser of u and floor((b − Lmin + a×l) / a)"; L is Lmin
@@ -33,18 +34,21 @@ stays a b L l u = eqZ (newLower a b L l u) l && eqZ (newUpper a b L l u) u
 abbrev pub staysAt : List ℤ → ℤ → ℤ → List ℤ → ℕ → Bool
 staysAt A b L B j = stays (at A j) b L (lower B j) (upper B j)
 
+-- 02 (C-11): "A visit answers Narrowed with the number of bounds that it moved, from 1 to n."
 pub record PropagatedRow : Type 0 where
   pub outcome : Outcome
+  pub moved : ℕ
   pub box : List ℤ
 
 -- "Lmin > b: the box becomes void, answer None. Otherwise .. Answer Narrowed if a bound moved, else Same."
--- "On the void box all five calls answer None .. and change nothing."
+-- "On the void box all five calls answer None .. and change nothing." 02 (C-11): "a visit that answers None adds nothing".
 unfoldable pub propagateRow : ℕ → List ℤ → ℤ → List ℤ → PropagatedRow
 propagateRow n A b B =
-    cond (isEmpty n B) (record { outcome = infeasible; box = B })
-    (cond (ltZ b (minActivity n A B)) (record { outcome = infeasible; box = emptyBox n })
+    cond (isEmpty n B) (record { outcome = infeasible; moved = 0; box = B })
+    (cond (ltZ b (minActivity n A B)) (record { outcome = infeasible; moved = 0; box = emptyBox n })
     (record {
       outcome = cond (all n (staysAt A b (minActivity n A B) B)) unchanged changed;
+      moved = movedBounds n B (impliedBox n A b (minActivity n A B) B);
       box = impliedBox n A b (minActivity n A B) B;
     }))
 

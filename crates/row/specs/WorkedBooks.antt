@@ -1,5 +1,6 @@
 -- The starred worked books of 01 about one row, as one table with one test (`worked-books-agree`). Variables are free 0-1 unless a
 -- box is given.
+use lib.Dec.{eqb}
 use lib.IntN.{negsuc, pos, ℤ}
 use lib.ListN.{length}
 use mathlib.Core.Bool.{Bool, _&&_, false, true}
@@ -29,7 +30,7 @@ sameOutcome unchanged infeasible = false
 sameOutcome unchanged changed = false
 
 unfoldable pub samePropagated : PropagatedRow → PropagatedRow → Bool
-samePropagated p q = sameOutcome (p .outcome) (q .outcome) && sameList (p .box) (q .box)
+samePropagated p q = sameOutcome (p .outcome) (q .outcome) && eqb (p .moved) (q .moved) && sameList (p .box) (q .box)
 
 unfoldable pub sameRow : NewRow → NewRow → Bool
 sameRow p q = sameOutcome (p .outcome) (q .outcome) && sameList (p .coefs) (q .coefs) && eqZ (p .rhs) (q .rhs)
@@ -49,18 +50,18 @@ binary2 = pos 0 ∷ pos 1 ∷ pos 0 ∷ pos 1 ∷ []
 unfoldable pub workedBooks : List WorkedBook
 workedBooks =
     -- 2x ≤ 5, x 0..5: visit gives 0..2; again, Same
-    propagation (pos 2 ∷ []) (pos 5) (pos 0 ∷ pos 5 ∷ []) (record { outcome = changed; box = pos 0 ∷ pos 2 ∷ [] })
-    ∷ propagation (pos 2 ∷ []) (pos 5) (pos 0 ∷ pos 2 ∷ []) (record { outcome = unchanged; box = pos 0 ∷ pos 2 ∷ [] })
+    propagation (pos 2 ∷ []) (pos 5) (pos 0 ∷ pos 5 ∷ []) (record { outcome = changed; moved = 1; box = pos 0 ∷ pos 2 ∷ [] })
+    ∷ propagation (pos 2 ∷ []) (pos 5) (pos 0 ∷ pos 2 ∷ []) (record { outcome = unchanged; moved = 0; box = pos 0 ∷ pos 2 ∷ [] })
     -- −2x ≤ −3, x 0..5: 2..5
-    ∷ propagation (negsuc 1 ∷ []) (negsuc 2) (pos 0 ∷ pos 5 ∷ []) (record { outcome = changed; box = pos 2 ∷ pos 5 ∷ [] })
+    ∷ propagation (negsuc 1 ∷ []) (negsuc 2) (pos 0 ∷ pos 5 ∷ []) (record { outcome = changed; moved = 1; box = pos 2 ∷ pos 5 ∷ [] })
     -- 2x ≤ −3, x −5..5: −5..−2
-    ∷ propagation (pos 2 ∷ []) (negsuc 2) (negsuc 4 ∷ pos 5 ∷ []) (record { outcome = changed; box = negsuc 4 ∷ negsuc 1 ∷ [] })
+    ∷ propagation (pos 2 ∷ []) (negsuc 2) (negsuc 4 ∷ pos 5 ∷ []) (record { outcome = changed; moved = 1; box = negsuc 4 ∷ negsuc 1 ∷ [] })
     -- All zero: b = −1 None; b = 0 Same
-    ∷ propagation (pos 0 ∷ pos 0 ∷ []) (negsuc 0) binary2 (record { outcome = infeasible; box = pos 1 ∷ pos 0 ∷ pos 1 ∷ pos 0 ∷ [] })
-    ∷ propagation (pos 0 ∷ pos 0 ∷ []) (pos 0) binary2 (record { outcome = unchanged; box = binary2 })
+    ∷ propagation (pos 0 ∷ pos 0 ∷ []) (negsuc 0) binary2 (record { outcome = infeasible; moved = 0; box = pos 1 ∷ pos 0 ∷ pos 1 ∷ pos 0 ∷ [] })
+    ∷ propagation (pos 0 ∷ pos 0 ∷ []) (pos 0) binary2 (record { outcome = unchanged; moved = 0; box = binary2 })
     -- −x−y ≤ −2: both 1; ≤ −3: None
-    ∷ propagation (negsuc 0 ∷ negsuc 0 ∷ []) (negsuc 1) binary2 (record { outcome = changed; box = pos 1 ∷ pos 1 ∷ pos 1 ∷ pos 1 ∷ [] })
-    ∷ propagation (negsuc 0 ∷ negsuc 0 ∷ []) (negsuc 2) binary2 (record { outcome = infeasible; box = pos 1 ∷ pos 0 ∷ pos 1 ∷ pos 0 ∷ [] })
+    ∷ propagation (negsuc 0 ∷ negsuc 0 ∷ []) (negsuc 1) binary2 (record { outcome = changed; moved = 2; box = pos 1 ∷ pos 1 ∷ pos 1 ∷ pos 1 ∷ [] })
+    ∷ propagation (negsuc 0 ∷ negsuc 0 ∷ []) (negsuc 2) binary2 (record { outcome = infeasible; moved = 0; box = pos 1 ∷ pos 0 ∷ pos 1 ∷ pos 0 ∷ [] })
     -- 3x+2y ≤ 4 sharpened at x: x+2y ≤ 2
     ∷ tighteningAtFirst (pos 3 ∷ pos 2 ∷ []) (pos 4) binary2 (record { outcome = changed; coefs = pos 1 ∷ pos 2 ∷ []; rhs = pos 2 })
     -- 2y−5x ≤ 1 at x: 2y−x ≤ 1

@@ -8,16 +8,16 @@ ghost use Prim.Native.Nat.{_<_, _+_, _*_};
 ghost use lib.IntN.{pos};
 ghost use lib.Signed.{_<ℤ_};
 ghost use lib.ListN.{length};
-ghost use Rattle.integer.specs.Index.{all};
 ghost use Rattle.model.specs.Box.{lower, upper, withBounds};
-ghost use Rattle.row.specs.Answers.{propagationOutcome};
-ghost use Rattle.row.specs.Propagation.{newLower, newUpper, impliedBox, stays, staysAt, propagateRow, rowMoves};
+ghost use Rattle.row.specs.Answers.{propagatedRowOf};
+ghost use Rattle.row.specs.Moved.{movedBounds};
+ghost use Rattle.row.specs.Propagation.{newLower, newUpper, impliedBox, stays, propagateRow, rowMoves};
 ghost use Rattle.row.specs.ValidRow.{ValidRow, ImpliesBounds, ImpliesBox};
 
-// 01's None, Narrowed, Same.
+// 01's None, Narrowed with the number of bounds that moved, Same.
 pub enum RowPropagation {
     Infeasible,
-    Tightened,
+    Tightened(u32),
     Unchanged,
 }
 
@@ -84,21 +84,22 @@ pub fn tighten_bounds_at(a: i32, b: i64, least: i64, bounds: &mut [i32], j: usiz
     false
 }
 
-// Gives each variable the bounds that the row implies, and says whether one moved.
-fn tighten_bounds(coefs: &[i32], b: i64, least: i64, bounds: &mut [i32]) -> bool
+// Gives each variable the bounds that the row implies, and says how many moved: at most one of each variable.
+fn tighten_bounds(coefs: &[i32], b: i64, least: i64, bounds: &mut [i32]) -> u32
     requires { ⌜ ImpliesBox (length (now coefs)) (now coefs) b least (now bounds) ⌝ }
     ensures left { λ r.
         let A = now (coefs .entry) in
         ⌜ now (bounds .exit) ≡ impliedBox (length A) A b least (now (bounds .entry)) ⌝ }
     ensures moved { λ r.
         let A = now (coefs .entry) in
-        ⌜ r ≡ not (all (length A) (staysAt A b least (now (bounds .entry)))) ⌝ }
+        let B = now (bounds .entry) in
+        ⌜ r ≡ movedBounds (length A) B (impliedBox (length A) A b least B) ⌝ }
 {
-    let mut moved = false;
+    let mut moved: u32 = 0;
     let mut j: usize = 0;
     while j < coefs.len() {
         if tighten_bounds_at(coefs[j], b, least, bounds, j) {
-            moved = true;
+            moved += 1;
         }
         j += 1;
     }
@@ -122,12 +123,9 @@ pub fn moves(coefs: &[i32], b: i32, bounds: &[i32]) -> bool
 // once the row is known to be met.
 pub fn propagate_row(coefs: &[i32], b: i32, bounds: &mut [i32]) -> RowPropagation
     requires { ⌜ ValidRow (length (now coefs)) (now coefs) b (now bounds) ⌝ }
-    ensures answer { λ r.
+    ensures { λ r.
         let A = now (coefs .entry) in
-        ⌜ propagationOutcome r ≡ propagateRow (length A) A b (now (bounds .entry)) .outcome ⌝ }
-    ensures left { λ r.
-        let A = now (coefs .entry) in
-        ⌜ now (bounds .exit) ≡ propagateRow (length A) A b (now (bounds .entry)) .box ⌝ }
+        ⌜ propagatedRowOf r (now (bounds .exit)) ≡ propagateRow (length A) A b (now (bounds .entry)) ⌝ }
 {
     if model::is_empty(bounds) {
         return RowPropagation::Infeasible;
@@ -142,8 +140,5 @@ pub fn propagate_row(coefs: &[i32], b: i32, bounds: &mut [i32]) -> RowPropagatio
         model::make_empty(bounds);
         return RowPropagation::Infeasible;
     }
-    if tighten_bounds(coefs, rhs, least, bounds) {
-        return RowPropagation::Tightened;
-    }
-    RowPropagation::Unchanged
+    RowPropagation::Tightened(tighten_bounds(coefs, rhs, least, bounds))
 }

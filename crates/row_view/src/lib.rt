@@ -14,7 +14,7 @@ ghost use lib.ListN.{drop, length, take};
 ghost use Rattle.model.specs.Box.{at};
 ghost use Rattle.model.specs.Rows.{rowOf};
 ghost use Rattle.row.specs.Activity.{minActivity, maxActivity};
-ghost use Rattle.row.specs.Answers.{propagationOutcome};
+ghost use Rattle.row.specs.Answers.{propagatedRowOf};
 ghost use Rattle.row.specs.Propagation.{propagateRow, rowMoves};
 ghost use Rattle.row.specs.ValidRow.{ValidCoefs, ValidRow};
 ghost use Rattle.row_view.specs.RowIn.{RowIn, StepsIn};
@@ -49,12 +49,10 @@ impl<'a> Row<'a> {
     // 01's visit of the row, with the box lent.
     pub fn propagate<'b>(self, bounds: &'b mut [i32]) -> RowPropagation
         requires { ⌜ ValidRow (length (now (self .coefs))) (now (self .coefs)) (self .b) (now bounds) ⌝ }
-        ensures answer { λ r.
-            ⌜ propagationOutcome r ≡ propagateRow (length (now (self .entry .coefs))) (now (self .entry .coefs))
-            (self .entry .b) (now (bounds .entry)) .outcome ⌝ }
-        ensures left { λ r. ⌜ now (bounds .exit)
-            ≡ propagateRow (length (now (self .entry .coefs))) (now (self .entry .coefs)) (self .entry .b)
-            (now (bounds .entry)) .box ⌝ }
+        ensures { λ r.
+            let A = now (self .entry .coefs) in
+            let B = now (bounds .entry) in
+            ⌜ propagatedRowOf r (now (bounds .exit)) ≡ propagateRow (length A) A (self .entry .b) B ⌝ }
     {
         propagate_row(self.coefs, self.b, bounds)
     }
@@ -63,13 +61,10 @@ impl<'a> Row<'a> {
     pub fn propagate_by<'b, 'c>(self, steps: &'b [u8], bounds: &'c mut [i32]) -> RowPropagation
         requires { ⌜ ValidRow (length (now (self .coefs))) (now (self .coefs)) (self .b) (now bounds)
             × Steps (length (now (self .coefs))) (now (self .coefs)) (now steps) ⌝ }
-        ensures answer { λ t.
-            ⌜ propagationOutcome t
-            ≡ propagateRow (length (now (self .entry .coefs))) (now (self .entry .coefs)) (self .entry .b)
-            (now (bounds .entry)) .outcome ⌝ }
-        ensures left { λ t. ⌜ now (bounds .exit)
-            ≡ propagateRow (length (now (self .entry .coefs))) (now (self .entry .coefs)) (self .entry .b)
-            (now (bounds .entry)) .box ⌝ }
+        ensures { λ t.
+            let A = now (self .entry .coefs) in
+            let B = now (bounds .entry) in
+            ⌜ propagatedRowOf t (now (bounds .exit)) ≡ propagateRow (length A) A (self .entry .b) B ⌝ }
     {
         propagate_row_by(self.coefs, steps, self.b, bounds)
     }
@@ -105,11 +100,9 @@ pub fn propagate_row_at<'a, 'b, 'c>(
     bounds: &'c mut [i32],
 ) -> RowPropagation
     requires { ⌜ RowIn n (now coefs) (now rhs) r × ValidRow n (rowOf n (now coefs) r) (at (now rhs) r) (now bounds) ⌝ }
-    ensures answer { λ s.
-        ⌜ propagationOutcome s ≡ propagateRow n (rowOf n (now (coefs .entry)) r) (at (now (rhs .entry)) r)
-        (now (bounds .entry)) .outcome ⌝ }
-    ensures left { λ s. ⌜ now (bounds .exit)
-        ≡ propagateRow n (rowOf n (now (coefs .entry)) r) (at (now (rhs .entry)) r) (now (bounds .entry)) .box ⌝ }
+    ensures { λ s.
+        ⌜ propagatedRowOf s (now (bounds .exit))
+        ≡ propagateRow n (rowOf n (now (coefs .entry)) r) (at (now (rhs .entry)) r) (now (bounds .entry)) ⌝ }
 {
     row_at(n, coefs, rhs, r).propagate(bounds)
 }
@@ -125,12 +118,9 @@ fn propagate_row_with<'a, 'b, 'c, 'd>(
 ) -> RowPropagation
     requires { ⌜ RowIn n (now coefs) (now rhs) r × ValidRow n (rowOf n (now coefs) r) (at (now rhs) r) (now bounds)
         × Steps n (rowOf n (now coefs) r) (now steps) ⌝ }
-    ensures answer { λ t.
-        ⌜ propagationOutcome t ≡ propagateRow n (rowOf n (now (coefs .entry)) r) (at (now (rhs .entry)) r)
-        (now (bounds .entry)) .outcome ⌝ }
-    ensures left { λ t.
-        ⌜ now (bounds .exit)
-        ≡ propagateRow n (rowOf n (now (coefs .entry)) r) (at (now (rhs .entry)) r) (now (bounds .entry)) .box ⌝ }
+    ensures { λ t.
+        ⌜ propagatedRowOf t (now (bounds .exit))
+        ≡ propagateRow n (rowOf n (now (coefs .entry)) r) (at (now (rhs .entry)) r) (now (bounds .entry)) ⌝ }
 {
     row_at(n, coefs, rhs, r).propagate_by(steps, bounds)
 }
@@ -156,13 +146,9 @@ pub fn propagate_row_at_by(
 ) -> RowPropagation
     requires { ⌜ RowIn n (now coefs) (now rhs) r × ValidRow n (rowOf n (now coefs) r) (at (now rhs) r) (now bounds) ⌝ }
     requires { ⌜ StepsIn n (now coefs) (now across) r ⌝ }
-    ensures answer { λ a.
-        ⌜ propagationOutcome a
-        ≡ propagateRow n (rowOf n (now (coefs .entry)) r) (at (now (rhs .entry)) r)
-        (now (bounds .entry)) .outcome ⌝ }
-    ensures left { λ a.
-        ⌜ now (bounds .exit)
-        ≡ propagateRow n (rowOf n (now (coefs .entry)) r) (at (now (rhs .entry)) r) (now (bounds .entry)) .box ⌝ }
+    ensures { λ a.
+        ⌜ propagatedRowOf a (now (bounds .exit))
+        ≡ propagateRow n (rowOf n (now (coefs .entry)) r) (at (now (rhs .entry)) r) (now (bounds .entry)) ⌝ }
 {
     propagate_row_with(n, coefs, rhs, r, steps_at(n, across, r), bounds)
 }

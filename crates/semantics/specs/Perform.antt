@@ -16,11 +16,11 @@ use Rattle.semantics.specs.Propagate.{Ending, propagate}
 -- 01's answers: the number of the check that refused the call; or the case and the numbers of the call's kind
 pub data Answer : Type 0 where
   refused : ℕ → Answer
-  -- visit: None, Narrowed, Same
-  propagatedRow : Outcome → Answer
-  -- settle: None, Settled or Spent, and the passes made
-  propagated : Ending → ℕ → Answer
-  -- probe: None, Fixed v, Both with the bytes that became 1, and the two sides' passes and Spent
+  -- visit: None, Narrowed, Same, and the number of bounds moved
+  propagatedRow : Outcome → ℕ → Answer
+  -- settle: None, Settled or Spent, the passes made and the number of bounds moved
+  propagated : Ending → ℕ → ℕ → Answer
+  -- probe: None, Fixed v, Both with the bytes that became 1, and the two sides' passes, Spent and bounds moved
   probed : ProbeEnding → Side → Side → Answer
   -- sharpen: None, Sharpened, Same
   tightened : Outcome → Answer
@@ -36,11 +36,11 @@ unfoldable pub act : Kind → State → Call → Performed
 act rowPropagation s c =
     let M = s .model in
     let r = propagateRowOf (M .n) (rowAt (M .n) (M .rows) (c .row)) (M .box) in
-    record { answer = propagatedRow (r .outcome); state = withBox s (r .box) (s .table) }
+    record { answer = propagatedRow (r .outcome) (r .moved); state = withBox s (r .box) (s .table) }
 act propagation s c =
     let M = s .model in
     let r = propagate (c .budget) (M .n) (M .m) (M .rows) (M .box) in
-    record { answer = propagated (r .ending) (r .passes); state = withBox s (r .box) (s .table) }
+    record { answer = propagated (r .ending) (r .passes) (r .moved); state = withBox s (r .box) (s .table) }
 act probing s c =
     let M = s .model in
     let r = probe (c .variable) (c .budget) (M .n) (M .m) (M .rows) (M .box) (s .table) in

@@ -63,10 +63,11 @@ pub data ProbeEnding : Type 0 where
   fixed : ℕ → ProbeEnding
   bothFeasible : ℕ → ProbeEnding
 
--- "Each side's passes and whether it was Spent are in the answer."
+-- "Each side's passes and whether it was Spent are in the answer." 02 (C-11): "A probe carries that sum for each side."
 pub record Side : Type 0 where
   pub passes : ℕ
   pub spent : Bool
+  pub moved : ℕ
 
 pub record Probed : Type 0 where
   pub ending : ProbeEnding
@@ -76,7 +77,7 @@ pub record Probed : Type 0 where
   pub table : List ℕ
 
 unfoldable pub sideOf : Propagated → Side
-sideOf p = record { passes = p .passes; spent = isSpent (p .ending) }
+sideOf p = record { passes = p .passes; spent = isSpent (p .ending); moved = p .moved }
 
 -- the four cases, from the two sides as they were settled: "Both None: void, None." "One None: the bounds of the surviving side
 -- are handed on as the new box; answer Fixed with that side's v. The table stays." "Neither: the new box is the smallest that
@@ -105,8 +106,8 @@ probe k budget n m A B t =
     cond (isEmpty n B)
     (record {
       ending = infeasible;
-      side0 = record { passes = 0; spent = false };
-      side1 = record { passes = 0; spent = false };
+      side0 = record { passes = 0; spent = false; moved = 0 };
+      side1 = record { passes = 0; spent = false; moved = 0 };
       box = B;
       table = t;
     })

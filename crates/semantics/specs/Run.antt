@@ -34,16 +34,16 @@ probeInfeasible (bothFeasible c) = false
 -- the answer is None
 unfoldable pub answersNone : Answer → Bool
 answersNone (refused number) = false
-answersNone (propagatedRow o) = isInfeasible o
-answersNone (propagated e passes) = isNone e
+answersNone (propagatedRow o moved) = isInfeasible o
+answersNone (propagated e passes moved) = isNone e
 answersNone (probed e s0 s1) = probeInfeasible e
 answersNone (tightened o) = isInfeasible o
 answersNone (removed o) = isInfeasible o
 
 unfoldable pub isRefused : Answer → Bool
 isRefused (refused number) = true
-isRefused (propagatedRow o) = false
-isRefused (propagated e passes) = false
+isRefused (propagatedRow o moved) = false
+isRefused (propagated e passes moved) = false
 isRefused (probed e s0 s1) = false
 isRefused (tightened o) = false
 isRefused (removed o) = false

@@ -21,11 +21,11 @@ outcomeClass infeasible = runs.infeasibleCall
 outcomeClass changed = runs.changedCall
 outcomeClass unchanged = runs.unchangedCall
 
--- a propagation changed a bound unless its first pass moved nothing
+-- a propagation changed a bound if it moved one
 unfoldable pub propagationClass : Propagation → runs.CallClass
-propagationClass (passes.Infeasible p) = runs.infeasibleCall
-propagationClass (passes.Converged p) = cond (eqb p 1) runs.unchangedCall runs.changedCall
-propagationClass (passes.BudgetSpent p) = runs.changedCall
+propagationClass (passes.Infeasible p k) = runs.infeasibleCall
+propagationClass (passes.Converged p k) = cond (eqb k 0) runs.unchangedCall runs.changedCall
+propagationClass (passes.BudgetSpent p k) = cond (eqb k 0) runs.unchangedCall runs.changedCall
 
 -- refused, None, changed, unchanged
 unfoldable pub countsOf : Counts → runs.Counts

@@ -60,10 +60,10 @@ module _ {n : ℕ} {A P Q : List ℤ} (b : ℤ) (i : Inside n Q P) (r : SameRead
 
 -- the same of the definition: what a visit says in P it says in Q
 pub same-kept : {n : ℕ} {A P Q : List ℤ} (b : ℤ) → 0 < n → NonEmpty n P → NonEmpty n Q → Inside n Q P → SameReads n A P Q
-    → propagateRow n A b P ≡ record { outcome = unchanged; box = P } → propagateRow n A b Q ≡ record { outcome = unchanged; box = Q }
+    → propagateRow n A b P ≡ record { outcome = unchanged; moved = 0; box = P } → propagateRow n A b Q ≡ record { outcome = unchanged; moved = 0; box = Q }
 same-kept b h p q i r e = stable→same h q (stable-kept b i r (box→stable h p (ap (λ (v : PropagatedRow). v .box) e)))
 
 -- and a row that was just visited moves nothing
 pub same-after : (A : List ℤ) (b : ℤ) {n : ℕ} {B : List ℤ} → 0 < n → NonEmpty n B → T (not (isInfeasible (propagateRow n A b B .outcome)))
-    → propagateRow n A b (propagateRow n A b B .box) ≡ record { outcome = unchanged; box = propagateRow n A b B .box }
+    → propagateRow n A b (propagateRow n A b B .box) ≡ record { outcome = unchanged; moved = 0; box = propagateRow n A b B .box }
 same-after A b h p f = let q = propagate-row-nonEmpty A b p f in stable→same h q (box→stable h q (propagate-row-again A b h p f))

@@ -5,13 +5,12 @@ use row::activity::term;
 use row::activity::wider;
 use row::propagation::RowPropagation;
 use row::propagation::tighten_bounds_at;
-ghost use mathlib.Core.Bool.{not};
 ghost use mathlib.Core.Path.{_≡_};
 ghost use lib.ListN.{length};
-ghost use Rattle.integer.specs.Index.{all};
 ghost use Rattle.row.specs.Activity.{minActivity, widestTerm};
-ghost use Rattle.row.specs.Answers.{propagationOutcome};
-ghost use Rattle.row.specs.Propagation.{impliedBox, staysAt, propagateRow, rowMoves};
+ghost use Rattle.row.specs.Answers.{propagatedRowOf};
+ghost use Rattle.row.specs.Moved.{movedBounds};
+ghost use Rattle.row.specs.Propagation.{impliedBox, propagateRow, rowMoves};
 ghost use Rattle.sweep.specs.Steps.{Steps};
 ghost use Rattle.row.specs.ValidRow.{ValidCoefs, ValidRow, ImpliesBox};
 
@@ -51,21 +50,23 @@ pub fn moves_by(coefs: &[i32], steps: &[u8], b: i32, bounds: &[i32]) -> bool
     (b as i64) - r.least < r.widest
 }
 
-// Gives each variable the bounds that the row implies, and says whether one moved.
-fn tighten_bounds_by(coefs: &[i32], steps: &[u8], b: i64, least: i64, bounds: &mut [i32]) -> bool
+// Gives each variable the bounds that the row implies, and says how many moved: at most one of each variable.
+fn tighten_bounds_by(coefs: &[i32], steps: &[u8], b: i64, least: i64, bounds: &mut [i32]) -> u32
     requires { ⌜ ImpliesBox (length (now coefs)) (now coefs) b least (now bounds) ⌝ }
     requires { ⌜ Steps (length (now coefs)) (now coefs) (now steps) ⌝ }
     ensures left { λ r.
         ⌜ now (bounds .exit)
         ≡ impliedBox (length (now (coefs .entry))) (now (coefs .entry)) b least (now (bounds .entry)) ⌝ }
     ensures moved { λ r.
-        ⌜ r ≡ not (all (length (now (coefs .entry))) (staysAt (now (coefs .entry)) b least (now (bounds .entry)))) ⌝ }
+        let A = now (coefs .entry) in
+        let B = now (bounds .entry) in
+        ⌜ r ≡ movedBounds (length A) B (impliedBox (length A) A b least B) ⌝ }
 {
-    let mut moved = false;
+    let mut moved: u32 = 0;
     let mut j: usize = 0;
     while j < coefs.len() {
         if tighten_bounds_at(coefs[j], b, least, bounds, j) {
-            moved = true;
+            moved += 1;
         }
         j += steps[j] as usize;
     }
@@ -76,12 +77,9 @@ fn tighten_bounds_by(coefs: &[i32], steps: &[u8], b: i64, least: i64, bounds: &m
 pub fn propagate_row_by(coefs: &[i32], steps: &[u8], b: i32, bounds: &mut [i32]) -> RowPropagation
     requires { ⌜ ValidRow (length (now coefs)) (now coefs) b (now bounds) ⌝ }
     requires { ⌜ Steps (length (now coefs)) (now coefs) (now steps) ⌝ }
-    ensures answer { λ r.
-        ⌜ propagationOutcome r
-        ≡ propagateRow (length (now (coefs .entry))) (now (coefs .entry)) b (now (bounds .entry)) .outcome ⌝ }
-    ensures left { λ r.
-        ⌜ now (bounds .exit)
-        ≡ propagateRow (length (now (coefs .entry))) (now (coefs .entry)) b (now (bounds .entry)) .box ⌝ }
+    ensures { λ r.
+        let A = now (coefs .entry) in
+        ⌜ propagatedRowOf r (now (bounds .exit)) ≡ propagateRow (length A) A b (now (bounds .entry)) ⌝ }
 {
     if model::is_empty(bounds) {
         return RowPropagation::Infeasible;
@@ -96,8 +94,5 @@ pub fn propagate_row_by(coefs: &[i32], steps: &[u8], b: i32, bounds: &mut [i32])
         model::make_empty(bounds);
         return RowPropagation::Infeasible;
     }
-    if tighten_bounds_by(coefs, steps, rhs, least, bounds) {
-        return RowPropagation::Tightened;
-    }
-    RowPropagation::Unchanged
+    RowPropagation::Tightened(tighten_bounds_by(coefs, steps, rhs, least, bounds))
 }

@@ -157,6 +157,7 @@ fn wrong_length(rng: &mut Rng, operation: Operation, lent: &mut Lent) {
         "coefs" => resize(rng, &mut lent.coefs),
         "rhs" => resize(rng, &mut lent.rhs),
         "table" => resize(rng, &mut lent.table),
+        "answer" if rng.chance(20) => lent.answer.truncate(6), // its length before C-11
         "answer" => resize(rng, &mut lent.answer),
         "book" => resize(rng, &mut lent.book),
         "calls" => lent.calls.extend(vec![1; rng.pick(&[1, 2, 3])]),

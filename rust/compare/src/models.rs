@@ -1,5 +1,7 @@
 //! Families of accepted models.
 
+use reference::calls::ANSWER;
+
 use crate::lent::Lent;
 use crate::rng::Rng;
 
@@ -72,7 +74,7 @@ pub fn model(rng: &mut Rng, family: Family) -> Lent {
         }
     };
     lent.table = table(rng, lent.n);
-    lent.answer = vec![0; 6];
+    lent.answer = vec![0; ANSWER];
     lent
 }
 
@@ -118,7 +120,7 @@ pub fn around_the_widest(rng: &mut Rng) -> Lent {
     }
     let mut lent = rows(rng, bounds, m, 75, 4);
     lent.table = table(rng, n);
-    lent.answer = vec![0; 6];
+    lent.answer = vec![0; ANSWER];
     lent
 }
 
@@ -312,7 +314,7 @@ impl Lent {
     /// The same model with a table all 0 and room for an answer.
     pub fn with_table(mut self) -> Self {
         self.table = vec![0; 4 * self.n * self.n];
-        self.answer = vec![0; 6];
+        self.answer = vec![0; ANSWER];
         self
     }
 }

@@ -108,10 +108,62 @@ fn catches_spent_told_as_settled() {
 fn catches_the_spent_flag_of_one_side() {
     is_caught(|operation, _, said, loan| {
         if matches!(operation, Operation::Probe { .. }) && said == 0 {
-            loan.answer[5] = 0;
+            loan.answer[6] = 0;
         }
         said
     });
+}
+
+#[test]
+fn catches_moved_bounds_counted_otherwise() {
+    // A row's: one for every row that moved.
+    is_caught(|operation, _, said, loan| {
+        if matches!(operation, Operation::PropagateRow { .. }) && said == 0 && loan.answer[0] == 1 {
+            loan.answer[1] = 1;
+        }
+        said
+    });
+    // A propagation's: none where it ended infeasible.
+    is_caught(|operation, _, said, loan| {
+        if matches!(operation, Operation::Propagate { .. }) && said == 0 && loan.answer[0] == 0 {
+            loan.answer[2] = 0;
+        }
+        said
+    });
+    // A propagation's: the bounds that differ in the end, each once.
+    is_caught(|operation, before, said, loan| {
+        if matches!(operation, Operation::Propagate { .. }) && said == 0 && loan.answer[0] != 0 {
+            let pairs = before.bounds.iter().zip(&*loan.bounds);
+            loan.answer[2] = pairs.filter(|(old, new)| old != new).count() as u64;
+        }
+        said
+    });
+    // The sides' exchanged; the probed variable's own bound counted.
+    is_caught(|operation, _, said, loan| {
+        if matches!(operation, Operation::Probe { .. }) && said == 0 {
+            loan.answer.swap(4, 7);
+        }
+        said
+    });
+    is_caught(|operation, _, said, loan| {
+        if matches!(operation, Operation::Probe { .. }) && said == 0 && loan.answer[2] > 0 {
+            loan.answer[4] += 1;
+        }
+        said
+    });
+}
+
+#[test]
+#[should_panic(expected = "PropagateRow")]
+fn moved_bounds_that_both_sides_invent_are_seen_too() {
+    // Both say one for every row that moved: they agree, and differ from the bounds.
+    let invent = |operation: Operation, _: &Before, said: u32, loan: &mut Loan| {
+        if matches!(operation, Operation::PropagateRow { .. }) && said == 0 && loan.answer[0] == 1 {
+            loan.answer[1] = 1;
+        }
+        said
+    };
+    suite::run(PLAN, &mut Broken(invent), &mut Broken(invent)).expect("the two agree");
 }
 
 #[test]

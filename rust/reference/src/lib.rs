@@ -15,7 +15,7 @@
 //! | [`rounds`] | the rounds of the program `reduce` |
 //! | [`book`] | Book |
 //! | [`checks`] | Checks in their order; 02's new numbers in their places |
-//! | [`calls`] | the eleven calls as the C interface has them: a refusal number and six places of answer |
+//! | [`calls`] | the eleven calls as the C interface has them: a refusal number and twelve places of answer |
 //! | [`report`] | what `reduce` prints |
 
 pub mod book;

@@ -1,6 +1,6 @@
 -- `row::propagation::tighten_bounds`: the invariant says that the bounds of the variables so far are the implied ones (`writeTo`), and
--- that `moved` tells whether one of them differs. A variable not yet visited has its old bounds (`writeTo-late`). Assumes nothing.
-use Prim.Native.Nat.{_*_, _+_, _-_, _≤_, ℕ}
+-- that `moved` tells how many of them differ (`moved-more`). A variable not yet visited has its old bounds (`writeTo-late`). Assumes nothing.
+use Prim.Native.Nat.{_-_, _≤_, ℕ}
 use lib.IntN.{ℤ}
 use lib.ListN.{length}
 use mathlib.Core.List.{List}
@@ -10,12 +10,13 @@ use mir.Facts.{toZ-ofZ}
 use mir.Syntax.{w32, w64}
 use mir.Val.{ofZ, toZ}
 use native.Mathlib.Omega.{arith}
-use Rattle.integer.specs.Index.{all}
 use Rattle.integer.proofs.RangeLaws.{within-fits}
 use Rattle.model.specs.Box.{at, lower, upper}
 use Rattle.model.proofs.BoxLoops.{writeTo}
-use Rattle.row.specs.ValidRow.{ImpliesBounds}
-use Rattle.row.proofs.RowLoops.{lower-there, moved-more, movedTo, tighten-all, tighten-more, tightenTo, upper-there}
+use Rattle.row.specs.Moved.{movedBounds}
+use Rattle.row.specs.Propagation.{impliedBox}
+use Rattle.row.proofs.MovedLaws.{moved-le}
+use Rattle.row.proofs.RowLoops.{implies-at, lower-there, moved-more, movedTo, tighten-all, tighten-more, tightenTo, upper-there}
 use Rattle.row.proofs.propagation.tighten_bounds.Statement.{statement}
 use Rattle.row.proofs.propagation.tighten_bounds.Tie as tie
 
@@ -24,13 +25,13 @@ Inv-loop coefs b least bounds₀ moved₀ j₀ bounds moved j =
     (j ≤ length coefs)
     × (length bounds ≡ length bounds₀)
     × (bounds ≡ tightenTo coefs (toZ w64 b) (toZ w64 least) bounds₀ j)
-    × (moved ≡ movedTo coefs (toZ w64 b) (toZ w64 least) bounds₀ j)
+    × (moved ≡ movedTo coefs (toZ w64 b) (toZ w64 least) bounds₀ (length coefs) j)
 
 abbrev μ-loop : tie.MeasureT-loop
 μ-loop coefs b least bounds₀ moved₀ j₀ bounds moved j = length coefs - j
 
 loop-holds : tie.Need-loop-holds Inv-loop μ-loop
-unfolding writeTo all
+unfolding writeTo movedBounds
 loop-holds c = (omega arith, refl, refl, refl)
 
 mul-tighten-bounds-at : tie.Need-mul-tighten-bounds-at Inv-loop μ-loop
@@ -75,20 +76,15 @@ module _ (h : tie.At-loop Inv-loop μ-loop) where
   u-is : upper (h .loop .bounds) j ≡ upper B j
   u-is = ap (λ (P : List ℤ). upper P j) (h .loop .inv .2) ∙ upper-there A b L B j
 
-  implies : ImpliesBounds (at A j) (s .args .b) (s .args .least) (lower B j) (upper B j)
-  implies = record {
-    coef = s .pre .coefs j;
-    rhs = s .pre .rhs;
-    activity = s .pre .activity;
-    met = s .pre .met;
-    low = s .pre .bounds (2 * j);
-    high = s .pre .bounds (2 * j + 1);
-  }
-
 tighten-bounds-at-requires : tie.Need-tighten-bounds-at-requires Inv-loop μ-loop
 tighten-bounds-at-requires c κs =
     let h = c .before .before .before in
-    (rw (a-is h, b-is h, least-is h, l-is h, u-is h) (implies h), omega (arith, s h .pre .len, s h .pre .boxLen))
+    (rw (a-is h, b-is h, least-is h, l-is h, u-is h) (implies-at (A h) (s h .args .b) (s h .args .least) (B h) (s h .pre) (j h)), omega (arith, s h .pre .len, s h .pre .boxLen))
+
+add-moved : tie.Need-add-moved Inv-loop μ-loop
+add-moved c =
+    let h = c .before .before .before .before .before .before in
+    omega (arith, s h .pre .few, h .loop .inv .3, moved-le (j h) (B h) (impliedBox (length (A h)) (A h) (b h) (L h) (B h)))
 
 add-j : tie.Need-add-j Inv-loop μ-loop
 add-j c = omega arith
@@ -103,7 +99,7 @@ loop-again c =
       omega arith,
       call .kept .1 .1 .1 .0 ∙ h .loop .inv .1,
       tighten-more (A h) (b h) (L h) (B h) (j h) (a-is h) (h .loop .inv .2) (call .ensures .0),
-      moved-more (A h) (b h) (L h) (B h) (j h) (a-is h) (h .loop .inv .2) (h .loop .inv .3) (call .ensures .1)
+      moved-more (A h) (b h) (L h) (B h) (length (A h)) (j h) (omega arith) (a-is h) (h .loop .inv .2) (h .loop .inv .3) (call .ensures .1)
           (⊎-elim (λ w. inl (w .0 .taken, w .1)) (λ w. inr (w .0 .left, w .1)) (c .if1 .came)),
     )
 
@@ -120,8 +116,8 @@ returns c =
           ∙ ap (tightenTo (A h) (s h .args .b) (s h .args .least) (B h)) end
           ∙ tighten-all (A h) (s h .args .b) (s h .args .least) (B h) n (s h .pre .boxLen),
       h .loop .inv .3
-          ∙ ap₂ (λ (x y : ℤ). movedTo (A h) x y (B h) (j h)) (b-is h) (least-is h)
-          ∙ ap (movedTo (A h) (s h .args .b) (s h .args .least) (B h)) end,
+          ∙ ap₂ (λ (x y : ℤ). movedTo (A h) x y (B h) n (j h)) (b-is h) (least-is h)
+          ∙ ap (movedTo (A h) (s h .args .b) (s h .args .least) (B h) n) end,
     )
 
 pub tighten-bounds-spec : {M : Type 1} → statement M
@@ -134,6 +130,7 @@ tighten-bounds-spec =
     mul-tighten-bounds-at
     shared-slice-copy-out-tighten-bounds-at
     tighten-bounds-at-requires
+    add-moved
     add-j
     loop-less
     loop-again
