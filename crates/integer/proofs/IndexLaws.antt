@@ -50,6 +50,14 @@ sum-nonneg (suc n) f h =
     let k = h n (omega arith) in
     simp zify (omega zarith)
 
+pub sum-below : (m : ℕ) (f : ℕ → ℤ) → ((j : ℕ) → f j ≤ℤ pos m) → (n : ℕ) → sum n f ≤ℤ pos (n * m)
+unfolding sum
+sum-below m f h zero = omega zarith
+sum-below m f h (suc n) =
+    let i = sum-below m f h n in
+    let k = h n in
+    simp zify (omega zarith)
+
 -- one term's gain is at most the whole sum's
 pub sum-gap : (n : ℕ) (f g : ℕ → ℤ) → ((j : ℕ) → j < n → f j ≤ℤ g j) → (k : ℕ) → k < n → (g k +ℤ sum n f) ≤ℤ (f k +ℤ sum n g)
 unfolding sum

@@ -1,24 +1,24 @@
 -- Laws of the checks: what each test says, which check fails first, and what a model that passes them all is.
 use Prim.Native.Nat.{_*_, _+_, _/_, _<_, _≤_, ℕ}
 use lib.Dec.{T, eqb, eqb→eq, leb, ltb, ltb→lt}
-use lib.IntN.{pos, ℤ}
-use lib.ListN.{getD, length}
+use lib.IntN.{_-ℤ_, pos, ℤ}
+use lib.ListN.{List·getD-eq-default, getD, length}
 use lib.Signed.{_≤ℤ_, leZ}
 use mathlib.Core.Bool.{Bool, _&&_, _||_, cond, false, true}
 use mathlib.Core.List.{List, [], _++_, _∷_}
 use mathlib.Core.Logic.{_↔_, _⊎_, inl, inr, ⊎-elim}
 use mathlib.Core.Path.{_∙_, _≡_, ap, refl, sym}
-use native.Mathlib.Decide.{ℕ-discrete}
+use native.Mathlib.Decide.{decLt, ℕ-discrete}
 use native.Mathlib.Omega.{arith}
 use Rattle.integer.specs.Index.{all}
-use Rattle.integer.proofs.IndexLaws.{all-more, all-test, getD-all}
-use Rattle.integer.proofs.Parts.{zarith}
+use Rattle.integer.proofs.IndexLaws.{all-more, all-test, getD-all, sum-below}
+use Rattle.integer.proofs.Parts.{zarith, zify}
 use Rattle.integer.proofs.Tests.{all-three, and-l, and-r, both, cond-ind, eqb-test, le-test, leb-test, ltb-test, neqb→ne, or-cases, or-inl, or-inr, true→T}
-use Rattle.model.specs.Box.{NonEmpty, at, emptyBox, isEmpty, lower, upper}
-use Rattle.model.specs.Checks.{Check, bits, first, inRange, lengthChecks, modelChecks, modelFault, must, none, numberChecks, ordered, sizeChecks, table, tableByteChecks, tableLengthChecks}
-use Rattle.model.specs.Limits.{maxBound, maxCoef, maxRhs, maxRows, maxVariables, minBound, minCoef, minRhs}
+use Rattle.model.specs.Box.{NonEmpty, at, emptyBox, isEmpty, lower, upper, width}
+use Rattle.model.specs.Checks.{Check, bits, boxChecks, first, inRange, lengthChecks, modelChecks, modelFault, must, narrow, none, numberChecks, ordered, sizeChecks, table, tableByteChecks, tableLengthChecks}
+use Rattle.model.specs.Limits.{maxBound, maxCoef, maxRhs, maxRows, maxVariables, maxWidth, minBound, minCoef, minRhs}
 use Rattle.model.specs.Model.{Model}
-use Rattle.model.specs.Valid.{Between, ValidModel, ValidTable}
+use Rattle.model.specs.Valid.{Between, ValidBox, ValidModel, ValidTable}
 use Rattle.model.proofs.BoxLaws.{empty-is, isEmpty→eq}
 
 -- ---- the first check that fails
@@ -139,6 +139,29 @@ shape-test n B l = (
   ⊎-elim (λ e. or-inl (isEmpty n B) (ordered B) (true→T (isEmpty n B) (empty-is n B e))) (λ p. or-inr (isEmpty n B) (ordered B) (ordered-test n B l .1 p)),
 )
 
+pub narrow-test : (B : List ℤ) → T (narrow B) ↔ ((j : ℕ) → 2 * j + 1 < length B → (upper B j -ℤ lower B j) ≤ℤ maxWidth)
+unfolding narrow
+narrow-test B =
+    let d = all-test (length B / 2) (λ j. leZ (upper B j -ℤ lower B j) maxWidth) (λ j. le-test (upper B j -ℤ lower B j) maxWidth) in
+    ((λ t j h. d .0 t j (omega arith)), (λ p. d .1 (λ j h. p j (omega arith))))
+
+-- past the end of B stand 0 and 0
+pub narrow-past : (n : ℕ) (B : List ℤ) → length B ≡ 2 * n
+    → ((j : ℕ) → j < n → (upper B j -ℤ lower B j) ≤ℤ maxWidth) → (j : ℕ) → (upper B j -ℤ lower B j) ≤ℤ maxWidth
+narrow-past n B l f j = cases (decLt j n)
+  where
+    cases : Dec (j < n) → (upper B j -ℤ lower B j) ≤ℤ maxWidth
+    cases (yes h) = f j h
+    cases (no h) =
+        let a : length B ≤ 2 * j = omega arith in
+        let b : length B ≤ 2 * j + 1 = omega arith in
+        rw (List·getD-eq-default B (pos 0) a, List·getD-eq-default B (pos 0) b) (omega zarith)
+
+pub narrow-all : (n : ℕ) (B : List ℤ) → length B ≡ 2 * n → T (narrow B) ↔ ((j : ℕ) → (upper B j -ℤ lower B j) ≤ℤ maxWidth)
+narrow-all n B l =
+    let d = narrow-test B in
+    ((λ t. narrow-past n B l (λ j h. d .0 t j (omega arith))), (λ p. d .1 (λ j _. p j)))
+
 pub bits-test : (t : List ℕ) → T (bits t) ↔ ((i : ℕ) → i < length t → getD t i 0 < 2)
 unfolding bits
 bits-test t = all-test (length t) (λ i. ltb (getD t i 0) 2) (λ i. ltb-test (getD t i 0) 2)
@@ -155,6 +178,7 @@ Tests M =
     × T (eqb (length (M .box)) (2 * M .n) && eqb (length (M .rows .coefs)) (M .m * M .n) && eqb (length (M .rows .rhs)) (M .m))
     × T (inRange minBound maxBound (M .box))
     × T (isEmpty (M .n) (M .box) || ordered (M .box))
+    × T (narrow (M .box))
     × T (inRange minCoef maxCoef (M .rows .coefs))
     × T (inRange minRhs maxRhs (M .rows .rhs))
 
@@ -173,11 +197,12 @@ model-test M = (there, back)
             len = l .0;
             range = inRange-all minBound maxBound (M .box) (omega zarith) (omega zarith) .0 (t .2);
             shape = shape-test (M .n) (M .box) (l .0) .0 (t .3);
+            narrow = narrow-all (M .n) (M .box) (l .0) .0 (t .4);
           };
           coefsLen = l .1;
-          coefs = inRange-all minCoef maxCoef (M .rows .coefs) (omega zarith) (omega zarith) .0 (t .4);
+          coefs = inRange-all minCoef maxCoef (M .rows .coefs) (omega zarith) (omega zarith) .0 (t .5);
           rhsLen = l .2;
-          rhs = inRange-all minRhs maxRhs (M .rows .rhs) (omega zarith) (omega zarith) .0 (t .5);
+          rhs = inRange-all minRhs maxRhs (M .rows .rhs) (omega zarith) (omega zarith) .0 (t .6);
         }
 
     back : ValidModel M → Tests M
@@ -186,25 +211,26 @@ model-test M = (there, back)
       length-test M .1 (v .box .len, v .coefsLen, v .rhsLen),
       inRange-all minBound maxBound (M .box) (omega zarith) (omega zarith) .1 (v .box .range),
       shape-test (M .n) (M .box) (v .box .len) .1 (v .box .shape),
+      narrow-all (M .n) (M .box) (v .box .len) .1 (v .box .narrow),
       inRange-all minCoef maxCoef (M .rows .coefs) (omega zarith) (omega zarith) .1 (v .coefs),
       inRange-all minRhs maxRhs (M .rows .rhs) (omega zarith) (omega zarith) .1 (v .rhs),
     )
 
 -- a model is accepted exactly if it is valid and everything else that is lent fits
 pub fits-fault-none : (M : Model) (fits : Bool) → (modelFault M none fits ≡ 0) ↔ (ValidModel M × T fits)
-unfolding modelFault modelChecks sizeChecks lengthChecks tableLengthChecks numberChecks tableByteChecks
+unfolding modelFault modelChecks sizeChecks lengthChecks tableLengthChecks boxChecks numberChecks tableByteChecks
 fits-fault-none M fits =
     let d = first-none (modelChecks M none fits) tt in
     let v = model-test M in (
       (λ e. let h = d .0 e in
-          let k = h .1 .1 .1 in (v .0 (h .0, h .1 .0, k .0, k .1 .0, k .1 .1 .0, k .1 .1 .1 .0), h .1 .1 .0)),
-      (λ w. let s = v .1 (w .0) in d .1 (s .0, (s .1, (w .1, (s .2, (s .3, (s .4, (s .5, tt)))))))),
+          let k = h .1 .1 .1 in (v .0 (h .0, h .1 .0, k .0, k .1 .0, k .1 .1 .0, k .1 .1 .1 .0, k .1 .1 .1 .1 .0), h .1 .1 .0)),
+      (λ w. let s = v .1 (w .0) in d .1 (s .0, (s .1, (w .1, (s .2, (s .3, (s .4, (s .5, (s .6, tt))))))))),
     )
 
 -- the same with a table
 pub fits-table-fault-none : (M : Model) (t : List ℕ) (fits : Bool)
     → (modelFault M (table t) fits ≡ 0) ↔ (ValidModel M × ValidTable (M .n) t × T fits)
-unfolding modelFault modelChecks sizeChecks lengthChecks tableLengthChecks numberChecks tableByteChecks
+unfolding modelFault modelChecks sizeChecks lengthChecks tableLengthChecks boxChecks numberChecks tableByteChecks
 fits-table-fault-none M t fits =
     let d = first-none (modelChecks M (table t) fits) tt in
     let v = model-test M in
@@ -212,12 +238,12 @@ fits-table-fault-none M t fits =
     let b = bits-all t in (
       (λ e. let h = d .0 e in
           let k = h .1 .1 .1 .1 in (
-            v .0 (h .0, h .1 .0, k .0, k .1 .0, k .1 .1 .0, k .1 .1 .1 .0),
-            record { len = l .0 (h .1 .1 .0); bits = b .0 (k .1 .1 .1 .1 .0) },
+            v .0 (h .0, h .1 .0, k .0, k .1 .0, k .1 .1 .0, k .1 .1 .1 .0, k .1 .1 .1 .1 .0),
+            record { len = l .0 (h .1 .1 .0); bits = b .0 (k .1 .1 .1 .1 .1 .0) },
             h .1 .1 .1 .0,
           )),
       (λ w. let s = v .1 (w .0) in
-          d .1 (s .0, (s .1, (l .1 (w .1 .len), (w .2, (s .2, (s .3, (s .4, (s .5, (b .1 (w .1 .bits), tt)))))))))),
+          d .1 (s .0, (s .1, (l .1 (w .1 .len), (w .2, (s .2, (s .3, (s .4, (s .5, (s .6, (b .1 (w .1 .bits), tt))))))))))),
     )
 
 -- where nothing else is lent
@@ -226,6 +252,14 @@ fault-none M = let d = fits-fault-none M true in ((λ e. d .0 e .0), (λ v. d .1
 
 pub table-fault-none : (M : Model) (t : List ℕ) → (modelFault M (table t) true ≡ 0) ↔ (ValidModel M × ValidTable (M .n) t)
 table-fault-none M t = let d = fits-table-fault-none M t true in ((λ e. let h = d .0 e in (h .0, h .1)), (λ v. d .1 (v .0, v .1, tt)))
+
+-- the total width of a valid box is at most n times 4,096, and that of a valid model at most 128 times
+pub valid-width : {n : ℕ} {B : List ℤ} → ValidBox n B → width n B ≤ℤ pos (n * 4_096)
+unfolding width
+valid-width {n} {B} v = sum-below 4_096 (λ j. upper B j -ℤ lower B j) (v .narrow) n
+
+pub model-width : (M : Model) → ValidModel M → width (M .n) (M .box) ≤ℤ pos 524_288
+model-width M v = let w = valid-width (v .box) in let f = v .few in omega zarith
 
 -- two tests of one number in turn are one test
 merge : (a b : Bool) (number : ℕ) (checks : List Check)
@@ -237,7 +271,7 @@ merge false b number checks = refl
 -- the chain with a table is the chain without one, in which the table's length is one of those that must fit, and then check 10
 pub table-chain : (M : Model) (t : List ℕ) (fits : Bool)
     → modelFault M (table t) fits ≡ first (modelChecks M none (eqb (length t) (4 * (M .n * M .n)) && fits) ++ tableByteChecks (table t))
-unfolding modelFault modelChecks sizeChecks lengthChecks tableLengthChecks numberChecks tableByteChecks first
+unfolding modelFault modelChecks sizeChecks lengthChecks tableLengthChecks boxChecks numberChecks tableByteChecks first
 table-chain M t fits =
     ap
     (λ r. cond (leb 1 (M .n) && leb (M .n) maxVariables && leb (M .m) maxRows)

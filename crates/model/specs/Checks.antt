@@ -1,15 +1,15 @@
--- The checks of a model in memory and of a table, by 01's numbers and in 01's order. Each looks at everything that the call is
--- lent before the next one does.
+-- The checks of a model in memory and of a table, by the numbers of 01 and 02 and in their order (`Places`). Each looks at everything
+-- that the call is lent before the next one does.
 use Prim.Native.Nat.{_*_, _/_, ℕ}
 use lib.Dec.{eqb, leb, ltb}
-use lib.IntN.{ℤ}
+use lib.IntN.{_-ℤ_, ℤ}
 use lib.ListN.{getD, length}
 use lib.Signed.{leZ}
 use mathlib.Core.Bool.{Bool, _&&_, _||_, cond}
 use mathlib.Core.List.{List, [], _++_, _∷_}
 use Rattle.integer.specs.Index.{all}
 use Rattle.model.specs.Box.{at, isEmpty, lower, upper}
-use Rattle.model.specs.Limits.{maxBound, maxCoef, maxRhs, maxRows, maxVariables, minBound, minCoef, minRhs}
+use Rattle.model.specs.Limits.{maxBound, maxCoef, maxRhs, maxRows, maxVariables, maxWidth, minBound, minCoef, minRhs}
 use Rattle.model.specs.Model.{Model}
 use Rattle.model.specs.Rows.{Rows}
 
@@ -29,6 +29,10 @@ inRange low high xs = all (length xs) (λ i. leZ low (at xs i) && leZ (at xs i) 
 -- no lower bound is above its upper
 unfoldable pub ordered : List ℤ → Bool
 ordered B = all (length B / 2) (λ j. leZ (lower B j) (upper B j))
+
+-- no u − l is over 4,096; the empty box's are all −1
+unfoldable pub narrow : List ℤ → Bool
+narrow B = all (length B / 2) (λ j. leZ (upper B j -ℤ lower B j) maxWidth)
 
 -- every byte is 0 or 1
 unfoldable pub bits : List ℕ → Bool
@@ -54,12 +58,15 @@ tableLengthChecks n none = []
 tableLengthChecks n (table t) = must (eqb (length t) (4 * (n * n))) 5 ∷ []
 
 -- 6. A bound is outside its range. 7. A lower bound is above its upper in a box that is not void.
--- 8. A coefficient is outside its range. 9. A right side is outside its range.
+-- "23, a width above 4,096, straight after check 7" (02, C-22).
+unfoldable pub boxChecks : ℕ → List ℤ → List Check
+boxChecks n B = must (inRange minBound maxBound B) 6 ∷ must (isEmpty n B || ordered B) 7 ∷ must (narrow B) 23 ∷ []
+
+-- Those of the box, then: 8. A coefficient is outside its range. 9. A right side is outside its range.
 unfoldable pub numberChecks : ℕ → List ℤ → Rows → List Check
 numberChecks n B A =
-    must (inRange minBound maxBound B) 6
-    ∷ must (isEmpty n B || ordered B) 7
-    ∷ must (inRange minCoef maxCoef (A .coefs)) 8
+    boxChecks n B
+    ++ must (inRange minCoef maxCoef (A .coefs)) 8
     ∷ must (inRange minRhs maxRhs (A .rhs)) 9
     ∷ []
 

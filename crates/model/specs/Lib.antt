@@ -5,4 +5,5 @@ pub mod Model
 pub mod State
 pub mod Point
 pub mod Checks
+pub mod Places
 pub mod Valid

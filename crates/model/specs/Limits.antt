@@ -1,4 +1,4 @@
--- The limits of a model (01, "The model").
+-- The limits of a model (01, "The model"; the width: 02, C-22).
 use Prim.Native.Nat.{ℕ}
 use lib.IntN.{ℤ, negℤ, pos}
 
@@ -15,6 +15,10 @@ minBound = negℤ (pos 32_768)
 
 abbrev pub maxBound : ℤ
 maxBound = pos 32_767
+
+-- "A variable whose u − l is over 4,096 is refused" (02, C-22)
+abbrev pub maxWidth : ℤ
+maxWidth = pos 4_096
 
 -- coefficients between −1,000,000 and 1,000,000
 abbrev pub minCoef : ℤ

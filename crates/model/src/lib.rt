@@ -1,18 +1,20 @@
 // A model in memory: n variables and m rows over flat lent buffers, and the checks that it passes before anything reads
 // it. bounds: l and u of each variable in turn, 2n; coefs: row after row, m · n; rhs: m; table: 4n² bytes. The checks
-// write nothing and require nothing: each answers for every n, m and buffer length. `in_range`, `is_ordered` and
-// `is_bits` go to the buffer's end and keep a flag: a loop without a branch for each number is compiled to take 4 to 16
-// numbers at a time.
+// write nothing and require nothing: each answers for every n, m and buffer length. `in_range`, `is_ordered`,
+// `is_narrow` and `is_bits` go to the buffer's end and keep a flag: a loop without a branch for each number is compiled
+// to take 4 to 16 numbers at a time.
 pub mod boxes;
 
 pub use crate::boxes::is_empty;
 pub use crate::boxes::make_empty;
+ghost use mathlib.Core.Bool.{true};
 ghost use mathlib.Core.Path.{_≡_};
 ghost use Prim.Native.Nat.{_*_};
 ghost use lib.Dec.{eqb};
 ghost use Rattle.model.specs.Box.{isEmpty};
-ghost use Rattle.model.specs.Checks.{first, inRange, ordered, bits, none, table as lent, sizeChecks};
-ghost use Rattle.model.specs.Checks.{lengthChecks, tableLengthChecks, numberChecks, modelFault};
+ghost use Rattle.model.specs.Checks.{first, inRange, ordered, narrow, bits, none, table as lent, sizeChecks};
+ghost use Rattle.model.specs.Checks.{lengthChecks, tableLengthChecks, boxChecks, numberChecks, modelFault};
+ghost use Rattle.model.specs.Limits.{maxBound, minBound};
 ghost use Rattle.model.specs.Model.{modelOf};
 ghost use Rattle.model.specs.Rows.{rowsOf};
 
@@ -28,6 +30,9 @@ pub const MAX_MATRIX: usize = 15_360;
 pub const MIN_BOUND: i32 = -32_768;
 
 pub const MAX_BOUND: i32 = 32_767;
+
+// The widest variable, u − l.
+pub const MAX_WIDTH: i32 = 4_096;
 
 pub const MAX_COEF: i32 = 1_000_000;
 
@@ -127,6 +132,21 @@ pub fn is_ordered(bounds: &[i32]) -> bool
     ok
 }
 
+// Whether no u − l is over 4,096. In range, none overflows.
+fn is_narrow(bounds: &[i32]) -> bool
+    requires { ⌜ inRange minBound maxBound (now bounds) ≡ true ⌝ }
+    ensures { λ r. ⌜ r ≡ narrow (now (bounds .entry)) ⌝ }
+{
+    let half = bounds.len() / 2;
+    let mut ok = true;
+    let mut j = 0;
+    while j < half {
+        ok &= bounds[2 * j + 1] - bounds[2 * j] <= MAX_WIDTH;
+        j += 1;
+    }
+    ok
+}
+
 // Whether the box is the empty one: every l = 1 and every u = 0.
 pub fn is_empty_box(n: usize, bounds: &[i32]) -> bool
     ensures { λ r. ⌜ r ≡ isEmpty n (now (bounds .entry)) ⌝ }
@@ -160,10 +180,9 @@ pub fn is_bits(table: &[u8]) -> bool
     ok
 }
 
-// Checks 6 to 9, each over all its numbers before the next: the number of the first that fails, else 0.
-pub fn number_fault(n: usize, bounds: &[i32], coefs: &[i32], rhs: &[i32]) -> u32
-    ensures { λ r.
-        ⌜ r ≡ first (numberChecks n (now (bounds .entry)) (rowsOf (now (coefs .entry)) (now (rhs .entry)))) ⌝ }
+// Checks 6, 7 and 23, each over all bounds before the next: the number of the first that fails, else 0.
+pub fn box_fault(n: usize, bounds: &[i32]) -> u32
+    ensures { λ r. ⌜ r ≡ first (boxChecks n (now (bounds .entry))) ⌝ }
 {
     if !in_range(bounds, MIN_BOUND, MAX_BOUND) {
         return 6;
@@ -172,6 +191,22 @@ pub fn number_fault(n: usize, bounds: &[i32], coefs: &[i32], rhs: &[i32]) -> u32
         if !is_empty_box(n, bounds) {
             return 7;
         }
+    }
+    if !is_narrow(bounds) {
+        return 23;
+    }
+    0
+}
+
+// Those of the box, then 8 and 9, each over all its numbers before the next: the number of the first that fails,
+// else 0.
+pub fn number_fault(n: usize, bounds: &[i32], coefs: &[i32], rhs: &[i32]) -> u32
+    ensures { λ r.
+        ⌜ r ≡ first (numberChecks n (now (bounds .entry)) (rowsOf (now (coefs .entry)) (now (rhs .entry)))) ⌝ }
+{
+    let fault = box_fault(n, bounds);
+    if fault != 0 {
+        return fault;
     }
     if !in_range(coefs, -MAX_COEF, MAX_COEF) {
         return 8;
@@ -182,8 +217,8 @@ pub fn number_fault(n: usize, bounds: &[i32], coefs: &[i32], rhs: &[i32]) -> u32
     0
 }
 
-// The one chain of checks. The number by which a model in memory is refused, 0 where it is accepted: checks 3 and 5 to
-// 9. `fits` says whether every other buffer that the call is lent has its length (5, with the others).
+// The one chain of checks. The number by which a model in memory is refused, 0 where it is accepted: checks 3, 5, 6, 7,
+// 23, 8 and 9. `fits` says whether every other buffer that the call is lent has its length (5, with the others).
 pub fn model_fault(
     n: usize,
     m: usize,
@@ -209,7 +244,7 @@ pub fn model_fault(
     number_fault(n, bounds, coefs, rhs)
 }
 
-// The same with a table, whose length is one of those that must fit: checks 3 and 5 to 10.
+// The same with a table, whose length is one of those that must fit, and then check 10.
 pub fn model_table_fault(
     n: usize,
     m: usize,

@@ -1,7 +1,7 @@
 -- Laws of the box that a row implies: it lies inside the old one, has the same minimum activity and keeps within the limits.
 use Prim.Native.Nat.{_*_, _<_, ℕ}
 use lib.Dec.{T, T-not}
-use lib.IntN.{ℤ}
+use lib.IntN.{_-ℤ_, ℤ}
 use lib.ListN.{length}
 use lib.Signed.{_≤ℤ_}
 use mathlib.Core.Bool.{not}
@@ -10,11 +10,12 @@ use mathlib.Core.Logic.{_⊎_, inl, inr}
 use mathlib.Core.Path.{_∙_, _≡_, ap, refl, subst, sym}
 use Rattle.integer.specs.Index.{all}
 use Rattle.integer.proofs.IndexLaws.{all-at, all-i, sum-cong}
-use Rattle.integer.proofs.Parts.{zarith}
+use Rattle.integer.proofs.Parts.{zarith, zify}
 use Rattle.model.specs.Box.{Inside, NonEmpty, at, boxOf, emptyBox, isEmpty, lower, upper}
-use Rattle.model.specs.Limits.{maxBound, minBound}
+use Rattle.model.specs.Limits.{maxBound, maxWidth, minBound}
 use Rattle.model.specs.Valid.{Between, ValidBox}
-use Rattle.model.proofs.BoxLaws.{at-boxOf, box-ext, isEmpty-empty, length-boxOf, lower-boxOf, nonEmpty-boxOf, upper-boxOf, ≤ℤ-trans}
+use Rattle.model.proofs.BoxLaws.{at-boxOf, box-ext, isEmpty-empty, length-boxOf, lower-boxOf, upper-boxOf, ≤ℤ-trans}
+use Rattle.model.proofs.CheckLaws.{narrow-past}
 use Rattle.row.specs.Activity.{minActivity}
 use Rattle.row.specs.Propagation.{impliedBox, newLower, newUpper, staysAt}
 use Rattle.row.proofs.BoundLaws.{eq→stays, stays→eq, lower-le-newLower, minTerm-new, newLower-le-newUpper, newUpper-le-upper}
@@ -64,33 +65,40 @@ module _ (n : ℕ) (A : List ℤ) (b L : ℤ) (B : List ℤ) where
 between : {z : ℤ} → minBound ≤ℤ z → z ≤ℤ maxBound → Between minBound maxBound z
 between l h = record { above = l; below = h }
 
-valid-boxOf : (n : ℕ) (f g : ℕ → ℤ) → ((j : ℕ) → j < n → Between minBound maxBound (f j)) → ((j : ℕ) → j < n → Between minBound maxBound (g j))
-    → (boxOf n f g ≡ emptyBox n) ⊎ NonEmpty n (boxOf n f g) → ValidBox n (boxOf n f g)
-valid-boxOf n f g l h s = record {
-  len = length-boxOf n f g;
-  range = at-boxOf (Between minBound maxBound) n f g (between (omega zarith) (omega zarith)) l h;
+-- a box whose bounds are in range and whose variables are no wider than 4,096 is valid
+valid-bounds : {n : ℕ} {B : List ℤ} → length B ≡ 2 * n → (B ≡ emptyBox n) ⊎ NonEmpty n B
+    → ((j : ℕ) → j < n → Between minBound maxBound (lower B j)) → ((j : ℕ) → j < n → Between minBound maxBound (upper B j))
+    → ((j : ℕ) → j < n → (upper B j -ℤ lower B j) ≤ℤ maxWidth) → ValidBox n B
+valid-bounds {n} {B} e s l u w = record {
+  len = e;
+  range = subst (λ (P : List ℤ). (i : ℕ) → Between minBound maxBound (at P i)) eta
+      (at-boxOf (Between minBound maxBound) n (λ j. lower B j) (λ j. upper B j) (between (omega zarith) (omega zarith)) l u);
   shape = s;
+  narrow = narrow-past n B e w;
 }
+  where
+    eta : boxOf n (λ j. lower B j) (λ j. upper B j) ≡ B
+    eta = box-ext n _ B (length-boxOf n _ _) e (λ j k. lower-boxOf n _ _ j k) (λ j k. upper-boxOf n _ _ j k)
 
 pub valid-empty : (n : ℕ) → ValidBox n (emptyBox n)
 unfolding emptyBox
-valid-empty n = valid-boxOf n _ _ (λ j k. between (omega zarith) (omega zarith)) (λ j k. between (omega zarith) (omega zarith)) (inl refl)
+valid-empty n = valid-bounds (length-boxOf n _ _) (inl refl)
+    (λ j k. rw (lower-boxOf n _ _ j k) (between (omega zarith) (omega zarith)))
+    (λ j k. rw (upper-boxOf n _ _ j k) (between (omega zarith) (omega zarith)))
+    (λ j k. rw (lower-boxOf n _ _ j k, upper-boxOf n _ _ j k) (omega zarith))
+
+-- a box that is not empty and lies inside a valid one is valid: no bound leaves its range, and no variable gets wider
+pub valid-inside : {n : ℕ} {P B : List ℤ} → ValidBox n B → NonEmpty n P → Inside n P B → ValidBox n P
+valid-inside {n} {P} {B} v p i = valid-bounds (p .len) (inr p)
+    (λ j k. between (≤ℤ-trans (v .range _ .above) (i .low j k)) (≤ℤ-trans (p .order j k) (≤ℤ-trans (i .high j k) (v .range _ .below))))
+    (λ j k. between (≤ℤ-trans (v .range _ .above) (≤ℤ-trans (i .low j k) (p .order j k))) (≤ℤ-trans (i .high j k) (v .range _ .below)))
+    (λ j k. ≤ℤ-trans (narrower (i .low j k) (i .high j k)) (v .narrow j))
+  where
+    narrower : {l u l′ u′ : ℤ} → l ≤ℤ l′ → u′ ≤ℤ u → (u′ -ℤ l′) ≤ℤ (u -ℤ l)
+    narrower {l} {u} {l′} {u′} h k = simp zify (omega zarith)
 
 pub valid-implied : (n : ℕ) (A : List ℤ) (b L : ℤ) (B : List ℤ) → L ≤ℤ b → ValidBox n B → NonEmpty n B → ValidBox n (impliedBox n A b L B)
-unfolding impliedBox
-valid-implied n A b L B f v p = valid-boxOf n _ _
-    (λ j k. between (≤ℤ-trans (v .range _ .above) (low j)) (≤ℤ-trans (order j k) (≤ℤ-trans (high j) (v .range _ .below))))
-    (λ j k. between (≤ℤ-trans (v .range _ .above) (≤ℤ-trans (low j) (order j k))) (≤ℤ-trans (high j) (v .range _ .below)))
-    (inr (implied-nonEmpty n A b L B f p))
-  where
-    low : (j : ℕ) → lower B j ≤ℤ newLower (at A j) b L (lower B j) (upper B j)
-    low j = lower-le-newLower _ _ _ _ _
-
-    high : (j : ℕ) → newUpper (at A j) b L (lower B j) (upper B j) ≤ℤ upper B j
-    high j = newUpper-le-upper _ _ _ _ _
-
-    order : (j : ℕ) → j < n → newLower (at A j) b L (lower B j) (upper B j) ≤ℤ newUpper (at A j) b L (lower B j) (upper B j)
-    order j k = newLower-le-newUpper (at A j) b L (lower B j) (upper B j) f (p .order j k)
+valid-implied n A b L B f v p = valid-inside v (implied-nonEmpty n A b L B f p) (implied-inside n A b L B)
 
 pub valid-nonEmpty : {n : ℕ} {B : List ℤ} → ValidBox n B → T (not (isEmpty n B)) → NonEmpty n B
 valid-nonEmpty {n} {B} v t = cases (v .shape)
@@ -98,13 +106,3 @@ valid-nonEmpty {n} {B} v t = cases (v .shape)
     cases : (B ≡ emptyBox n) ⊎ NonEmpty n B → NonEmpty n B
     cases (inl e) = absurd (T-not (isEmpty n B) t (rw e (isEmpty-empty n)))
     cases (inr p) = p
-
--- a box that is not empty and lies inside a valid one is valid
-pub valid-inside : {n : ℕ} {P B : List ℤ} → ValidBox n B → NonEmpty n P → Inside n P B → ValidBox n P
-valid-inside {n} {P} {B} v p i = subst (ValidBox n) eta (valid-boxOf n (λ j. lower P j) (λ j. upper P j)
-    (λ j k. between (≤ℤ-trans (v .range _ .above) (i .low j k)) (≤ℤ-trans (p .order j k) (≤ℤ-trans (i .high j k) (v .range _ .below))))
-    (λ j k. between (≤ℤ-trans (v .range _ .above) (≤ℤ-trans (i .low j k) (p .order j k))) (≤ℤ-trans (i .high j k) (v .range _ .below)))
-    (inr (nonEmpty-boxOf n _ _ (p .order))))
-  where
-    eta : boxOf n (λ j. lower P j) (λ j. upper P j) ≡ P
-    eta = box-ext n _ P (length-boxOf n _ _) (p .len) (λ j k. lower-boxOf n _ _ j k) (λ j k. upper-boxOf n _ _ j k)

@@ -4,7 +4,7 @@ use borrow.Author.Needs.{needs}
 use mathlib.Core.List.{List, _++_}
 use mathlib.Core.Path.{_≡_, refl}
 use Rattle.integer.proofs.Tests.{told-false, told-true}
-use Rattle.model.specs.Checks.{Check, first, lengthChecks, modelChecks, modelFault, numberChecks, sizeChecks, tableByteChecks, tableLengthChecks}
+use Rattle.model.specs.Checks.{Check, boxChecks, first, lengthChecks, modelChecks, modelFault, numberChecks, sizeChecks, tableByteChecks, tableLengthChecks}
 use Rattle.model.specs.Model.{modelOf}
 use Rattle.model.proofs.CheckLaws.{fails, goes, past, stops}
 use Rattle.model.proofs.model_fault.Statement.{statement}
@@ -50,7 +50,7 @@ number-fault-requires : tie.Need-number-fault-requires
 number-fault-requires c κs = search needs
 
 returns-4 : tie.Need-returns-4
-unfolding modelFault modelChecks tableLengthChecks numberChecks tableByteChecks
+unfolding modelFault modelChecks tableLengthChecks boxChecks numberChecks tableByteChecks
 returns-4 c = past-2 (c .before .before) _ (past _ 5 _ (told-true _ refl (c .before .if3 .left)) (c .number-fault .ensures))
 
 pub model-fault-spec : {M : Type 1} → statement M

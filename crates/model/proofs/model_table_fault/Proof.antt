@@ -9,7 +9,7 @@ use mathlib.Core.Logic.{⊎-elim}
 use mathlib.Core.Path.{_∙_, _≡_, ap, sym}
 use Prim.Native.Nat.{_*_, ℕ}
 use Rattle.integer.proofs.Tests.{told-false, told-true}
-use Rattle.model.specs.Checks.{Check, first, lengthChecks, modelChecks, modelFault, none, numberChecks, sizeChecks, table, tableByteChecks, tableLengthChecks}
+use Rattle.model.specs.Checks.{Check, boxChecks, first, lengthChecks, modelChecks, modelFault, none, numberChecks, sizeChecks, table, tableByteChecks, tableLengthChecks}
 use Rattle.model.specs.Model.{Model, modelOf}
 use Rattle.model.proofs.CheckLaws.{ends, fails, goes, past, stops, table-chain}
 use Rattle.model.proofs.model_table_fault.Statement.{statement}
@@ -48,7 +48,7 @@ is-bits-requires c κs = search needs
 -- past the chain, what check 10 answers is the answer
 past-chain : (c : tie.Else2) {r : ℕ} → let s = c .before .before .before .before .before in
     r ≡ first (tableByteChecks (table (s .args .table .now))) → r ≡ modelFault (lent s) (table (s .args .table .now)) (s .args .fits)
-unfolding modelChecks sizeChecks lengthChecks tableLengthChecks numberChecks tableByteChecks
+unfolding modelChecks sizeChecks lengthChecks tableLengthChecks boxChecks numberChecks tableByteChecks
 past-chain c h = goes (chain (c .before .before .before .before .before)) _ tt (told (c .before)) (c .if2 .left) h ∙ sym (table-chain _ _ _)
 
 returns-2 : tie.Need-returns-2

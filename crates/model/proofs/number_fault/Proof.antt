@@ -1,54 +1,45 @@
--- `model::number_fault`: what each call says is the test of its check, and the checks are passed in their order.
--- Assumes nothing.
+-- `model::number_fault`: the box's checks answer first, then what each call says is the test of its check. Assumes nothing.
+use Prim.Native.Nat.{ℕ}
 use borrow.Author.Needs.{needs}
-use mathlib.Core.Bool.{_||_, true}
-use mathlib.Core.Logic.{⊎-elim}
+use mathlib.Core.Bool.{true}
+use mathlib.Core.List.{List, _++_}
 use mathlib.Core.Path.{_≡_}
-use Rattle.integer.proofs.Tests.{T→true, or-inr, told-false, told-true, true→T}
-use Rattle.model.specs.Box.{isEmpty}
-use Rattle.model.specs.Checks.{inRange, numberChecks, ordered}
-use Rattle.model.specs.Limits.{maxBound, maxCoef, minBound, minCoef}
-use Rattle.model.proofs.CheckLaws.{ends, fails, past}
+use Rattle.integer.proofs.Tests.{told-false, told-true}
+use Rattle.model.specs.Checks.{Check, boxChecks, first, inRange, numberChecks}
+use Rattle.model.specs.Limits.{maxCoef, minCoef}
+use Rattle.model.proofs.CheckLaws.{ends, fails, goes, past, stops}
 use Rattle.model.proofs.number_fault.Statement.{statement}
 use Rattle.model.proofs.number_fault.Tie as tie
+
+box-fault-requires : tie.Need-box-fault-requires
+box-fault-requires c κs = search needs
+
+returns : tie.Need-returns
+unfolding numberChecks
+returns c = stops _ _ (c .before .box-fault .ensures) (c .if1 .taken)
+
+-- past the box's checks, what the later ones answer is the answer
+past-box : (c : tie.Else1) {r : ℕ} (ys : List Check) → r ≡ first ys
+    → let a = c .before .before .args in r ≡ first (boxChecks (a .n) (a .bounds .now) ++ ys)
+unfolding boxChecks
+past-box c ys h = let a = c .before .before .args in goes (boxChecks (a .n) (a .bounds .now)) ys tt (c .before .box-fault .ensures) (c .if1 .left) h
+
+sub-in-range : tie.Need-sub-in-range
+sub-in-range c = search needs
 
 in-range-requires : tie.Need-in-range-requires
 in-range-requires c κs = search needs
 
-returns : tie.Need-returns
-unfolding numberChecks
-returns c = fails _ 6 _ (told-false _ (c .before .in-range .ensures) (c .if1 .taken))
-
--- check 6 is passed
-in-bounds : (c : tie.Else1) → inRange minBound maxBound (c .before .before .args .bounds .now) ≡ true
-in-bounds c = told-true _ (c .before .in-range .ensures) (c .if1 .left)
-
-is-ordered-requires : tie.Need-is-ordered-requires
-is-ordered-requires c κs = search needs
-
-is-empty-box-requires : tie.Need-is-empty-box-requires
-is-empty-box-requires c κs = search needs
-
 returns-2 : tie.Need-returns-2
 unfolding numberChecks
-returns-2 c =
-    let o = told-false _ (c .before .before .before .is-ordered .ensures) (c .before .before .if2 .taken) in
-    let e = told-false _ (c .before .is-empty-box .ensures) (c .if3 .taken) in
-    past _ 6 _ (in-bounds (c .before .before .before .before)) (fails _ 7 _ (rw (e, o)))
+returns-2 c = past-box (c .before .before) _ (fails _ 8 _ (told-false _ (c .before .in-range .ensures) (c .if2 .taken)))
 
--- and check 7, by either test
-shaped : (c : tie.Joined2)
-    → let a = c .before .before .before .before .args in (isEmpty (a .n) (a .bounds .now) || ordered (a .bounds .now)) ≡ true
-shaped c =
-    let a = c .before .before .before .before .args in
-    let B = a .bounds .now in
-    ⊎-elim
-    (λ w. rw (told-true _ (w .1 .ensures) (w .2 .left)))
-    (λ w. T→true _ (or-inr (isEmpty (a .n) B) (ordered B) (true→T (ordered B) (told-true _ (c .before .is-ordered .ensures) (w .left)))))
-    (c .if2 .came)
+-- check 8 is passed
+coefs-in : (c : tie.Else2) → inRange minCoef maxCoef (c .before .before .before .before .args .coefs .now) ≡ true
+coefs-in c = told-true _ (c .before .in-range .ensures) (c .if2 .left)
 
-sub-in-range : tie.Need-sub-in-range
-sub-in-range c = search needs
+sub-in-range-2 : tie.Need-sub-in-range-2
+sub-in-range-2 c = search needs
 
 in-range-requires-2 : tie.Need-in-range-requires-2
 in-range-requires-2 c κs = search needs
@@ -56,46 +47,25 @@ in-range-requires-2 c κs = search needs
 returns-3 : tie.Need-returns-3
 unfolding numberChecks
 returns-3 c =
-    past _ 6 _ (in-bounds (c .before .before .before .before)) (past _ 7 _ (shaped (c .before .before))
-    (fails _ 8 _ (told-false _ (c .before .in-range2 .ensures) (c .if4 .taken))))
-
--- and check 8
-coefs-in : (c : tie.Else4) → inRange minCoef maxCoef (c .before .before .before .before .before .before .args .coefs .now) ≡ true
-coefs-in c = told-true _ (c .before .in-range2 .ensures) (c .if4 .left)
-
-sub-in-range-2 : tie.Need-sub-in-range-2
-sub-in-range-2 c = search needs
-
-in-range-requires-3 : tie.Need-in-range-requires-3
-in-range-requires-3 c κs = search needs
+    let d = c .before .before in
+    past-box (d .before .before) _ (past _ 8 _ (coefs-in d) (fails _ 9 _ (told-false _ (c .before .in-range2 .ensures) (c .if3 .taken))))
 
 returns-4 : tie.Need-returns-4
 unfolding numberChecks
 returns-4 c =
     let d = c .before .before in
-    past _ 6 _ (in-bounds (d .before .before .before .before)) (past _ 7 _ (shaped (d .before .before)) (past _ 8 _ (coefs-in d)
-    (fails _ 9 _ (told-false _ (c .before .in-range3 .ensures) (c .if5 .taken)))))
-
-returns-5 : tie.Need-returns-5
-unfolding numberChecks
-returns-5 c =
-    let d = c .before .before in
-    past _ 6 _ (in-bounds (d .before .before .before .before)) (past _ 7 _ (shaped (d .before .before)) (past _ 8 _ (coefs-in d)
-    (past _ 9 _ (told-true _ (c .before .in-range3 .ensures) (c .if5 .left)) ends)))
+    past-box (d .before .before) _ (past _ 8 _ (coefs-in d) (past _ 9 _ (told-true _ (c .before .in-range2 .ensures) (c .if3 .left)) ends))
 
 pub number-fault-spec : {M : Type 1} → statement M
 number-fault-spec =
     tie.close
     (tie.spec
-    in-range-requires
+    box-fault-requires
     returns
-    is-ordered-requires
-    is-empty-box-requires
-    returns-2
     sub-in-range
+    in-range-requires
+    returns-2
+    sub-in-range-2
     in-range-requires-2
     returns-3
-    sub-in-range-2
-    in-range-requires-3
-    returns-4
-    returns-5)
+    returns-4)
