@@ -1,6 +1,6 @@
 -- The calls of the C interface: what each returns, and every lent buffer afterwards. Each is the open call of its name behind one
 -- check more, the length of the answer buffer A. "A wrong answer length is check 5, with the other lengths": so what comes before 5
--- still comes first, and nothing else is done. Words in quotation marks are issue 9's (8 of 8), which fixed this interface.
+-- still comes first, and nothing else is done. Words in quotation marks are D-28's (docs/DECISIONS.md).
 use Prim.Native.Nat.{ℕ}
 use lib.Dec.{eqb, leb}
 use lib.IntN.{ℤ}
@@ -20,7 +20,7 @@ use Rattle.semantics.specs.Call.{callOf}
 use Rattle.capi.specs.Replies.{bookReply, callReply, listReply, restReply, returned, roundsReply, written}
 use Rattle.capi.specs.declared.reply.Reply.{Reply}
 
--- the answer buffer "must be exactly 6 long (else refused by 5, nothing written)"
+-- "The buffer must be exactly 6 long (else refused by 5, nothing written)"
 abbrev pub answerLength : ℕ
 answerLength = 6
 
@@ -39,7 +39,7 @@ pub record Exported : Type 0 where
 unfoldable pub exported : ℕ → List ℕ → State → Exported
 exported number A s = record { returned = number; answer = A; state = s }
 
--- a call on the state s that replies q and leaves r; "3 comes first"
+-- a call on the state s that replies q and leaves r; "on a model 3 comes first"
 unfoldable pub answered : List ℕ → State → Reply → State → Exported
 answered A s q r =
     cond (eqb (length A) answerLength) (exported (returned q) (written q A) r) (exported (wrongLength (sizeChecks (s .model .n) (s .model .m))) A s)
@@ -74,11 +74,11 @@ unfoldable pub bookAnswered : List ℕ → List Check → Reply → BookExported
 bookAnswered A before q =
     cond (eqb (length A) answerLength) (bookExported (returned q) (written q A)) (bookExported (wrongLength before) A)
 
--- "in `book_trailer` after 1 and before 3"
+-- "in `astrolabe_book_trailer` it comes after 1 and before 3"
 unfoldable pub trailerExport : List ℕ → List ℕ → BookExported
 trailerExport A bytes = bookAnswered A (must (leb 16 (length bytes)) 1 ∷ []) (bookReply (trailerCall bytes))
 
--- "in `book_read` after 1 to 4"
+-- "in `astrolabe_book_read` after 1 to 4"
 unfoldable pub readExport : List ℕ → List ℕ → List ℤ → List ℤ → List ℤ → BookExported
 readExport A book B C R = bookAnswered A (headChecks book) (bookReply (readCall book B C R))
 

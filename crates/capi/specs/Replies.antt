@@ -1,6 +1,6 @@
 -- What a call of the C interface says: the number that it returns and the six numbers of its answer, for each answer of the calls
 -- behind it. A reply is `Refused` with the number of the failed check, or `Numbers` with the six.
--- Words in quotation marks are issue 9's (8 of 8), which fixed this interface.
+-- Words in quotation marks are D-28's (docs/DECISIONS.md).
 use Prim.Native.Nat.{ℕ}
 use mathlib.Core.Bool.{Bool, cond}
 use mathlib.Core.List.{List, [], _∷_}
@@ -20,7 +20,7 @@ unfoldable pub returned : Reply → ℕ
 returned (Refused number) = number
 returned (Numbers a b c d e f) = 0
 
--- "and writes its answer into `answer`"; "On a refusal no lent number changes, the answer's among them."
+-- "and writes its answer into the answer buffer"; "On a refusal no lent number changes, the answer's among them."
 unfoldable pub written : Reply → List ℕ → List ℕ
 written (Refused number) A = A
 written (Numbers a b c d e f) A = a ∷ b ∷ c ∷ d ∷ e ∷ f ∷ []

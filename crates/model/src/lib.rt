@@ -13,7 +13,7 @@ ghost use Prim.Native.Nat.{_*_};
 ghost use lib.Dec.{eqb};
 ghost use Rattle.model.specs.Box.{isEmpty};
 ghost use Rattle.model.specs.Checks.{first, inRange, ordered, narrow, bits, none, table as lent, sizeChecks};
-ghost use Rattle.model.specs.Checks.{lengthChecks, tableLengthChecks, boxChecks, numberChecks, modelFault};
+ghost use Rattle.model.specs.Checks.{lengthChecks, boxChecks, numberChecks, modelFault};
 ghost use Rattle.model.specs.Limits.{maxBound, minBound};
 ghost use Rattle.model.specs.Model.{modelOf};
 ghost use Rattle.model.specs.Rows.{rowsOf};
@@ -92,16 +92,6 @@ fn is_table_length(n: usize, len: usize) -> bool
         return false;
     }
     is_product(len / 4, n, n)
-}
-
-// Check 5 for a table of 4n² bytes. // until the crates above use model_fault
-pub fn table_length_fault(n: usize, table: &[u8]) -> u32
-    ensures { λ r. ⌜ r ≡ first (tableLengthChecks n (lent (now (table .entry)))) ⌝ }
-{
-    if !is_table_length(n, table.len()) {
-        return 5;
-    }
-    0
 }
 
 // Whether every number of xs lies between low and high (checks 6, 8 and 9).

@@ -24,7 +24,7 @@ use Rattle.book.specs.Book.{bookLength, boundsOf, coefsOf, decode, modelIn, rhs
 use Rattle.book.specs.BookChecks.{bookChecks, bookFault, givenLengthChecks, headChecks, layoutChecks, offsetChecks}
 use Rattle.book.specs.Bytes.{integerAt, integersAt, numberAt, numberOf, signedOf}
 use Rattle.book.specs.Pieces.{joined}
-use Rattle.rounds.specs.Rounds.{after, andThen, anyChange, dropCall, drops, isChange, probeCall, probes, round, roundsFault, roundsFrom, runRounds, settleCall, sharpenCall, sharpenRow, sharpens, unlessEmpty, upwards}
+use Rattle.rounds.specs.Rounds.{after, andThen, anyChange, isChange, probeCall, probes, propagateCall, removals, removeCall, round, roundsFault, roundsFrom, runRounds, tightenCall, tightenRow, tightenings, unlessEmpty, upwards}
 use Rattle.report.specs.Report.{byteLine, field, fields, implicationAt, implicationLine, isZeroRow, noneLine, reducedLine, refusedLine, report, rowAt, rowLine, variableAt, variableLine}
 use Rattle.report.specs.Decimal.{decimal, digits, signed}
 use Rattle.report.specs.Text.{texts}
@@ -50,5 +50,5 @@ example-output : output book ≡
     ∷ 105 ∷ 32 ∷ 48 ∷ 32 ∷ 49 ∷ 32 ∷ 49 ∷ 32 ∷ 48 ∷ 10
     ∷ 105 ∷ 32 ∷ 49 ∷ 32 ∷ 49 ∷ 32 ∷ 48 ∷ 32 ∷ 48 ∷ 10
     ∷ []
-unfolding book output roundsText stateRead textOf zeros floorDiv ceilDiv sum all minZ maxZ eqZ boxOf sameList emptyBox isEmpty isFree first inRange ordered bits sizeChecks lengthChecks tableLengthChecks numberChecks tableByteChecks modelChecks modelFault rowOf minTerm maxTerm minActivity maxActivity isInfeasible isChanged newUpper newLower impliedBox stays propagateRow zeroRow removeRedundantRow tightenAt tightenCoefficient lentTable givenModel isLent recordChecks callChecks callFault act perform fix hull literal byteOf put implies isFixed recordSide recordTo sideOf joinSides probe passRow passTo propagateFrom propagate isNone isSpent step run probeInfeasible answersNone isRefused sameBytes sameState classOf lengthsOf kindOf hasRow hasVariable hasBudget hasTable isUnknown stateOf callOf withBox splice withRow setRow bookLength rowPlace trailerOf boundsOf rhsOf coefsOf modelIn decode offsetChecks layoutChecks givenLengthChecks headChecks bookChecks bookFault numberOf signedOf numberAt integerAt integersAt joined andThen upwards unlessEmpty settleCall dropCall sharpenCall probeCall drops sharpenRow sharpens probes round isChange anyChange after roundsFrom roundsFault runRounds field fields refusedLine noneLine reducedLine variableLine rowLine implicationLine variableAt isZeroRow rowAt byteLine implicationAt report digits decimal signed texts
+unfolding book output roundsText stateRead textOf zeros floorDiv ceilDiv sum all minZ maxZ eqZ boxOf sameList emptyBox isEmpty isFree first inRange ordered bits sizeChecks lengthChecks tableLengthChecks numberChecks tableByteChecks modelChecks modelFault rowOf minTerm maxTerm minActivity maxActivity isInfeasible isChanged newUpper newLower impliedBox stays propagateRow zeroRow removeRedundantRow tightenAt tightenCoefficient lentTable givenModel isLent recordChecks callChecks callFault act perform fix hull literal byteOf put implies isFixed recordSide recordTo sideOf joinSides probe passRow passTo propagateFrom propagate isNone isSpent step run probeInfeasible answersNone isRefused sameBytes sameState classOf lengthsOf kindOf hasRow hasVariable hasBudget hasTable isUnknown stateOf callOf withBox splice withRow setRow bookLength rowPlace trailerOf boundsOf rhsOf coefsOf modelIn decode offsetChecks layoutChecks givenLengthChecks headChecks bookChecks bookFault numberOf signedOf numberAt integerAt integersAt joined andThen upwards unlessEmpty propagateCall removeCall tightenCall probeCall removals tightenRow tightenings probes round isChange anyChange after roundsFrom roundsFault runRounds field fields refusedLine noneLine reducedLine variableLine rowLine implicationLine variableAt isZeroRow rowAt byteLine implicationAt report digits decimal signed texts
 example-output = refl

@@ -33,7 +33,7 @@ use Rattle.semantics.proofs.CallLaws.{step-ind}
 use Rattle.semantics.proofs.Demand2.{no-point}
 use Rattle.semantics.proofs.ImplicationLaws.{zeros-hold}
 use Rattle.semantics.proofs.Preserved.{Preserves, run-preserves}
-use Rattle.rounds.specs.Rounds.{Rounds, RoundsAnswer, RoundsEnding, RoundsRun, SamePoints, after, andThen, anyChange, atLimit, dropCall, drops, ended, infeasible, isChange, nothingChanged, probes, refusedRounds, round, roundsFault, roundsFrom, runRounds, settleCall, sharpens, unlessEmpty, upwards, sharpenCall}
+use Rattle.rounds.specs.Rounds.{Rounds, RoundsAnswer, RoundsEnding, RoundsRun, SamePoints, after, andThen, anyChange, atLimit, ended, infeasible, isChange, nothingChanged, probes, propagateCall, refusedRounds, removals, removeCall, round, roundsFault, roundsFrom, runRounds, tightenCall, tightenings, unlessEmpty, upwards}
 use Rattle.semantics.proofs.ClassLaws.{classBy, tighten-class}
 use Rattle.semantics.proofs.RowChange.{row-valid, withRow-same}
 use Rattle.model.proofs.RowsLaws.{at-rowOf}
@@ -180,8 +180,8 @@ module _ (s : State) (r k : ℕ) where
 
   -- so the turn of a variable that is not free, or whose coefficient fails the test, is made by doing nothing
   pub quiet-turn : {most : ℤ} → k < s .model .n → most ≡ maxActivity (s .model .n) row (s .model .box)
-      → (isFree (s .model .box) k && mayTighten (at (s .model .rows .coefs) (r * s .model .n + k)) most (at (s .model .rows .rhs) r)) ≡ false → Leads s (sharpenCall r k s) s false
-  unfolding sharpenCall
+      → (isFree (s .model .box) k && mayTighten (at (s .model .rows .coefs) (r * s .model .n + k)) most (at (s .model .rows .rhs) r)) ≡ false → Leads s (tightenCall r k s) s false
+  unfolding tightenCall
   quiet-turn {most} h e z = go (isFree (s .model .box) k) z
     where
       go : (free : Bool) → (free && mayTighten (at (s .model .rows .coefs) (r * s .model .n + k)) most (at (s .model .rows .rhs) r)) ≡ false → Leads s (cond free (callOf s 4 r k 0 ∷ []) []) s false
@@ -205,31 +205,31 @@ module _ {s : State} (v : ValidState s) {r : ℕ} (h : r < s .model .m) where
 
 -- ---- the phases of a round
 
--- a drop leaves the box
-drop-box : (s : State) (r : ℕ) → step s (callOf s 5 r 0 0) .model .box ≡ s .model .box
+-- the removal of a row leaves the box
+remove-box : (s : State) (r : ℕ) → step s (callOf s 5 r 0 0) .model .box ≡ s .model .box
 unfolding act callOf kindOf withRow setRow
-drop-box s r = step-ind s (callOf s 5 r 0 0) (λ u. u .model .box ≡ s .model .box) (λ _. refl) refl
+remove-box s r = step-ind s (callOf s 5 r 0 0) (λ u. u .model .box ≡ s .model .box) (λ _. refl) refl
 
--- so the box of a loop over drops stays one that is not empty
-pub drop-turn : {count r : ℕ} {s t u : State} {k : CallClass} {b d e : Bool}
-    → Turns count dropCall s t b r → isEmpty (t .model .n) (t .model .box) ≡ false → r < count
+-- so the box of a loop over removals stays one that is not empty
+pub remove-turn : {count r : ℕ} {s t u : State} {k : CallClass} {b d e : Bool}
+    → Turns count removeCall s t b r → isEmpty (t .model .n) (t .model .box) ≡ false → r < count
     → (k ≡ classOf t (callOf t 5 r 0 0)) × (u ≡ step t (callOf t 5 r 0 0)) → d ≡ isChange k → e ≡ (b || d)
-    → Turns count dropCall s u e (r + 1) × (isEmpty (t .model .n) (u .model .box) ≡ false)
-unfolding dropCall unlessEmpty
-drop-turn {count} {r} {t = t} w z h o g k = (
-  turn count dropCall w h (rw z (one-call (callOf t 5 r 0 0) o g)) k,
-  ap (λ (B : List ℤ). isEmpty (t .model .n) B) (ap (λ (x : State). x .model .box) (o .1) ∙ drop-box t r) ∙ z,
+    → Turns count removeCall s u e (r + 1) × (isEmpty (t .model .n) (u .model .box) ≡ false)
+unfolding removeCall unlessEmpty
+remove-turn {count} {r} {t = t} w z h o g k = (
+  turn count removeCall w h (rw z (one-call (callOf t 5 r 0 0) o g)) k,
+  ap (λ (B : List ℤ). isEmpty (t .model .n) B) (ap (λ (x : State). x .model .box) (o .1) ∙ remove-box t r) ∙ z,
 )
 
--- "at None" no row is dropped
+-- "at None" no row is removed
 no-calls : (count : ℕ) (f : ℕ → State → List Call) (s : State) → ((i : ℕ) → f i s ≡ []) → upwards count f s ≡ []
 unfolding upwards andThen run
 no-calls zero f s h = refl
 no-calls (suc count) f s h = rw (no-calls count f s h) (h count)
 
-pub no-drops : (s : State) → isEmpty (s .model .n) (s .model .box) ≡ true → Leads s (drops s) s false
-unfolding drops dropCall unlessEmpty
-no-drops s e = rw (no-calls (s .model .m) dropCall s (λ r. rw e)) (no-call s)
+pub no-removals : (s : State) → isEmpty (s .model .n) (s .model .box) ≡ true → Leads s (removals s) s false
+unfolding removals removeCall unlessEmpty
+no-removals s e = rw (no-calls (s .model .m) removeCall s (λ r. rw e)) (no-call s)
 
 then-assoc : (f g h : State → List Call) (s : State) → andThen (andThen f g) h s ≡ andThen f (andThen g h) s
 unfolding andThen
@@ -238,9 +238,9 @@ then-assoc f g h s =
     append-assoc (f s) (g t) (h (run s (f s ++ g t))) ∙ ap (λ (r : State). f s ++ (g t ++ h r)) (run-append s (f s) (g t))
 
 -- a round, one phase after another
-pub in-order : (s : State) → andThen (andThen (andThen settleCall drops) sharpens) probes s ≡ round s
+pub in-order : (s : State) → andThen (andThen (andThen propagateCall removals) tightenings) probes s ≡ round s
 unfolding round
-in-order s = then-assoc (andThen settleCall drops) sharpens probes s ∙ then-assoc settleCall drops (andThen sharpens probes) s
+in-order s = then-assoc (andThen propagateCall removals) tightenings probes s ∙ then-assoc propagateCall removals (andThen tightenings probes) s
 
 -- ---- rounds
 

@@ -31,33 +31,35 @@ upwards (suc count) f s = andThen (upwards count f) (f count) s
 unfoldable pub unlessEmpty : (State → List Call) → State → List Call
 unlessEmpty f s = cond (isEmpty (s .model .n) (s .model .box)) [] (f s)
 
-unfoldable pub settleCall : State → List Call
-settleCall s = callOf s 2 0 0 1000 ∷ []
+-- 01's settle, with 1,000 passes
+unfoldable pub propagateCall : State → List Call
+propagateCall s = callOf s 2 0 0 1000 ∷ []
 
-unfoldable pub dropCall : ℕ → State → List Call
-dropCall r = unlessEmpty (λ s. callOf s 5 r 0 0 ∷ [])
+-- 01's drop of row r
+unfoldable pub removeCall : ℕ → State → List Call
+removeCall r = unlessEmpty (λ s. callOf s 5 r 0 0 ∷ [])
 
--- "at each variable free then": free when its own turn comes
-unfoldable pub sharpenCall : ℕ → ℕ → State → List Call
-sharpenCall r k s = cond (isFree (s .model .box) k) (callOf s 4 r k 0 ∷ []) []
+-- 01's sharpen of row r "at each variable free then": free when its own turn comes
+unfoldable pub tightenCall : ℕ → ℕ → State → List Call
+tightenCall r k s = cond (isFree (s .model .box) k) (callOf s 4 r k 0 ∷ []) []
 
 unfoldable pub probeCall : ℕ → State → List Call
 probeCall k s = cond (isFree (s .model .box) k) (callOf s 3 0 k 1000 ∷ []) []
 
-unfoldable pub drops : State → List Call
-drops s = upwards (s .model .m) dropCall s
+unfoldable pub removals : State → List Call
+removals s = upwards (s .model .m) removeCall s
 
-unfoldable pub sharpenRow : ℕ → State → List Call
-sharpenRow r s = upwards (s .model .n) (sharpenCall r) s
+unfoldable pub tightenRow : ℕ → State → List Call
+tightenRow r s = upwards (s .model .n) (tightenCall r) s
 
-unfoldable pub sharpens : State → List Call
-sharpens s = upwards (s .model .m) sharpenRow s
+unfoldable pub tightenings : State → List Call
+tightenings s = upwards (s .model .m) tightenRow s
 
 unfoldable pub probes : State → List Call
 probes s = upwards (s .model .n) probeCall s
 
 unfoldable pub round : State → List Call
-round s = andThen settleCall (andThen drops (andThen sharpens probes)) s
+round s = andThen propagateCall (andThen removals (andThen tightenings probes)) s
 
 -- ---- rounds
 

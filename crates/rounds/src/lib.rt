@@ -24,8 +24,8 @@ ghost use Rattle.step.specs.Classes.{classIs};
 ghost use Rattle.model.specs.State.{stateOf};
 ghost use Rattle.rounds.specs.Answers.{roundsAnswer};
 ghost use Rattle.rounds.specs.TightenedAt.{TightenedAt};
-ghost use Rattle.rounds.specs.Rounds.{SamePoints, anyChange, drops, isChange, probes, round as roundOf};
-ghost use Rattle.rounds.specs.Rounds.{runRounds, sharpenRow, sharpens};
+ghost use Rattle.rounds.specs.Rounds.{SamePoints, anyChange, isChange, probes, removals, round as roundOf};
+ghost use Rattle.rounds.specs.Rounds.{runRounds, tightenRow, tightenings};
 
 // The passes of a round's propagation, and of each side of its probes.
 const PASSES: u32 = 1_000;
@@ -62,10 +62,10 @@ fn remove_rows(
     ensures left { λ r.
         let s = stateOf n m (now (bounds .entry)) (now (coefs .entry)) (now (rhs .entry)) (now (table .entry)) in
         let r' = stateOf n m (now (bounds .exit)) (now (coefs .exit)) (now (rhs .exit)) (now (table .exit)) in
-        ⌜ r' ≡ ran s (drops s) ⌝ }
+        ⌜ r' ≡ ran s (removals s) ⌝ }
     ensures changed { λ r.
         let s = stateOf n m (now (bounds .entry)) (now (coefs .entry)) (now (rhs .entry)) (now (table .entry)) in
-        ⌜ r ≡ anyChange s (drops s) ⌝ }
+        ⌜ r ≡ anyChange s (removals s) ⌝ }
 {
     if model::is_empty(bounds) {
         return false;
@@ -126,10 +126,10 @@ fn tighten_row(
     ensures left { λ r.
         let s = stateOf n m (now (bounds .entry)) (now (coefs .entry)) (now (rhs .entry)) (now (table .entry)) in
         let r' = stateOf n m (now (bounds .exit)) (now (coefs .exit)) (now (rhs .exit)) (now (table .exit)) in
-        ⌜ r' ≡ ran s (sharpenRow row s) ⌝ }
+        ⌜ r' ≡ ran s (tightenRow row s) ⌝ }
     ensures changed { λ r.
         let s = stateOf n m (now (bounds .entry)) (now (coefs .entry)) (now (rhs .entry)) (now (table .entry)) in
-        ⌜ r ≡ anyChange s (sharpenRow row s) ⌝ }
+        ⌜ r ≡ anyChange s (tightenRow row s) ⌝ }
 {
     let mut most = maximum_activity_at(n, coefs, row as usize, bounds);
     let mut changed = false;
@@ -165,10 +165,10 @@ fn tighten_rows(
     ensures left { λ r.
         let s = stateOf n m (now (bounds .entry)) (now (coefs .entry)) (now (rhs .entry)) (now (table .entry)) in
         let r' = stateOf n m (now (bounds .exit)) (now (coefs .exit)) (now (rhs .exit)) (now (table .exit)) in
-        ⌜ r' ≡ ran s (sharpens s) ⌝ }
+        ⌜ r' ≡ ran s (tightenings s) ⌝ }
     ensures changed { λ r.
         let s = stateOf n m (now (bounds .entry)) (now (coefs .entry)) (now (rhs .entry)) (now (table .entry)) in
-        ⌜ r ≡ anyChange s (sharpens s) ⌝ }
+        ⌜ r ≡ anyChange s (tightenings s) ⌝ }
 {
     let mut changed = false;
     let mut r: u32 = 0;

@@ -1,18 +1,15 @@
--- What the functions of one call share: when two boxes are the same, and what an accepted call's own rule answered and left, as
--- the class and the state that the semantics gives it. Assumes nothing.
-use Prim.Native.Nat.{_<_, ℕ}
+-- What the functions of one call share: what an accepted call's own rule answered and left, as the class and the state that the
+-- semantics gives it. Assumes nothing.
+use Prim.Native.Nat.{ℕ}
 use lib.Dec.{T, eqb}
-use lib.IntN.{pos, ℤ}
-use lib.ListN.{length}
-use lib.Seq.{ext-getD}
+use lib.IntN.{ℤ}
 use mathlib.Core.Bool.{_&&_, not}
 use mathlib.Core.List.{List}
-use mathlib.Core.Logic.{_↔_, ⊎-elim}
+use mathlib.Core.Logic.{⊎-elim}
 use mathlib.Core.Path.{_∙_, _≡_, ap, refl, sym}
 use Rattle.integer.proofs.Tests.{decide, eqb-test, neqb→ne, test-false}
 use Rattle.model.specs.Box.{at, sameList}
 use Rattle.model.specs.Rows.{Rows, rowOf, rowsOf, setRow}
-use Rattle.model.proofs.BoxLaws.{sameList-refl, sameList→eq}
 use Rattle.row.specs.Outcome as outcomes
 use Rattle.row.specs.Outcome.{Outcome, isChanged, isInfeasible}
 use Rattle.row.specs.Propagation.{propagateRow}
@@ -32,12 +29,6 @@ use Rattle.step.specs.Classes.{outcomeClass, propagationClass}
 use Rattle.propagation.specs.Results.{propagationOf}
 use Rattle.propagation.specs.declared.Propagation.{Propagation}
 use Rattle.propagation.specs.declared.Propagation.the-variants.{Infeasible, Converged, BudgetSpent}
-
-pub same-numbers : (xs ys : List ℤ) → length xs ≡ length ys → T (sameList xs ys) ↔ ((i : ℕ) → i < length xs → at xs i ≡ at ys i)
-same-numbers xs ys e = (
-  (λ t i _. ap (λ (z : List ℤ). at z i) (sameList→eq xs ys t)),
-  (λ h. rw (ext-getD (pos 0) xs ys e h) (sameList-refl ys)),
-)
 
 -- ---- the class that an answer names
 

@@ -2,10 +2,11 @@
 // leaves the model valid, so a list or a round of calls checks the model once.
 use model::MAX_ROWS;
 use model::MAX_VARIABLES;
+use model::boxes::copy_box;
+use model::boxes::same_box;
 use probing::sides::Probing;
 use probing::sides::probe_marked;
 use propagation::Propagation;
-use propagation::marks::copy_box;
 use propagation::propagate;
 use row::propagation::RowPropagation;
 use row::redundancy::RowRemoval;
@@ -15,8 +16,6 @@ use row_view::changes::tighten_coefficient_at;
 use row_view::propagate_row_at;
 ghost use mathlib.Core.Path.{_≡_};
 ghost use Prim.Native.Nat.{_+_, _<_, _^_};
-ghost use lib.ListN.{length};
-ghost use Rattle.model.specs.Box.{sameList};
 ghost use Rattle.row.specs.Answers.{propagationOutcome, removalOutcome, tighteningOutcome};
 ghost use Rattle.probing.specs.Marked.{Marked};
 ghost use Rattle.semantics.specs.CallChecks.{callFault};
@@ -89,21 +88,6 @@ fn class_of_propagation(p: Propagation) -> CallClass
             }
         }
     }
-}
-
-// Whether two boxes have the same bounds.
-fn same_box(xs: &[i32], ys: &[i32]) -> bool
-    requires { ⌜ length (now xs) ≡ length (now ys) ⌝ }
-    ensures { λ r. ⌜ r ≡ sameList (now (xs .entry)) (now (ys .entry)) ⌝ }
-{
-    let mut i = 0;
-    while i < xs.len() {
-        if xs[i] != ys[i] {
-            return false;
-        }
-        i += 1;
-    }
-    true
 }
 
 // An accepted probe, by the index of the rows and the marks of the box, which become those of the box that is left.

@@ -1,4 +1,4 @@
--- `rounds::remove_rows`: the invariant says that the rows so far were dropped, and that the box, which a drop leaves, is not empty.
+-- `rounds::remove_rows`: the invariant says that the rows so far had their turn, and that the box, which a removal leaves, is not empty.
 -- Assumes nothing.
 use Prim.Native.Nat.{_-_}
 use mathlib.Core.Bool.{false}
@@ -8,14 +8,14 @@ use native.Mathlib.Omega.{arith}
 use Rattle.model.specs.Box.{isEmpty}
 use Rattle.semantics.specs.Call.{callOf}
 use Rattle.model.specs.State.{stateOf}
-use Rattle.rounds.specs.Rounds.{dropCall, drops}
-use Rattle.rounds.proofs.RoundsLaws.{Turns, all-turns, drop-turn, flag-kept, flag-raised, no-drops, no-turn, turns-lengths, turns-valid}
+use Rattle.rounds.specs.Rounds.{removeCall, removals}
+use Rattle.rounds.proofs.RoundsLaws.{Turns, all-turns, remove-turn, flag-kept, flag-raised, no-removals, no-turn, turns-lengths, turns-valid}
 use Rattle.rounds.proofs.remove_rows.Statement.{statement}
 use Rattle.rounds.proofs.remove_rows.Tie as tie
 
 abbrev Inv-loop : tie.InvT-loop
 Inv-loop n m bounds₀ coefs₀ rhs₀ table₀ changed₀ r₀ bounds coefs rhs table changed r =
-    Turns m dropCall (stateOf n m bounds₀ coefs₀ rhs₀ table₀) (stateOf n m bounds coefs rhs table) changed r × (isEmpty n bounds ≡ false)
+    Turns m removeCall (stateOf n m bounds₀ coefs₀ rhs₀ table₀) (stateOf n m bounds coefs rhs table) changed r × (isEmpty n bounds ≡ false)
 
 abbrev μ-loop : tie.MeasureT-loop
 μ-loop n m bounds₀ coefs₀ rhs₀ table₀ changed₀ r₀ bounds coefs rhs table changed r = m - r
@@ -32,7 +32,7 @@ unfolding stateOf
 returns c =
     let s = c .before .before .before .before in
     let v = s .pre .model in
-    let p = no-drops (stateOf (s .args .n) (s .args .m) (s .args .bounds .now) (s .args .coefs .now) (s .args .rhs .now) (s .args .table .now))
+    let p = no-removals (stateOf (s .args .n) (s .args .m) (s .args .bounds .now) (s .args .coefs .now) (s .args .rhs .now) (s .args .table .now))
     (sym (c .before .is-empty .ensures (s .args .n) (v .some) (v .box)) ∙ c .if1 .taken) in
     (p .left, p .changed)
 
@@ -41,7 +41,7 @@ unfolding stateOf
 loop-holds c =
     let s = c .before .before .before .before in
     let v = s .pre .model in
-    (no-turn (s .args .m) dropCall (s .pre), sym (c .before .is-empty .ensures (s .args .n) (v .some) (v .box)) ∙ c .if1 .left)
+    (no-turn (s .args .m) removeCall (s .pre), sym (c .before .is-empty .ensures (s .args .n) (v .some) (v .box)) ∙ c .if1 .left)
 
 cast-loop : tie.Need-cast-loop Inv-loop μ-loop
 cast-loop c = omega arith
@@ -67,7 +67,7 @@ loop-again c =
     let d = c .before .before .before .before .before .before .before in
     let t = d .before .before .before .before .before in
     let l = t .before .loop in
-    drop-turn (l .inv .0) (l .inv .1) (t .loop-test .taken) (d .run-record .ensures) (c .before .is-changed .ensures)
+    remove-turn (l .inv .0) (l .inv .1) (t .loop-test .taken) (d .run-record .ensures) (c .before .is-changed .ensures)
     (⊎-elim (λ w. flag-raised (l .changed) (w .0 .taken) (w .1)) (λ w. flag-kept (l .changed) (w .0 .left) (w .1)) (c .if2 .came))
 
 same-length-2 : tie.Need-same-length-2 Inv-loop μ-loop
@@ -87,9 +87,9 @@ unfolding stateOf
 same-length-5 c = turns-lengths (c .before .loop .inv .0) .table
 
 returns-2 : tie.Need-returns-2 Inv-loop μ-loop
-unfolding stateOf drops
+unfolding stateOf removals
 returns-2 c =
-    let p = all-turns (c .before .before .before .before .before .before .args .m) dropCall (c .before .loop .inv .0) (c .loop-test .left) in
+    let p = all-turns (c .before .before .before .before .before .before .args .m) removeCall (c .before .loop .inv .0) (c .loop-test .left) in
     (p .left, p .changed)
 
 pub remove-rows-spec : {M : Type 1} → statement M

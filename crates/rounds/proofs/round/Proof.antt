@@ -5,7 +5,7 @@ use mathlib.Core.Logic.{⊎-elim}
 use mathlib.Core.Path.{_≡_, refl}
 use Rattle.semantics.specs.Call.{callOf}
 use Rattle.model.specs.State.{State, stateOf}
-use Rattle.rounds.specs.Rounds.{andThen, drops, probes, round, settleCall, sharpens}
+use Rattle.rounds.specs.Rounds.{andThen, removals, probes, round, propagateCall, tightenings}
 use Rattle.rounds.proofs.RoundsLaws.{Leads, SameLengths, flag-kept, flag-raised, in-order, leads-then, leads-valid, one-call, same-lengths}
 use Rattle.rounds.proofs.round.Statement.{statement}
 use Rattle.rounds.proofs.round.Tie as tie
@@ -19,74 +19,74 @@ run-record-requires c κs = c .before .before .before .before .before .pre
 is-changed-requires : tie.Need-is-changed-requires
 is-changed-requires c κs = tt
 
--- the settle
+-- the propagation
 module _ (c : tie.After-is-changed) where
-  abbrev settle-start : tie.Start
-  settle-start = c .before .before .before .before .before .before .before .before .before .before .before .before
+  abbrev propagate-start : tie.Start
+  propagate-start = c .before .before .before .before .before .before .before .before .before .before .before .before
 
-  abbrev settle-state : State
-  settle-state =
-      let a = settle-start .args in
+  abbrev propagate-state : State
+  propagate-state =
+      let a = propagate-start .args in
       let l = c .before .before .before .before .before .before .run-record .last in
       stateOf (a .n) (a .m) (l .1 .1 .0) (l .1 .1 .1 .0) (l .1 .1 .1 .1 .0) (l .1 .1 .1 .1 .1 .0)
 
-  settle-leads : Leads (entry settle-start) (settleCall (entry settle-start)) settle-state (c .is-changed .result)
-  unfolding stateOf callOf settleCall
-  settle-leads =
+  propagate-leads : Leads (entry propagate-start) (propagateCall (entry propagate-start)) propagate-state (c .is-changed .result)
+  unfolding stateOf callOf propagateCall
+  propagate-leads =
       let d = c .before .before .before .before .before .before in
-      one-call (callOf (entry settle-start) 2 0 0 1000) (d .run-record .ensures) (c .is-changed .ensures)
+      one-call (callOf (entry propagate-start) 2 0 0 1000) (d .run-record .ensures) (c .is-changed .ensures)
 
 remove-rows-requires : tie.Need-remove-rows-requires
-remove-rows-requires c κs = let d = c .before .before .before .before in leads-valid (settle-leads d) (settle-start d .pre)
+remove-rows-requires c κs = let d = c .before .before .before .before in leads-valid (propagate-leads d) (propagate-start d .pre)
 
--- then the drops
+-- then the removals
 module _ (c : tie.Joined1) where
-  abbrev drop-start : tie.Start
-  drop-start = settle-start (c .before .before .before .before .before .before .before .before .before .before .before)
+  abbrev remove-start : tie.Start
+  remove-start = propagate-start (c .before .before .before .before .before .before .before .before .before .before .before)
 
-  abbrev drop-state : State
-  drop-state =
-      let a = drop-start .args in
+  abbrev remove-state : State
+  remove-state =
+      let a = remove-start .args in
       let l = c .before .before .before .before .before .before .remove-rows .last in
       stateOf (a .n) (a .m) (l .1 .1 .0) (l .1 .1 .1 .0) (l .1 .1 .1 .1 .0) (l .1 .1 .1 .1 .1 .0)
 
-  drop-leads : Leads (entry drop-start) (andThen settleCall drops (entry drop-start)) drop-state (c .if1 .changed)
-  drop-leads =
+  remove-leads : Leads (entry remove-start) (andThen propagateCall removals (entry remove-start)) remove-state (c .if1 .changed)
+  remove-leads =
       let d = c .before .before .before .before .before .before in
       let b = d .before .before .before .before .before .is-changed .result in
-      leads-then settleCall drops (settle-leads (d .before .before .before .before .before))
+      leads-then propagateCall removals (propagate-leads (d .before .before .before .before .before))
       (record { left = d .remove-rows .ensures .0; changed = d .remove-rows .ensures .1 })
       (⊎-elim (λ w. flag-raised b (w .0 .taken) (w .1)) (λ w. flag-kept b (w .0 .left) (w .1)) (c .if1 .came))
 
 tighten-rows-requires : tie.Need-tighten-rows-requires
-tighten-rows-requires c κs = let d = c .before .before .before .before in leads-valid (drop-leads d) (drop-start d .pre)
+tighten-rows-requires c κs = let d = c .before .before .before .before in leads-valid (remove-leads d) (remove-start d .pre)
 
--- then the sharpens
+-- then the tightenings
 module _ (c : tie.Joined2) where
-  abbrev sharpen-start : tie.Start
-  sharpen-start = drop-start (c .before .before .before .before .before .before .before .before .before .before .before)
+  abbrev tighten-start : tie.Start
+  tighten-start = remove-start (c .before .before .before .before .before .before .before .before .before .before .before)
 
-  abbrev sharpen-state : State
-  sharpen-state =
-      let a = sharpen-start .args in
+  abbrev tighten-state : State
+  tighten-state =
+      let a = tighten-start .args in
       let l = c .before .before .before .before .before .before .tighten-rows .last in
       stateOf (a .n) (a .m) (l .1 .1 .0) (l .1 .1 .1 .0) (l .1 .1 .1 .1 .0) (l .1 .1 .1 .1 .1 .0)
 
-  sharpen-leads : Leads (entry sharpen-start) (andThen (andThen settleCall drops) sharpens (entry sharpen-start)) sharpen-state (c .if2 .changed)
-  sharpen-leads =
+  tighten-leads : Leads (entry tighten-start) (andThen (andThen propagateCall removals) tightenings (entry tighten-start)) tighten-state (c .if2 .changed)
+  tighten-leads =
       let d = c .before .before .before .before .before .before in
       let b = d .before .before .before .before .before .if1 .changed in
-      leads-then (andThen settleCall drops) sharpens (drop-leads (d .before .before .before .before .before))
+      leads-then (andThen propagateCall removals) tightenings (remove-leads (d .before .before .before .before .before))
       (record { left = d .tighten-rows .ensures .0; changed = d .tighten-rows .ensures .1 })
       (⊎-elim (λ w. flag-raised b (w .0 .taken) (w .1)) (λ w. flag-kept b (w .0 .left) (w .1)) (c .if2 .came))
 
 probe-variables-requires : tie.Need-probe-variables-requires
-probe-variables-requires c κs = let d = c .before .before .before .before in leads-valid (sharpen-leads d) (sharpen-start d .pre)
+probe-variables-requires c κs = let d = c .before .before .before .before in leads-valid (tighten-leads d) (tighten-start d .pre)
 
 -- then the probes
 module _ (c : tie.After-slice-known5) where
   abbrev probe-start : tie.Start
-  probe-start = sharpen-start (c .before .before .before .before .before .before .before .before .before .before)
+  probe-start = tighten-start (c .before .before .before .before .before .before .before .before .before .before)
 
   abbrev probe-state : State
   probe-state =
@@ -99,7 +99,7 @@ module _ (c : tie.After-slice-known5) where
       → Leads (entry probe-start) (round (entry probe-start)) probe-state e
   probe-leads k =
       let d = c .before .before .before .before .before in
-      rw (in-order (entry probe-start)) at (leads-then (andThen (andThen settleCall drops) sharpens) probes (sharpen-leads (d .before .before .before .before .before))
+      rw (in-order (entry probe-start)) at (leads-then (andThen (andThen propagateCall removals) tightenings) probes (tighten-leads (d .before .before .before .before .before))
       (record { left = d .probe-variables .ensures .0; changed = d .probe-variables .ensures .1 }) k)
 
   lengths : SameLengths (entry probe-start) probe-state

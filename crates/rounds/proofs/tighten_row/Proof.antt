@@ -15,14 +15,14 @@ use Rattle.row.specs.Activity.{maxActivity}
 use Rattle.row.specs.Tightening.{mayTighten}
 use Rattle.semantics.specs.Call.{callOf}
 use Rattle.model.specs.State.{stateOf}
-use Rattle.rounds.specs.Rounds.{sharpenCall, sharpenRow}
+use Rattle.rounds.specs.Rounds.{tightenCall, tightenRow}
 use Rattle.rounds.proofs.RoundsLaws.{Turns, all-turns, call-turn, flag-kept, flag-raised, leads-valid, looked-at, no-turn, one-call, quiet-turn, row-ready, turn, turns-lengths, turns-valid}
 use Rattle.rounds.proofs.tighten_row.Statement.{statement}
 use Rattle.rounds.proofs.tighten_row.Tie as tie
 
 abbrev Inv-loop : tie.InvT-loop
 Inv-loop n m bounds₀ coefs₀ rhs₀ table₀ row most₀ changed₀ k₀ bounds coefs rhs table most changed k =
-    Turns n (sharpenCall row) (stateOf n m bounds₀ coefs₀ rhs₀ table₀) (stateOf n m bounds coefs rhs table) changed k
+    Turns n (tightenCall row) (stateOf n m bounds₀ coefs₀ rhs₀ table₀) (stateOf n m bounds coefs rhs table) changed k
     × (toZ w64 most ≡ maxActivity n (rowOf n coefs row) bounds)
 
 abbrev μ-loop : tie.MeasureT-loop
@@ -35,7 +35,7 @@ maximum-activity-at-requires c κs = let s = c .before .before .before in row-re
 loop-holds : tie.Need-loop-holds Inv-loop μ-loop
 unfolding stateOf
 loop-holds c = let s = c .before .before .before .before in (
-  no-turn (s .args .n) (sharpenCall (s .args .row)) (s .pre .1),
+  no-turn (s .args .n) (tightenCall (s .args .row)) (s .pre .1),
   toZ-ofZ {w = w64} (record { sfits = c .maximum-activity-at .ok }) ∙ c .maximum-activity-at .ensures,
 )
 
@@ -73,7 +73,7 @@ loop-less : tie.Need-loop-less Inv-loop μ-loop
 loop-less c = omega arith
 
 loop-again : tie.Need-loop-again Inv-loop μ-loop
-unfolding stateOf callOf sharpenCall
+unfolding stateOf callOf tightenCall
 loop-again c =
     let t = c .before .before .before .before .before in
     let s = t .before .before .before .before .before .before in
@@ -85,7 +85,7 @@ loop-again c =
     let free = isFree (l .bounds) (l .k) in
     let test = mayTighten (at (l .coefs) (r * n + l .k)) (toZ w64 (l .most)) (at (l .rhs) r) in
     let call = callOf now 4 r (l .k) 0 in
-    let f = sharpenCall r in
+    let f = tightenCall r in
     let h = t .loop-test .taken in
     ⊎-elim
     (λ w. rw (w .16, w .17, w .18, w .19, w .20) (
@@ -116,10 +116,10 @@ unfolding stateOf
 same-length-4 c = turns-lengths (c .before .loop .inv .0) .table
 
 returns : tie.Need-returns Inv-loop μ-loop
-unfolding stateOf sharpenRow
+unfolding stateOf tightenRow
 returns c =
     let s = c .before .before .before .before .before .before in
-    let p = all-turns (s .args .n) (sharpenCall (s .args .row)) (c .before .loop .inv .0) (c .loop-test .left) in (p .left, p .changed)
+    let p = all-turns (s .args .n) (tightenCall (s .args .row)) (c .before .loop .inv .0) (c .loop-test .left) in (p .left, p .changed)
 
 pub tighten-row-spec : {M : Type 1} → statement M
 tighten-row-spec =

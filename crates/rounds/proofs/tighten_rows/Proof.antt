@@ -3,21 +3,21 @@ use Prim.Native.Nat.{_-_}
 use mathlib.Core.Logic.{⊎-elim}
 use native.Mathlib.Omega.{arith}
 use Rattle.model.specs.State.{stateOf}
-use Rattle.rounds.specs.Rounds.{sharpenRow, sharpens}
+use Rattle.rounds.specs.Rounds.{tightenRow, tightenings}
 use Rattle.rounds.proofs.RoundsLaws.{Turns, all-turns, flag-kept, flag-raised, no-turn, turn, turns-lengths, turns-valid}
 use Rattle.rounds.proofs.tighten_rows.Statement.{statement}
 use Rattle.rounds.proofs.tighten_rows.Tie as tie
 
 abbrev Inv-loop : tie.InvT-loop
 Inv-loop n m bounds₀ coefs₀ rhs₀ table₀ changed₀ r₀ bounds coefs rhs table changed r =
-    Turns m sharpenRow (stateOf n m bounds₀ coefs₀ rhs₀ table₀) (stateOf n m bounds coefs rhs table) changed r
+    Turns m tightenRow (stateOf n m bounds₀ coefs₀ rhs₀ table₀) (stateOf n m bounds coefs rhs table) changed r
 
 abbrev μ-loop : tie.MeasureT-loop
 μ-loop n m bounds₀ coefs₀ rhs₀ table₀ changed₀ r₀ bounds coefs rhs table changed r = m - r
 
 loop-holds : tie.Need-loop-holds Inv-loop μ-loop
 unfolding stateOf
-loop-holds c = let s = c .before in no-turn (s .args .m) sharpenRow (s .pre)
+loop-holds c = let s = c .before in no-turn (s .args .m) tightenRow (s .pre)
 
 cast-loop : tie.Need-cast-loop Inv-loop μ-loop
 cast-loop c = omega arith
@@ -40,7 +40,7 @@ loop-again c =
     let d = c .before .before .before .before .before .before in
     let t = d .before .before .before .before .before in
     let l = t .before .loop in
-    turn (t .before .before .before .args .m) sharpenRow (l .inv) (t .loop-test .taken)
+    turn (t .before .before .before .args .m) tightenRow (l .inv) (t .loop-test .taken)
     (record { left = d .tighten-row .ensures .0; changed = d .tighten-row .ensures .1 })
     (⊎-elim (λ w. flag-raised (l .changed) (w .0 .taken) (w .1)) (λ w. flag-kept (l .changed) (w .0 .left) (w .1)) (c .if1 .came))
 
@@ -61,10 +61,10 @@ unfolding stateOf
 same-length-4 c = turns-lengths (c .before .loop .inv) .table
 
 returns : tie.Need-returns Inv-loop μ-loop
-unfolding stateOf sharpens
+unfolding stateOf tightenings
 returns c =
     let s = c .before .before .before in
-    let p = all-turns (s .args .m) sharpenRow (c .before .loop .inv) (c .loop-test .left) in (p .left, p .changed)
+    let p = all-turns (s .args .m) tightenRow (c .before .loop .inv) (c .loop-test .left) in (p .left, p .changed)
 
 pub tighten-rows-spec : {M : Type 1} → statement M
 tighten-rows-spec =
