@@ -3,7 +3,7 @@ use Prim.Native.Nat.{_*_, _+_, _<_, _≤_, ℕ}
 use lib.IntN.{pos, ℤ}
 use lib.Dec.{T}
 use lib.ListN.{drop, getD, getD-replicate, length, length-drop, length-replicate, replicate, set, take}
-use lib.Seq.{getD-drop, getD-set-other, getD-set-same, getD-take, length-take-le}
+use lib.Seq.{getD-drop, getD-set-other, getD-set-same, getD-take, length-take-le, set-getD}
 use lib.Signed.{_<ℤ_, _≤ℤ_, ≤ℤ-refl}
 use mathlib.Core.Bool.{not}
 use mathlib.Core.List.{List}
@@ -103,6 +103,17 @@ module _ {n m : ℕ} {C : List ℤ} {signs₀ steps : List ℕ} {start : ℕ} {o
           (at-other (2 * k) (omega arith) (omega arith) ∙ o .0, at-other (2 * k + 1) (omega arith) (omega arith) ∙ o .1);
       read = λ r p g. (i .read r p (f r p g .0) .0, read-next r p g);
     }
+
+-- a variable whose bounds did not move has them already
+still : (old new : List ℤ) (j : ℕ) → lower new j ≡ lower old j → upper new j ≡ upper old j → old ≡ withBounds old j (lower new j) (upper new j)
+unfolding withBounds
+still old new j a b = sym (rw (a, b, set-getD old (2 * j) (pos 0)) (set-getD old (2 * j + 1) (pos 0)))
+
+pub remark-still : {n m : ℕ} {C : List ℤ} {signs₀ steps : List ℕ} {start : ℕ} {old₀ new : List ℤ} {marks₀ : List ℕ} → Remarks n m C signs₀ steps start old₀ new marks₀
+    → {signs : List ℕ} {old : List ℤ} {marks : List ℕ} {j : ℕ} → Remarked n m C signs₀ old₀ new marks₀ signs old marks j → j < n
+    → (lower new j ≡ lower old j) × (upper new j ≡ upper old j) → Remarked n m C signs₀ old₀ new marks₀ signs old marks (j + getD steps (start + j) 0)
+remark-still {new = new} v {old = old} {marks} {j} i h w =
+    remark-turn v i h marks (still old new j (w .0) (w .1)) refl refl refl (i .columns) (λ r p g. (g, record { low = λ _. w .0; high = λ _. w .1 }))
 
 -- ---- the steps of a row without zeros
 

@@ -1,7 +1,7 @@
--- What the two loops of `propagate` need: the part of the matrix that is a row, one row more of a pass, and one pass more.
+-- What the two loops of `propagate` need: a row of the matrix is a valid one, one row more of a pass, and one pass more.
 use Prim.Native.Nat.{_*_, _+_, _-_, _<_, _≤_, suc, zero, ℕ}
 use lib.IntN.{pos, ℤ}
-use lib.ListN.{drop, getD, length, length-drop, take}
+use lib.ListN.{drop, getD, length, length-drop}
 use lib.Seq.{getD-drop, getD-take, length-take-le}
 use mathlib.Core.Bool.{Bool, _||_, false, true}
 use mathlib.Core.List.{List}
@@ -38,10 +38,6 @@ use Rattle.semantics.proofs.PropagateLaws.{pass-ended, pass-next, propagate-aga
 
 row-end : (r m n : ℕ) → r < m → r * n + n ≤ m * n
 row-end r m n h = omega (arith, mul-le-mul-right n h, suc-mul r n)
-
-pub part-is : (r n : ℕ) (C : List ℤ) → take (r * n + n - r * n) (drop (r * n) C) ≡ rowOf n C r
-unfolding rowOf
-part-is r n C = let d : r * n + n - r * n ≡ n = omega arith in rw d
 
 module _ {n m : ℕ} {B₀ C R : List ℤ} (v : ValidModel (modelOf n m B₀ C R)) (r : ℕ) (h : r < m) where
   pub row-fits : r * n + n ≤ length C

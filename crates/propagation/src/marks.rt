@@ -10,6 +10,7 @@ pub use model::boxes::copy_box;
 use row::propagation::RowPropagation;
 use row_view::propagate_row_at;
 use row_view::propagate_row_at_by;
+ghost use mathlib.Core.Bool.{false};
 ghost use mathlib.Core.Path.{_≡_};
 ghost use Prim.Native.Nat.{ℕ, _*_, _+_, _<_, _≤_};
 ghost use lib.ListN.{length, getD, set};
@@ -113,6 +114,22 @@ pub fn remark_at(
     remark_bound(n, m, coefs, j, 2, 2 * j + 1, signs, old, new, marks);
 }
 
+// Whether a bound of variable j moved. Most have not, so this is asked in the loop and costs no call.
+fn has_moved(old: &[i32], new: &[i32], j: usize) -> bool
+    requires { ⌜ (2 * j + 1 < length (now old)) × (2 * j + 1 < length (now new)) ⌝ }
+    ensures { λ b.
+        ⌜ (b ≡ false → (lower (now (new .entry)) j ≡ lower (now (old .entry)) j)
+        × (upper (now (new .entry)) j ≡ upper (now (old .entry)) j)) ⌝ }
+{
+    if old[2 * j] != new[2 * j] {
+        return true;
+    }
+    if old[2 * j + 1] != new[2 * j + 1] {
+        return true;
+    }
+    false
+}
+
 // The box `old` becomes the box `new`; rows that read a bound that moved are clean no more.
 fn remark(
     n: usize,
@@ -134,7 +151,9 @@ fn remark(
 {
     let mut j = 0;
     while j < n {
-        remark_at(n, m, coefs, j, signs, old, new, marks);
+        if has_moved(old, new, j) {
+            remark_at(n, m, coefs, j, signs, old, new, marks);
+        }
         j += steps[start + j] as usize;
     }
 }

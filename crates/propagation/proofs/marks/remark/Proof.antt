@@ -1,10 +1,12 @@
--- `propagation::marks::remark`: the invariant is `Remarked`; a step passes only over variables where the boxes agree. Assumes nothing.
+-- `propagation::marks::remark`: the invariant is `Remarked`; a variable whose bounds did not move is left as it is, and a step passes only
+-- over variables where the boxes agree. Assumes nothing.
 use Prim.Native.Nat.{_-_, _<_, ℕ}
 use borrow.Author.Count.{below-none}
+use mathlib.Core.Logic.{⊎-elim}
 use mathlib.Core.Path.{_∙_, _≡_, refl}
 use native.Mathlib.Omega.{arith}
 use Rattle.model.proofs.BoxLaws.{box-ext}
-use Rattle.propagation.proofs.MarkLaws.{Remarked, remark-turn}
+use Rattle.propagation.proofs.MarkLaws.{Remarked, remark-still, remark-turn}
 use Rattle.propagation.proofs.marks.remark.Statement.{statement}
 use Rattle.propagation.proofs.marks.remark.Tie as tie
 
@@ -34,35 +36,47 @@ loop-holds c =
       read = λ r p e. (e, below-none _);
     }
 
+has-moved-requires : tie.Need-has-moved-requires Inv-loop μ-loop
+has-moved-requires c κs =
+    let h = c .before .before in
+    let i = h .loop .inv in
+    let k : j h < s h .args .n = omega arith in
+    (omega (arith, s h .pre .oldLen, i .oldLen), omega (arith, s h .pre .newLen))
+
 remark-at-requires : tie.Need-remark-at-requires Inv-loop μ-loop
 remark-at-requires c κs =
-    let h = c .before .before .before .before in
+    let h = c .before .before .before .before .before .before .before in
     let i = h .loop .inv in
     let k : j h < s h .args .n = omega arith in
     (i .columns, k, omega (arith, s h .pre .marksLen, i .marksLen), omega (arith, s h .pre .oldLen, i .oldLen), omega (arith, s h .pre .newLen))
 
 add-j : tie.Need-add-j Inv-loop μ-loop
-add-j c = let h = c .before .before .before .before .before .before .before .before .before .before in omega (arith, s h .pre .stepsLen)
+add-j c = let h = c .before .before .before .before in omega (arith, s h .pre .stepsLen)
 
 shared-slice-read-j : tie.Need-shared-slice-read-j Inv-loop μ-loop
-shared-slice-read-j c = let h = c .before .before .before .before .before .before .before .before .before .before .before in omega (arith, s h .pre .stepsLen)
+shared-slice-read-j c = let h = c .before .before .before .before .before in omega (arith, s h .pre .stepsLen)
 
 cast-j : tie.Need-cast-j Inv-loop μ-loop
-cast-j c = let h = c .before .before .before .before .before .before .before .before .before .before .before in omega (arith, s h .pre .within (j h) (omega arith))
+cast-j c = let h = c .before .before .before .before .before in omega (arith, s h .pre .within (j h) (omega arith))
 
 add-j-2 : tie.Need-add-j-2 Inv-loop μ-loop
-add-j-2 c = let h = c .before .before .before .before .before .before .before .before .before .before .before in omega (arith, s h .pre .within (j h) (omega arith))
+add-j-2 c = let h = c .before .before .before .before .before in omega (arith, s h .pre .within (j h) (omega arith))
 
 loop-less : tie.Need-loop-less Inv-loop μ-loop
-loop-less c = let h = c .before .before .before .before .before .before .before .before .before .before .before in omega (arith, s h .pre .within (j h) (omega arith), s h .pre .forward (j h) (omega arith))
+loop-less c = let h = c .before .before .before .before .before in omega (arith, s h .pre .within (j h) (omega arith), s h .pre .forward (j h) (omega arith))
 
 loop-again : tie.Need-loop-again Inv-loop μ-loop
 loop-again c =
-    let h = c .before .before .before .before .before .before .before .before .before .before .before in
+    let h = c .before .before .before .before .before in
     let k : j h < s h .args .n = omega arith in
-    let call = c .before .before .before .before .before .before .remark-at in
-    remark-turn (s h .pre) (h .loop .inv) k (call .last .1 .1 .1 .1 .1 .1 .1 .0) (call .ensures .0) (call .kept .1 .1 .1 .1 .0)
-    (call .kept .1 .1 .1 .1 .1 .0) (call .kept .1 .1 .1 .1 .1 .1 .1 .0) (call .ensures .1 .1) (call .ensures .1 .0)
+    ⊎-elim
+    (λ w.
+    let call = w .4 in
+    rw (w .10, w .11, w .12)
+    (remark-turn (s h .pre) (h .loop .inv) k (call .last .1 .1 .1 .1 .1 .1 .1 .0) (call .ensures .0) (call .kept .1 .1 .1 .1 .0)
+    (call .kept .1 .1 .1 .1 .1 .0) (call .kept .1 .1 .1 .1 .1 .1 .1 .0) (call .ensures .1 .1) (call .ensures .1 .0)))
+    (λ w. rw (w .1, w .2, w .3) (remark-still (s h .pre) (h .loop .inv) k (c .before .before .has-moved .ensures (w .0 .left))))
+    (c .before .if1 .came)
 
 same-length : tie.Need-same-length Inv-loop μ-loop
 same-length c = c .before .loop .inv .signsLen
@@ -95,6 +109,7 @@ remark-spec =
     Inv-loop
     μ-loop
     loop-holds
+    has-moved-requires
     remark-at-requires
     add-j
     shared-slice-read-j
