@@ -12,10 +12,10 @@ ghost use mathlib.Core.Path.{_≡_};
 ghost use Prim.Native.Nat.{_*_, _+_, _≤_};
 ghost use lib.ListN.{drop, length, take};
 ghost use Rattle.model.specs.Box.{at};
-ghost use Rattle.model.specs.Rows.{rowOf};
+ghost use Rattle.model.specs.Rows.{rowAt, rowOf, rowWith, rowsOf};
 ghost use Rattle.row.specs.Activity.{minActivity, maxActivity};
 ghost use Rattle.row.specs.Answers.{propagatedRowOf};
-ghost use Rattle.row.specs.Propagation.{propagateRow, rowMoves};
+ghost use Rattle.row.specs.Kinds.{propagateRowOf, rowMovesOf};
 ghost use Rattle.row.specs.ValidRow.{ValidCoefs, ValidRow};
 ghost use Rattle.row_view.specs.RowIn.{RowIn, StepsIn};
 ghost use Rattle.sweep.specs.Steps.{Steps};
@@ -25,6 +25,7 @@ pub mod changes;
 pub struct Row<'a> {
     pub coefs: &'a [i32],
     pub b: i32,
+    pub kind: u8,
 }
 
 impl<'a> Row<'a> {
@@ -51,9 +52,10 @@ impl<'a> Row<'a> {
         requires { ⌜ ValidRow (length (now (self .coefs))) (now (self .coefs)) (self .b) (now bounds) ⌝ }
         ensures { λ r.
             let A = now (self .entry .coefs) in
-            ⌜ propagatedRowOf r (now (bounds .exit)) ≡ propagateRow (length A) A (self .entry .b) (now (bounds .entry)) ⌝ }
+            ⌜ propagatedRowOf r (now (bounds .exit))
+            ≡ propagateRowOf (length A) (rowWith A (self .entry .b) (self .entry .kind)) (now (bounds .entry)) ⌝ }
     {
-        propagate_row(self.coefs, self.b, bounds)
+        propagate_row(self.coefs, self.b, self.kind, bounds)
     }
 
     // The same by the row's steps, which pass over its zeros.
@@ -62,9 +64,10 @@ impl<'a> Row<'a> {
             × Steps (length (now (self .coefs))) (now (self .coefs)) (now steps) ⌝ }
         ensures { λ t.
             let A = now (self .entry .coefs) in
-            ⌜ propagatedRowOf t (now (bounds .exit)) ≡ propagateRow (length A) A (self .entry .b) (now (bounds .entry)) ⌝ }
+            ⌜ propagatedRowOf t (now (bounds .exit))
+            ≡ propagateRowOf (length A) (rowWith A (self .entry .b) (self .entry .kind)) (now (bounds .entry)) ⌝ }
     {
-        propagate_row_by(self.coefs, steps, self.b, bounds)
+        propagate_row_by(self.coefs, steps, self.b, self.kind, bounds)
     }
 }
 
@@ -79,13 +82,22 @@ fn coefficients<'a>(n: usize, coefs: &'a [i32], r: usize) -> &'a [i32]
 }
 
 // Row r of the matrix, with its right side.
-pub fn row_at<'a, 'b>(n: usize, coefs: &'a [i32], rhs: &'b [i32], r: usize) -> Row<'a>
-    requires { ⌜ RowIn n (now coefs) (now rhs) r ⌝ }
-    ensures { λ row. ⌜ (now (row .coefs) ≡ rowOf n (now (coefs .entry)) r) × (row .b ≡ at (now (rhs .entry)) r) ⌝ }
+pub fn row_at<'a, 'b>(
+    n: usize,
+    coefs: &'a [i32],
+    rhs: &'b [i32],
+    kinds: &'b [u8],
+    r: usize,
+) -> Row<'a>
+    requires { ⌜ RowIn n (rowsOf (now coefs) (now rhs) (now kinds)) r ⌝ }
+    ensures { λ row.
+        let A = rowsOf (now (coefs .entry)) (now (rhs .entry)) (now (kinds .entry)) in
+        ⌜ rowWith (now (row .coefs)) (row .b) (row .kind) ≡ rowAt n A r ⌝ }
 {
     Row {
         coefs: coefficients(n, coefs, r),
         b: rhs[r],
+        kind: kinds[r],
     }
 }
 
@@ -94,15 +106,17 @@ pub fn propagate_row_at<'a, 'b, 'c>(
     n: usize,
     coefs: &'a [i32],
     rhs: &'b [i32],
+    kinds: &'b [u8],
     r: usize,
     bounds: &'c mut [i32],
 ) -> RowPropagation
-    requires { ⌜ RowIn n (now coefs) (now rhs) r × ValidRow n (rowOf n (now coefs) r) (at (now rhs) r) (now bounds) ⌝ }
+    requires { let A = rowsOf (now coefs) (now rhs) (now kinds) in
+        ⌜ RowIn n A r × ValidRow n (rowAt n A r .coefs) (rowAt n A r .rhs) (now bounds) ⌝ }
     ensures { λ s.
-        ⌜ propagatedRowOf s (now (bounds .exit))
-        ≡ propagateRow n (rowOf n (now (coefs .entry)) r) (at (now (rhs .entry)) r) (now (bounds .entry)) ⌝ }
+        let A = rowsOf (now (coefs .entry)) (now (rhs .entry)) (now (kinds .entry)) in
+        ⌜ propagatedRowOf s (now (bounds .exit)) ≡ propagateRowOf n (rowAt n A r) (now (bounds .entry)) ⌝ }
 {
-    row_at(n, coefs, rhs, r).propagate(bounds)
+    row_at(n, coefs, rhs, kinds, r).propagate(bounds)
 }
 
 // The same by steps that are a slice of their own.
@@ -110,17 +124,19 @@ fn propagate_row_with<'a, 'b, 'c, 'd>(
     n: usize,
     coefs: &'a [i32],
     rhs: &'b [i32],
+    kinds: &'b [u8],
     r: usize,
     steps: &'c [u8],
     bounds: &'d mut [i32],
 ) -> RowPropagation
-    requires { ⌜ RowIn n (now coefs) (now rhs) r × ValidRow n (rowOf n (now coefs) r) (at (now rhs) r) (now bounds)
-        × Steps n (rowOf n (now coefs) r) (now steps) ⌝ }
+    requires { let A = rowsOf (now coefs) (now rhs) (now kinds) in
+        ⌜ RowIn n A r × ValidRow n (rowAt n A r .coefs) (rowAt n A r .rhs) (now bounds)
+        × Steps n (rowAt n A r .coefs) (now steps) ⌝ }
     ensures { λ t.
-        ⌜ propagatedRowOf t (now (bounds .exit))
-        ≡ propagateRow n (rowOf n (now (coefs .entry)) r) (at (now (rhs .entry)) r) (now (bounds .entry)) ⌝ }
+        let A = rowsOf (now (coefs .entry)) (now (rhs .entry)) (now (kinds .entry)) in
+        ⌜ propagatedRowOf t (now (bounds .exit)) ≡ propagateRowOf n (rowAt n A r) (now (bounds .entry)) ⌝ }
 {
-    row_at(n, coefs, rhs, r).propagate_by(steps, bounds)
+    row_at(n, coefs, rhs, kinds, r).propagate_by(steps, bounds)
 }
 
 // The steps of row r, which stand where its coefficients do.
@@ -138,25 +154,37 @@ pub fn propagate_row_at_by(
     n: usize,
     coefs: &[i32],
     rhs: &[i32],
+    kinds: &[u8],
     r: usize,
     across: &[u8],
     bounds: &mut [i32],
 ) -> RowPropagation
-    requires { ⌜ RowIn n (now coefs) (now rhs) r × ValidRow n (rowOf n (now coefs) r) (at (now rhs) r) (now bounds) ⌝ }
+    requires { let A = rowsOf (now coefs) (now rhs) (now kinds) in
+        ⌜ RowIn n A r × ValidRow n (rowAt n A r .coefs) (rowAt n A r .rhs) (now bounds) ⌝ }
     requires { ⌜ StepsIn n (now coefs) (now across) r ⌝ }
     ensures { λ a.
-        ⌜ propagatedRowOf a (now (bounds .exit))
-        ≡ propagateRow n (rowOf n (now (coefs .entry)) r) (at (now (rhs .entry)) r) (now (bounds .entry)) ⌝ }
+        let A = rowsOf (now (coefs .entry)) (now (rhs .entry)) (now (kinds .entry)) in
+        ⌜ propagatedRowOf a (now (bounds .exit)) ≡ propagateRowOf n (rowAt n A r) (now (bounds .entry)) ⌝ }
 {
-    propagate_row_with(n, coefs, rhs, r, steps_at(n, across, r), bounds)
+    propagate_row_with(n, coefs, rhs, kinds, r, steps_at(n, across, r), bounds)
 }
 
 // Whether propagating row r would answer other than Unchanged; nothing is written.
-pub fn row_moves_at(n: usize, coefs: &[i32], rhs: &[i32], r: usize, bounds: &[i32]) -> bool
-    requires { ⌜ RowIn n (now coefs) (now rhs) r × ValidRow n (rowOf n (now coefs) r) (at (now rhs) r) (now bounds) ⌝ }
-    ensures { λ b. ⌜ b ≡ rowMoves n (rowOf n (now (coefs .entry)) r) (at (now (rhs .entry)) r) (now (bounds .entry)) ⌝ }
+pub fn row_moves_at(
+    n: usize,
+    coefs: &[i32],
+    rhs: &[i32],
+    kinds: &[u8],
+    r: usize,
+    bounds: &[i32],
+) -> bool
+    requires { let A = rowsOf (now coefs) (now rhs) (now kinds) in
+        ⌜ RowIn n A r × ValidRow n (rowAt n A r .coefs) (rowAt n A r .rhs) (now bounds) ⌝ }
+    ensures { λ b.
+        let A = rowsOf (now (coefs .entry)) (now (rhs .entry)) (now (kinds .entry)) in
+        ⌜ b ≡ rowMovesOf n (rowAt n A r) (now (bounds .entry)) ⌝ }
 {
-    moves(coefficients(n, coefs, r), rhs[r], bounds)
+    moves(coefficients(n, coefs, r), rhs[r], kinds[r], bounds)
 }
 
 // The same by the row's steps.
@@ -164,18 +192,23 @@ pub fn row_moves_at_by(
     n: usize,
     coefs: &[i32],
     rhs: &[i32],
+    kinds: &[u8],
     r: usize,
     across: &[u8],
     bounds: &[i32],
 ) -> bool
-    requires { ⌜ RowIn n (now coefs) (now rhs) r × ValidRow n (rowOf n (now coefs) r) (at (now rhs) r) (now bounds) ⌝ }
+    requires { let A = rowsOf (now coefs) (now rhs) (now kinds) in
+        ⌜ RowIn n A r × ValidRow n (rowAt n A r .coefs) (rowAt n A r .rhs) (now bounds) ⌝ }
     requires { ⌜ StepsIn n (now coefs) (now across) r ⌝ }
-    ensures { λ b. ⌜ b ≡ rowMoves n (rowOf n (now (coefs .entry)) r) (at (now (rhs .entry)) r) (now (bounds .entry)) ⌝ }
+    ensures { λ b.
+        let A = rowsOf (now (coefs .entry)) (now (rhs .entry)) (now (kinds .entry)) in
+        ⌜ b ≡ rowMovesOf n (rowAt n A r) (now (bounds .entry)) ⌝ }
 {
     moves_by(
         coefficients(n, coefs, r),
         steps_at(n, across, r),
         rhs[r],
+        kinds[r],
         bounds,
     )
 }
