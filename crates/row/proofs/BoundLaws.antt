@@ -2,7 +2,7 @@
 use lib.Dec.{T}
 use lib.IntN.{_*ℤ_, _+ℤ_, _-ℤ_, negℤ, pos, ℤ}
 use lib.Signed.{_<ℤ_, _≤ℤ_, ltZ, ltZ-no, ltZ-yes, ≤ℤ-refl}
-use mathlib.Core.Logic.{_↔_, _⊎_, inl, inr}
+use mathlib.Core.Logic.{_↔_, _⊎_, inl, inr, ⊎-elim}
 use mathlib.Core.Path.{_∙_, _≡_}
 use Rattle.integer.specs.Division.{ceilDiv, floorDiv}
 use Rattle.integer.specs.Order.{eqZ, maxZ, minZ}
@@ -33,6 +33,10 @@ module _ (a b L l u : ℤ) where
   pub newLower-nonneg : pos 0 ≤ℤ a → newLower a b L l u ≡ l
   unfolding newLower
   newLower-nonneg s = rw (lt-isn't s)
+
+  -- of the two, one stays
+  pub one-stays : (newLower a b L l u ≡ l) ⊎ (newUpper a b L l u ≡ u)
+  one-stays = ⊎-elim (λ s. inl (newLower-nonneg (omega zarith))) (λ s. inr (newUpper-nonpos s)) (lt-or-ge (pos 0) a)
 
   -- a number is within the new bound exactly if it is within the old one and the row allows it, the other terms at their least
   pub le-newUpper : (z : ℤ) → (z ≤ℤ newUpper a b L l u) ↔ ((z ≤ℤ u) × (pos 0 <ℤ a → (a *ℤ z +ℤ L) ≤ℤ (a *ℤ l +ℤ b)))

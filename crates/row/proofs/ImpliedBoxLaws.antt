@@ -1,24 +1,29 @@
 -- Laws of the box that a row implies: it lies inside the old one, has the same minimum activity and keeps within the limits.
-use Prim.Native.Nat.{_*_, _<_, ℕ}
+use Prim.Native.Nat.{_*_, _+_, _<_, ℕ}
 use lib.Dec.{T, T-not}
 use lib.IntN.{_-ℤ_, ℤ}
 use lib.ListN.{length}
 use lib.Signed.{_≤ℤ_}
-use mathlib.Core.Bool.{not}
+use mathlib.Core.Bool.{Bool, _&&_, cond, false, not, true}
 use mathlib.Core.List.{List}
-use mathlib.Core.Logic.{_⊎_, inl, inr}
-use mathlib.Core.Path.{_∙_, _≡_, ap, refl, subst, sym}
+use mathlib.Core.Logic.{_⊎_, inl, inr, ⊎-elim}
+use mathlib.Core.Path.{_∙_, _≡_, ap, ap₂, refl, subst, sym}
+use native.Mathlib.Numerals.{add-one}
 use Rattle.integer.specs.Index.{all}
+use Rattle.integer.specs.Order.{eqZ}
 use Rattle.integer.proofs.IndexLaws.{all-at, all-i, sum-cong}
 use Rattle.integer.proofs.Parts.{zarith, zify}
+use Rattle.integer.proofs.Tests.{eq→eqZ}
 use Rattle.model.specs.Box.{Inside, NonEmpty, at, boxOf, emptyBox, isEmpty, lower, upper}
 use Rattle.model.specs.Limits.{maxBound, maxWidth, minBound}
 use Rattle.model.specs.Valid.{Between, ValidBox}
 use Rattle.model.proofs.BoxLaws.{at-boxOf, box-ext, isEmpty-empty, length-boxOf, lower-boxOf, upper-boxOf, ≤ℤ-trans}
 use Rattle.model.proofs.CheckLaws.{narrow-past}
 use Rattle.row.specs.Activity.{minActivity}
-use Rattle.row.specs.Propagation.{impliedBox, newLower, newUpper, staysAt}
-use Rattle.row.proofs.BoundLaws.{eq→stays, stays→eq, lower-le-newLower, minTerm-new, newLower-le-newUpper, newUpper-le-upper}
+use Rattle.row.specs.Moved.{differs, movedBounds}
+use Rattle.row.specs.Propagation.{impliedBox, newLower, newUpper, stays, staysAt}
+use Rattle.row.proofs.BoundLaws.{eq→stays, lower-le-newLower, minTerm-new, newLower-le-newUpper, newUpper-le-upper, one-stays, stays→eq}
+use Rattle.row.proofs.MovedLaws.{differs-sym}
 
 module _ (n : ℕ) (A : List ℤ) (b L : ℤ) (B : List ℤ) where
   pub lower-implied : (j : ℕ) → j < n → lower (impliedBox n A b L B) j ≡ newLower (at A j) b L (lower B j) (upper B j)
@@ -59,6 +64,29 @@ module _ (n : ℕ) (A : List ℤ) (b L : ℤ) (B : List ℤ) where
   pub box-stays : impliedBox n A b L B ≡ B → T (all n (staysAt A b L B))
   box-stays e = all-i n (staysAt A b L B) (λ j k. eq→stays (at A j) b L (lower B j) (upper B j)
       (sym (lower-implied j k) ∙ ap (λ (c : List ℤ). lower c j) e) (sym (upper-implied j k) ∙ ap (λ (c : List ℤ). upper c j) e))
+
+-- ---- how many bounds it moves: of a variable one at most
+
+-- of two tests, one of which holds
+fails : (p q : Bool) → T p ⊎ T q → cond p 0 1 + cond q 0 1 ≡ cond (p && q) 0 1
+fails true true h = refl
+fails true false h = refl
+fails false true h = refl
+fails false false (inl t) = absurd t
+fails false false (inr t) = absurd t
+
+differs-new : (a b L l u : ℤ) → differs l (newLower a b L l u) + differs u (newUpper a b L l u) ≡ cond (stays a b L l u) 0 1
+unfolding stays differs
+differs-new a b L l u =
+    let x = newLower a b L l u in
+    let y = newUpper a b L l u in
+    ap₂ _+_ (differs-sym l x) (differs-sym u y) ∙ fails (eqZ x l) (eqZ y u) (⊎-elim (λ e. inl (eq→eqZ x l e)) (λ e. inr (eq→eqZ y u e)) (one-stays a b L l u))
+
+pub moved-implied : (n : ℕ) (A : List ℤ) (b L : ℤ) (B : List ℤ) (j : ℕ) → j < n
+    → movedBounds (j + 1) B (impliedBox n A b L B) ≡ movedBounds j B (impliedBox n A b L B) + cond (staysAt A b L B j) 0 1
+unfolding movedBounds
+moved-implied n A b L B j k =
+    rw (add-one j, lower-implied n A b L B j k, upper-implied n A b L B j k, differs-new (at A j) b L (lower B j) (upper B j))
 
 -- ---- the limits
 

@@ -6,7 +6,7 @@ use lib.IntN.{_+ℤ_, pos, ℤ}
 use lib.Signed.{_<ℤ_, _≤ℤ_, ltZ, ltZ-no, ltZ-yes}
 use mathlib.Core.Bool.{cond, not}
 use mathlib.Core.List.{List}
-use mathlib.Core.Logic.{_≢_, _⊎_, inl, inr}
+use mathlib.Core.Logic.{_≢_, _⊎_, inl, inr, ⊎-elim}
 use mathlib.Core.Path.{_∙_, _≡_, ap, refl, subst, sym}
 use native.Mathlib.Decide.{ℕ-discrete}
 use native.Mathlib.Omega.{arith}
@@ -23,7 +23,7 @@ use Rattle.row.specs.Outcome.{Outcome, changed, infeasible, isChanged, i
 use Rattle.row.specs.Propagation.{PropagatedRow, impliedBox, newLower, newUpper, propagateRow, staysAt}
 use Rattle.row.specs.ValidRow.{ValidRow}
 use Rattle.row.proofs.ActivityLaws.{minActivity-at, minActivity-gap, minActivity-le-dot-over, minActivity-mono}
-use Rattle.row.proofs.BoundLaws.{le-newUpper-again, le-newUpper-at, le-newUpper-mono, lower-le-newLower, newLower-again-le, newLower-at-le, newLower-le-mono, newLower-nonneg, newUpper-le-upper, newUpper-nonpos}
+use Rattle.row.proofs.BoundLaws.{le-newUpper-again, le-newUpper-at, le-newUpper-mono, lower-le-newLower, newLower-again-le, newLower-at-le, newLower-le-mono, newUpper-le-upper, one-stays}
 use Rattle.row.proofs.ImpliedBoxLaws.{box-stays, implied-inside, implied-nonEmpty, length-implied, lower-implied, minActivity-implied, stays-box, upper-implied, valid-empty, valid-implied, valid-nonEmpty}
 use Rattle.row.proofs.MovedLaws.{moved-half, moved-none, moved-same, moved-width}
 use Rattle.row.proofs.PointBox.{Inside→in, boxAt, in→Inside, lower-at, nonEmpty-at, upper-at}
@@ -157,15 +157,11 @@ module _ (n : ℕ) (A : List ℤ) (b : ℤ) (B : List ℤ) where
   -- "from 1 to n": of each variable one bound stays
   pub propagate-row-moved-le : propagateRow n A b B .moved ≤ n
   propagate-row-moved-le = propagate-row-ind n A b B (λ v. v .moved ≤ n) (λ _. omega arith) (λ _ _. omega arith)
-      (λ _ _. moved-half n B (impliedBox n A b L B) (λ j k. one j k (lt-or-ge (pos 0) (at A j))))
+      (λ _ _. moved-half n B (impliedBox n A b L B) (λ j k.
+      ⊎-elim (λ e. inl (lower-implied n A b L B j k ∙ e)) (λ e. inr (upper-implied n A b L B j k ∙ e)) (one-stays (at A j) b L (lower B j) (upper B j))))
     where
       L : ℤ
       L = minActivity n A B
-
-      one : (j : ℕ) → j < n → (pos 0 <ℤ at A j) ⊎ (at A j ≤ℤ pos 0)
-          → (lower (impliedBox n A b L B) j ≡ lower B j) ⊎ (upper (impliedBox n A b L B) j ≡ upper B j)
-      one j k (inl s) = inl (lower-implied n A b L B j k ∙ newLower-nonneg (at A j) b L (lower B j) (upper B j) (omega zarith))
-      one j k (inr s) = inr (upper-implied n A b L B j k ∙ newUpper-nonpos (at A j) b L (lower B j) (upper B j) s)
 
   -- and no more than the width that the box lost
   pub propagate-row-moved-width : T (not (isInfeasible (propagateRow n A b B .outcome)))

@@ -22,11 +22,11 @@ use Rattle.integer.proofs.Parts.{le-is, le-isn't, lt-is, lt-isn't, zarith, zify
 use Rattle.integer.proofs.RangeLaws.{back, within-fits, within-sub}
 use Rattle.integer.proofs.Reading.{read-wide}
 use Rattle.integer.proofs.Tests.{T→false, T→true, and-i, and-l, and-r, bool-ext, cond-ind, decide, lt-or-ge, true→T}
-use Rattle.model.specs.Box.{at, isEmpty, lower, upper}
+use Rattle.model.specs.Box.{at, emptyBox, isEmpty, lower, upper}
 use Rattle.model.proofs.BoxLaws.{max-i, max-l, max-r, ≤ℤ-antisymm, ≤ℤ-trans}
-use Rattle.row.specs.Activity.{greatest, maxTerm, minActivity, minTerm, termWidth, widestTerm}
+use Rattle.row.specs.Activity.{greatest, minActivity, minTerm, termWidth, widestTerm}
 use Rattle.row.specs.Moved.{movedBounds}
-use Rattle.row.specs.Outcome.{changed, isUnchanged, unchanged}
+use Rattle.row.specs.Outcome.{changed, infeasible, isUnchanged, unchanged}
 use Rattle.row.specs.Propagation.{PropagatedRow, impliedBox, newLower, newUpper, propagateRow, rowMoves, stays, staysAt}
 use Rattle.row.specs.ValidRow.{ValidCoefs, ValidRow}
 use Rattle.row.proofs.ActivityLaws.{maxTerm-nonpos, maxTerm-pos, minTerm-nonpos, minTerm-pos}
@@ -169,19 +169,35 @@ module _ (n : ℕ) (A : List ℤ) (b : ℤ) (B : List ℤ) where
         let e : all n (staysAt A b L B) ≡ true = all-stay met ∙ le-is h in
         rw (some, lt-isn't met, e, stays-box n A b L B len (true→T (all n (staysAt A b L B)) e), moved-same n B)
 
+    -- no point of the box meets the row
+    pub unmet : b <ℤ L → propagateRow n A b B ≡ record { outcome = infeasible; moved = 0; box = emptyBox n }
+    unfolding propagateRow
+    unmet h = rw (some, lt-is h)
+
+    -- something moves: the row is met, and some term is wider than the room
+    pub moving : L ≤ℤ b → (b -ℤ L) <ℤ widestTerm n A B
+        → propagateRow n A b B ≡ record { outcome = changed; moved = movedBounds n B (impliedBox n A b L B); box = impliedBox n A b L B }
+    unfolding propagateRow
+    moving met h = rw (some, lt-isn't met, all-stay met, le-isn't h)
+
     -- one comparison tells whether the row moves anything: where it is not met, b − L is below 0 and so below every width
     pub moves-test : length B ≡ 2 * n → ltZ (b -ℤ L) (widestTerm n A B) ≡ rowMoves n A b B
-    unfolding rowMoves propagateRow isUnchanged
+    unfolding rowMoves isUnchanged
     moves-test len = go (lt-or-ge b L) (lt-or-ge (b -ℤ L) (widestTerm n A B))
       where
         go : (b <ℤ L) ⊎ (L ≤ℤ b) → ((b -ℤ L) <ℤ widestTerm n A B) ⊎ (widestTerm n A B ≤ℤ (b -ℤ L)) → ltZ (b -ℤ L) (widestTerm n A B) ≡ rowMoves n A b B
-        go (inl k) (inl h) = rw (lt-is h, some, lt-is k)
-        go (inr k) (inl h) = rw (lt-is h, some, lt-isn't k, all-stay k, le-isn't h)
+        go (inl k) (inl h) = rw (lt-is h, unmet k)
+        go (inr k) (inl h) = rw (lt-is h, moving k h)
         go k (inr h) = rw (lt-isn't h, quiet len h)
 
-  pub moves-empty : isEmpty n B ≡ true → rowMoves n A b B ≡ true
-  unfolding rowMoves propagateRow isUnchanged
-  moves-empty e = rw e
+  module _ (none : isEmpty n B ≡ true) where
+    pub on-empty : propagateRow n A b B ≡ record { outcome = infeasible; moved = 0; box = B }
+    unfolding propagateRow
+    on-empty = rw none
+
+    pub moves-empty : rowMoves n A b B ≡ true
+    unfolding rowMoves isUnchanged
+    moves-empty = rw on-empty
 
   -- what the answer no says
   pub moves-not : length B ≡ 2 * n → rowMoves n A b B ≡ false → propagateRow n A b B ≡ record { outcome = unchanged; moved = 0; box = B }

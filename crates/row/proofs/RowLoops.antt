@@ -5,7 +5,7 @@ use lib.IntN.{_*ℤ_, _+ℤ_, _-ℤ_, natAbs, negsuc, negℤ, pos, *ℤ-comm, +�
 use lib.ListN.{drop, length, replicate, set}
 use lib.Seq.{getD-set-other, set-getD}
 use lib.Signed.{_<ℤ_, _≤ℤ_, leZ, leZ-yes, ltZ}
-use mathlib.Core.Bool.{Bool, _&&_, false, not, true}
+use mathlib.Core.Bool.{Bool, _&&_, cond, false, not, true, true≢false}
 use mathlib.Core.List.{List, [], _++_, _∷_}
 use mathlib.Core.Logic.{_⊎_, inl, inr}
 use mathlib.Core.Path.{_∙_, _≡_, ap, ap₂, refl, sym}
@@ -15,11 +15,11 @@ use native.Mathlib.Nat.{le-of-suc-le-suc, not-suc-le-zero}
 use native.Mathlib.Numerals.{add-one}
 use native.Mathlib.Omega.{arith}
 use Rattle.integer.specs.Division.{ceilDiv, floorDiv}
-use Rattle.integer.specs.Index.{all, sum}
+use Rattle.integer.specs.Index.{sum}
 use Rattle.integer.specs.Order.{eqZ, maxZ, minZ}
 use Rattle.integer.specs.Range.{Within}
 use Rattle.integer.proofs.DivisionLaws.{ceil-le, floor-le}
-use Rattle.integer.proofs.IndexLaws.{all-more, sum-more, sum-within}
+use Rattle.integer.proofs.IndexLaws.{sum-more, sum-within}
 use Rattle.integer.proofs.Parts.{le-is, le-isn't, leZ-no, lt-is, lt-isn't, zarith, zify}
 use Rattle.integer.proofs.RangeLaws.{within!, within-fits, within-in, within-le, within-lit, within-mul}
 use Rattle.integer.proofs.Tests.{T→false, T→true, cond-ind, eqZ→eq, eq→eqZ}
@@ -29,11 +29,13 @@ use Rattle.model.specs.Valid.{Between}
 use Rattle.model.proofs.BoxLaws.{sameList-refl}
 use Rattle.model.proofs.BoxLoops.{writeTo, writeTo-all, writeTo-late, writeTo-more}
 use Rattle.row.specs.Activity.{maxActivity, maxTerm, minActivity, minTerm}
+use Rattle.row.specs.Moved.{movedBounds}
 use Rattle.row.specs.Outcome.{changed, unchanged}
 use Rattle.row.specs.Propagation.{impliedBox, newLower, newUpper, stays, staysAt}
 use Rattle.row.specs.Redundancy.{zeroRow}
 use Rattle.row.specs.Tightening.{NewRow, tightenAt}
 use Rattle.row.specs.ValidRow.{ImpliesBounds, ValidCoefs}
+use Rattle.row.proofs.ImpliedBoxLaws.{moved-implied}
 
 not-le : {x y : ℤ} → (x ≤ℤ y → ⊥) → y <ℤ x
 not-le {x} {y} h = leZ-no (not-T (leZ x y) (λ t. h (leZ-yes t)))
@@ -240,6 +242,13 @@ flag-clear false e t = sym t ∙ e
 
 -- ---- the bounds of all variables, one after the other
 
+-- a number that a turn raises where its test fails
+count : (p : Bool) {m before now : ℕ} {t : Bool} → before ≡ m → t ≡ not p → ((t ≡ true) × (now ≡ before + 1)) ⊎ ((t ≡ false) × (now ≡ before)) → now ≡ m + cond p 0 1
+count true e f (inl w) = absurd (true≢false (sym (w .0) ∙ f))
+count true e f (inr w) = omega arith
+count false e f (inl w) = omega arith
+count false e f (inr w) = absurd (true≢false (sym f ∙ w .0))
+
 module _ (A : List ℤ) (b L : ℤ) (B : List ℤ) where
   abbrev lows : ℕ → ℤ
   lows j = newLower (at A j) b L (lower B j) (upper B j)
@@ -269,17 +278,16 @@ module _ (A : List ℤ) (b L : ℤ) (B : List ℤ) where
   unfolding impliedBox
   tighten-all n l = writeTo-all lows highs B n l
 
-  -- whether a bound moved so far
-  abbrev pub movedTo : ℕ → Bool
-  movedTo i = not (all i (staysAt A b L B))
+  -- how many bounds of the first i of n variables moved
+  abbrev pub movedTo : ℕ → ℕ → ℕ
+  movedTo n i = movedBounds i B (impliedBox n A b L B)
 
-  pub moved-more : (i : ℕ) {a : ℤ} {P : List ℤ} {before now t : Bool} → a ≡ at A i → P ≡ tightenTo i → before ≡ movedTo i → t ≡ movesAt a b L P i
-      → ((t ≡ true) × (now ≡ true)) ⊎ ((t ≡ false) × (now ≡ before)) → now ≡ movedTo (i + 1)
-  moved-more i e f m g w =
-      let q = g ∙ ap₂ (λ (x : ℤ) (R : List ℤ). movesAt x b L R i) e f in
-      join (all i (staysAt A b L B)) (staysAt A b L B i) m
-      (q ∙ ap₂ (λ (l u : ℤ). not (stays (at A i) b L l u)) (lower-there i) (upper-there i)) w
-      ∙ ap not (sym (all-more (staysAt A b L B) i))
+  pub moved-more : (n i : ℕ) {a : ℤ} {P : List ℤ} {before now : ℕ} {t : Bool} → i < n → a ≡ at A i → P ≡ tightenTo i → before ≡ movedTo n i
+      → t ≡ movesAt a b L P i → ((t ≡ true) × (now ≡ before + 1)) ⊎ ((t ≡ false) × (now ≡ before)) → now ≡ movedTo n (i + 1)
+  moved-more n i k e f m g w =
+      let q = g ∙ ap₂ (λ (x : ℤ) (R : List ℤ). movesAt x b L R i) e f
+      ∙ ap₂ (λ (l u : ℤ). not (stays (at A i) b L l u)) (lower-there i) (upper-there i) in
+      count (staysAt A b L B i) m q w ∙ sym (moved-implied n A b L B i k)
 
 -- ---- a row set to 0, one coefficient after the other
 

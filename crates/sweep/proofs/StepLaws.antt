@@ -4,24 +4,25 @@ use lib.IntN.{_+ℤ_, +ℤ-idr, pos, ℤ}
 use lib.ListN.{getD, set}
 use lib.Seq.{set-getD}
 use lib.Signed.{≤ℤ-refl}
-use mathlib.Core.Bool.{Bool, _&&_, false, not, true}
 use mathlib.Core.List.{List}
-use mathlib.Core.Path.{_∙_, _≡_, ap, refl, sym}
+use mathlib.Core.Path.{_∙_, _≡_, ap, sym}
 use native.Mathlib.Decide.{ℕ-discrete}
 use native.Mathlib.Numerals.{add-one}
 use native.Mathlib.Omega.{arith}
-use Rattle.integer.specs.Index.{all, sum}
-use Rattle.integer.proofs.Tests.{T→true}
+use Rattle.integer.specs.Index.{sum}
 use Rattle.model.specs.Box.{at, lower, upper, withBounds}
 use Rattle.model.proofs.BoxLoops.{writeTo, writeTo-late}
 use Rattle.row.specs.Activity.{greatest}
-use Rattle.row.specs.Propagation.{newLower, newUpper, staysAt}
+use Rattle.row.specs.Moved.{differs, movedBounds}
+use Rattle.row.specs.Propagation.{impliedBox, newLower, newUpper}
 use Rattle.sweep.specs.Steps.{Steps}
-use Rattle.row.proofs.BoundLaws.{eq→stays, newLower-nonneg, newUpper-nonpos}
+use Rattle.row.proofs.BoundLaws.{newLower-nonneg, newUpper-nonpos}
+use Rattle.row.proofs.ImpliedBoxLaws.{lower-implied, upper-implied}
+use Rattle.row.proofs.MovedLaws.{differs-same}
 use Rattle.row.proofs.ReachLaws.{greatest-zero, minTerm-zero, minTermAt, termWidth-zero, widthAt}
 use Rattle.row.proofs.RowLoops.{movedTo, tightenTo}
 
--- ---- sums, boxes and tests over a stretch where nothing happens
+-- ---- sums, boxes and counts over a stretch where nothing happens
 
 sum-skip : (f : ℕ → ℤ) (i k : ℕ) → i ≤ k → ((j : ℕ) → i ≤ j → j < k → f j ≡ pos 0) → sum i f ≡ sum k f
 unfolding sum
@@ -32,18 +33,18 @@ sum-skip f i (suc k) h z = go (ℕ-discrete i (suc k)) (λ (q : i ≤ k). sum-sk
     go (yes e) r = ap (λ (q : ℕ). sum q f) e
     go (no ne) r = r (omega arith) ∙ sym (+ℤ-idr (sum k f)) ∙ ap (λ (x : ℤ). sum k f +ℤ x) (sym (z k (omega arith) (omega arith)))
 
-and-true : (p : Bool) → (p && true) ≡ p
-and-true true = refl
-and-true false = refl
-
-all-skip : (f : ℕ → Bool) (i k : ℕ) → i ≤ k → ((j : ℕ) → i ≤ j → j < k → f j ≡ true) → all i f ≡ all k f
-unfolding all
-all-skip f i zero h z = ap (λ (q : ℕ). all q f) (let e : i ≡ 0 = omega arith in e)
-all-skip f i (suc k) h z = go (ℕ-discrete i (suc k)) (λ (q : i ≤ k). all-skip f i k q (λ j a b. z j a (omega arith)))
+moved-skip : (B P : List ℤ) (i k : ℕ) → i ≤ k → ((j : ℕ) → i ≤ j → j < k → (lower P j ≡ lower B j) × (upper P j ≡ upper B j))
+    → movedBounds i B P ≡ movedBounds k B P
+unfolding movedBounds
+moved-skip B P i zero h z = ap (λ (q : ℕ). movedBounds q B P) (let e : i ≡ 0 = omega arith in e)
+moved-skip B P i (suc k) h z = go (ℕ-discrete i (suc k)) (λ (q : i ≤ k). moved-skip B P i k q (λ j a b. z j a (omega arith)))
   where
-    go : Dec (i ≡ suc k) → (i ≤ k → all i f ≡ all k f) → all i f ≡ (all k f && f k)
-    go (yes e) r = ap (λ (q : ℕ). all q f) e
-    go (no ne) r = r (omega arith) ∙ sym (and-true (all k f)) ∙ ap (λ (x : Bool). all k f && x) (sym (z k (omega arith) (omega arith)))
+    go : Dec (i ≡ suc k) → (i ≤ k → movedBounds i B P ≡ movedBounds k B P)
+        → movedBounds i B P ≡ movedBounds k B P + (differs (lower B k) (lower P k) + differs (upper B k) (upper P k))
+    go (yes e) r = ap (λ (q : ℕ). movedBounds q B P) e
+    go (no ne) r =
+        let w = z k (omega arith) (omega arith) in
+        rw (w .0, w .1) (omega (arith, r (omega arith), differs-same (lower B k), differs-same (upper B k)))
 
 same-bounds : (P : List ℤ) (j : ℕ) {l u : ℤ} → l ≡ lower P j → u ≡ upper P j → withBounds P j l u ≡ P
 unfolding withBounds
@@ -95,6 +96,8 @@ module _ {n : ℕ} {A : List ℤ} {S : List ℕ} (v : Steps n A S) {j : ℕ} (h 
     pub step-box : tightenTo A b L B (j + 1) ≡ tightenTo A b L B (j + getD S j 0)
     step-box = write-skip _ _ B (j + 1) (j + getD S j 0) at-least-one (λ k a c. (low-stays k a c, high-stays k a c))
 
-    pub step-moved : movedTo A b L B (j + 1) ≡ movedTo A b L B (j + getD S j 0)
-    step-moved = ap not (all-skip (staysAt A b L B) (j + 1) (j + getD S j 0) at-least-one
-        (λ k a c. T→true (staysAt A b L B k) (eq→stays (at A k) b L (lower B k) (upper B k) (low-stays k a c) (high-stays k a c))))
+    pub step-moved : movedTo A b L B n (j + 1) ≡ movedTo A b L B n (j + getD S j 0)
+    step-moved = moved-skip B (impliedBox n A b L B) (j + 1) (j + getD S j 0) at-least-one (λ k a c. let m : k < n = omega (arith, v .within j h) in (
+      lower-implied n A b L B k m ∙ low-stays k a c,
+      upper-implied n A b L B k m ∙ high-stays k a c,
+    ))

@@ -1,24 +1,21 @@
--- `sweep::propagate_row_by` is propagateRow: where no term is wider than the room nothing moves (`quiet`); else its tests are
--- the definition's, and the callees do the rest. Assumes nothing.
+-- `sweep::propagate_row_by` is propagateRow: each way out is one of its four cases (`on-empty`, `quiet`, `unmet`, `moving`), told
+-- by the least sum and the widest term, and the callees do the rest. Assumes nothing.
 use Prim.Native.Nat.{ℕ}
 use borrow.Author.Needs.{needs}
-use lib.IntN.{ℤ}
+use lib.IntN.{_-ℤ_, ℤ}
 use lib.ListN.{length}
 use lib.Signed.{_≤ℤ_}
-use mathlib.Core.Bool.{Bool, false, not}
+use mathlib.Core.Bool.{false}
 use mathlib.Core.List.{List}
 use mathlib.Core.Path.{_∙_, _≡_, refl, sym}
 use mir.Syntax.{w32, w64}
 use mir.Val.{ofZ, toZ}
-use Rattle.integer.specs.Index.{all}
-use Rattle.integer.proofs.Parts.{lt-is, lt-isn't}
 use Rattle.model.specs.Box.{isEmpty}
-use Rattle.row.specs.Activity.{minActivity}
-use Rattle.row.specs.Answers.{propagationOutcome}
-use Rattle.row.specs.Propagation.{impliedBox, propagateRow, staysAt}
-use Rattle.integer.proofs.Reading.{ge-read, le-read, lt-read, read-wide, wide-fits}
-use Rattle.row.proofs.ReachLaws.{least-read, quiet, slack-fits, slack-read, widest-read}
-use Rattle.row.proofs.RowLoops.{bounds-small, coefs-small, flag-clear, flag-set, min-activity-small, rhs-within}
+use Rattle.integer.proofs.Reading.{ge-read, gt-read, le-read, lt-read, read-wide, wide-fits}
+use Rattle.row.specs.Activity.{minActivity, widestTerm}
+use Rattle.row.specs.Answers.{propagatedRowOf}
+use Rattle.row.proofs.ReachLaws.{least-read, moving, on-empty, quiet, slack, slack-fits, slack-read, unmet, widest-read}
+use Rattle.row.proofs.RowLoops.{bounds-small, coefs-small, min-activity-small, rhs-within}
 use Rattle.sweep.proofs.propagate_row_by.Statement.{statement}
 use Rattle.sweep.proofs.propagate_row_by.Tie as tie
 
@@ -29,11 +26,10 @@ same-length : tie.Need-same-length
 same-length c = search needs
 
 returns : tie.Need-returns
-unfolding propagateRow propagationOutcome
+unfolding propagatedRowOf
 returns c =
     let s = c .before .before .before .before in
-    let e = sym (c .before .is-empty .ensures _ (s .pre .0 .coefs .some) (s .pre .0 .coefs .box)) ∙ c .if1 .taken in
-    rw e (refl, refl)
+    sym (on-empty _ _ _ _ (sym (c .before .is-empty .ensures _ (s .pre .0 .coefs .some) (s .pre .0 .coefs .box)) ∙ c .if1 .taken))
 
 cast-rhs : tie.Need-cast-rhs
 cast-rhs c = wide-fits (c .before .before .before .before .fits .b)
@@ -64,6 +60,12 @@ module _ (c : tie.After-reach-by) where
   least-is : toZ w64 (ofZ w64 (c .reach-by .result .least)) ≡ minActivity n A B
   least-is = least-read (s .pre .0) (c .reach-by .ensures .0) (c .reach-by .ensures .1)
 
+  room-is : toZ w64 (ofZ w64 (slack (s .pre .0) (c .reach-by .ensures .0) (c .reach-by .ensures .1))) ≡ s .args .b -ℤ minActivity n A B
+  room-is = slack-read (s .pre .0) (c .reach-by .ensures .0) (c .reach-by .ensures .1)
+
+  widest-is : toZ w64 (ofZ w64 (c .reach-by .result .widest)) ≡ widestTerm n A B
+  widest-is = widest-read (s .pre .0) (c .reach-by .ensures .0) (c .reach-by .ensures .1)
+
 sub-if2 : tie.Need-sub-if2
 sub-if2 c =
     let m = c .before in
@@ -74,12 +76,10 @@ same-length-2 : tie.Need-same-length-2
 same-length-2 c = search needs
 
 returns-2 : tie.Need-returns-2
-unfolding propagationOutcome
+unfolding propagatedRowOf
 returns-2 c =
     let m = c .before .before .before .before in
-    let e = m .reach-by .ensures in
-    let h = le-read (widest-read (s m .pre .0) (e .0) (e .1)) (slack-read (s m .pre .0) (e .0) (e .1)) (c .if2 .taken) in
-    rw (quiet (n m) (A m) (s m .args .b) (B m) (some m) (s m .pre .0 .coefs .box .len) h) (refl, refl)
+    sym (quiet (n m) (A m) (s m .args .b) (B m) (some m) (s m .pre .0 .coefs .box .len) (le-read (widest-is m) (room-is m) (c .if2 .taken)))
 
 make-empty-requires : tie.Need-make-empty-requires
 make-empty-requires c κs = search needs
@@ -92,12 +92,12 @@ abbrev found : tie.Else2 → tie.After-reach-by
 found e = e .before .before .before .before
 
 returns-3 : tie.Need-returns-3
-unfolding propagateRow propagationOutcome
+unfolding propagatedRowOf
 returns-3 c =
     let t = c .before .before .before in
     let m = found (t .before) in
     let h = lt-read (rhs-is m) (least-is m) (t .if3 .taken) in
-    rw (some m, lt-is h) (refl, c .before .make-empty .ensures _ (s m .pre .0 .coefs .box .len))
+    rw (c .before .make-empty .ensures _ (s m .pre .0 .coefs .box .len)) (sym (unmet (n m) (A m) (s m .args .b) (B m) (some m) h))
 
 met : (c : tie.Else3) → let m = found (c .before) in minActivity (n m) (A m) (B m) ≤ℤ s m .args .b
 met c = let m = found (c .before) in ge-read (rhs-is m) (least-is m) (c .if3 .left)
@@ -123,36 +123,14 @@ tighten-bounds-by-requires c κs =
 same-length-4 : tie.Need-same-length-4
 same-length-4 c = search needs
 
--- what `tighten_bounds_by` left and said
-module _ (c : tie.After-tighten-bounds-by) where
-  abbrev row : tie.After-reach-by
-  row = found (c .before .before .before)
-
-  abbrev least : ℤ
-  least = minActivity (n row) (A row) (B row)
-
-  abbrev stayed : Bool
-  stayed = all (n row) (staysAt (A row) (s row .args .b) least (B row))
-
-  tightened : (c .tighten-bounds-by .last .1 .1 .1 .1 .0 ≡ impliedBox (n row) (A row) (s row .args .b) least (B row)) × (c .tighten-bounds-by .result ≡ not stayed)
-  tightened = rw (rhs-is row, least-is row) at (c .tighten-bounds-by .ensures)
-
 returns-4 : tie.Need-returns-4
-unfolding propagateRow propagationOutcome
+unfolding propagatedRowOf
 returns-4 c =
-    let t = c .before .before in
-    let e = flag-set (stayed t) (tightened t .1) (c .if4 .taken) in
-    rw (some (row t), lt-isn't (met (t .before .before)), e) (refl, tightened t .0)
-
-same-length-5 : tie.Need-same-length-5
-same-length-5 c = search needs
-
-returns-5 : tie.Need-returns-5
-unfolding propagateRow propagationOutcome
-returns-5 c =
-    let t = c .before .before in
-    let e = flag-clear (stayed t) (tightened t .1) (c .if4 .left) in
-    rw (some (row t), lt-isn't (met (t .before .before)), e) (refl, tightened t .0)
+    let t = c .before in
+    let e = t .before .before in
+    let m = found (e .before) in
+    let told = rw (rhs-is m, least-is m) at (t .tighten-bounds-by .ensures) in
+    rw (told .0, told .1) (sym (moving (n m) (A m) (s m .args .b) (B m) (some m) (met e) (gt-read (widest-is m) (room-is m) (e .before .if2 .left))))
 
 pub propagate-row-by-spec : {M : Type 1} → statement M
 propagate-row-by-spec =
@@ -171,6 +149,4 @@ propagate-row-by-spec =
     returns-3
     tighten-bounds-by-requires
     same-length-4
-    returns-4
-    same-length-5
-    returns-5)
+    returns-4)

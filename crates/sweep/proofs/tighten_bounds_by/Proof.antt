@@ -1,5 +1,6 @@
 -- `sweep::tighten_bounds_by`: the invariant says that the bounds of the variables so far are the implied ones (`writeTo`), and
--- that `moved` tells whether one of them differs. A variable not yet visited has its old bounds (`writeTo-late`). Assumes nothing.
+-- that `moved` tells how many of them differ (`moved-more`, `step-moved`). A variable not yet visited has its old bounds
+-- (`writeTo-late`). Assumes nothing.
 use Prim.Native.Nat.{_*_, _+_, _-_, _<_, _≤_, ℕ}
 use lib.IntN.{ℤ}
 use lib.ListN.{getD, length}
@@ -10,11 +11,13 @@ use mir.Facts.{toZ-ofZ}
 use mir.Syntax.{w32, w64}
 use mir.Val.{ofZ, toZ}
 use native.Mathlib.Omega.{arith}
-use Rattle.integer.specs.Index.{all}
 use Rattle.integer.proofs.RangeLaws.{within-fits}
 use Rattle.model.specs.Box.{at, lower, upper}
 use Rattle.model.proofs.BoxLoops.{writeTo}
+use Rattle.row.specs.Moved.{movedBounds}
+use Rattle.row.specs.Propagation.{impliedBox}
 use Rattle.row.specs.ValidRow.{ImpliesBounds}
+use Rattle.row.proofs.MovedLaws.{moved-le}
 use Rattle.row.proofs.RowLoops.{lower-there, moved-more, movedTo, tighten-all, tighten-more, tightenTo, upper-there}
 use Rattle.sweep.proofs.StepLaws.{step-box, step-moved}
 use Rattle.sweep.proofs.tighten_bounds_by.Statement.{statement}
@@ -25,13 +28,13 @@ Inv-loop coefs steps b least bounds₀ moved₀ j₀ bounds moved j =
     (j ≤ length coefs)
     × (length bounds ≡ length bounds₀)
     × (bounds ≡ tightenTo coefs (toZ w64 b) (toZ w64 least) bounds₀ j)
-    × (moved ≡ movedTo coefs (toZ w64 b) (toZ w64 least) bounds₀ j)
+    × (moved ≡ movedTo coefs (toZ w64 b) (toZ w64 least) bounds₀ (length coefs) j)
 
 abbrev μ-loop : tie.MeasureT-loop
 μ-loop coefs steps b least bounds₀ moved₀ j₀ bounds moved j = length coefs - j
 
 loop-holds : tie.Need-loop-holds Inv-loop μ-loop
-unfolding writeTo all
+unfolding writeTo movedBounds
 loop-holds c = (omega arith, refl, refl, refl)
 
 mul-tighten-bounds-at : tie.Need-mul-tighten-bounds-at Inv-loop μ-loop
@@ -97,6 +100,11 @@ tighten-bounds-at-requires c κs =
     let h = c .before .before .before in
     (rw (a-is h, b-is h, least-is h, l-is h, u-is h) (implies h), omega (arith, s h .pre .0 .len, s h .pre .0 .boxLen))
 
+add-moved : tie.Need-add-moved Inv-loop μ-loop
+add-moved c =
+    let h = c .before .before .before .before .before .before in
+    omega (arith, s h .pre .0 .few, h .loop .inv .3, moved-le (j h) (B h) (impliedBox (length (A h)) (A h) (b h) (L h) (B h)))
+
 shared-slice-read-j : tie.Need-shared-slice-read-j Inv-loop μ-loop
 shared-slice-read-j c = omega (arith, s (c .before .before .before .before .before .before .before) .pre .1 .len)
 
@@ -117,7 +125,7 @@ loop-again c =
       step-in h k,
       call .kept .1 .1 .1 .0 ∙ h .loop .inv .1,
       tighten-more (A h) (b h) (L h) (B h) (j h) (a-is h) (h .loop .inv .2) (call .ensures .0) ∙ step-box (s h .pre .1) k (b h) (L h) (B h),
-      moved-more (A h) (b h) (L h) (B h) (j h) (a-is h) (h .loop .inv .2) (h .loop .inv .3) (call .ensures .1)
+      moved-more (A h) (b h) (L h) (B h) (length (A h)) (j h) k (a-is h) (h .loop .inv .2) (h .loop .inv .3) (call .ensures .1)
           (⊎-elim (λ w. inl (w .0 .taken, w .1)) (λ w. inr (w .0 .left, w .1)) (c .before .if1 .came))
           ∙ step-moved (s h .pre .1) k (b h) (L h) (B h),
     )
@@ -135,8 +143,8 @@ returns c =
           ∙ ap (tightenTo (A h) (s h .args .b) (s h .args .least) (B h)) end
           ∙ tighten-all (A h) (s h .args .b) (s h .args .least) (B h) n (s h .pre .0 .boxLen),
       h .loop .inv .3
-          ∙ ap₂ (λ (x y : ℤ). movedTo (A h) x y (B h) (j h)) (b-is h) (least-is h)
-          ∙ ap (movedTo (A h) (s h .args .b) (s h .args .least) (B h)) end,
+          ∙ ap₂ (λ (x y : ℤ). movedTo (A h) x y (B h) n (j h)) (b-is h) (least-is h)
+          ∙ ap (movedTo (A h) (s h .args .b) (s h .args .least) (B h) n) end,
     )
 
 pub tighten-bounds-by-spec : {M : Type 1} → statement M
@@ -149,6 +157,7 @@ tighten-bounds-by-spec =
     mul-tighten-bounds-at
     shared-slice-copy-out-tighten-bounds-at
     tighten-bounds-at-requires
+    add-moved
     shared-slice-read-j
     cast-j
     add-j

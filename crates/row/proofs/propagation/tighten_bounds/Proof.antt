@@ -1,0 +1,149 @@
+-- `row::propagation::tighten_bounds`: the invariant says that the bounds of the variables so far are the implied ones (`writeTo`), and
+-- that `moved` tells how many of them differ (`moved-more`). A variable not yet visited has its old bounds (`writeTo-late`). Assumes nothing.
+use Prim.Native.Nat.{_*_, _+_, _-_, _≤_, ℕ}
+use lib.IntN.{ℤ}
+use lib.ListN.{length}
+use mathlib.Core.List.{List}
+use mathlib.Core.Logic.{inl, inr, ⊎-elim}
+use mathlib.Core.Path.{_∙_, _≡_, ap, ap₂, refl}
+use mir.Facts.{toZ-ofZ}
+use mir.Syntax.{w32, w64}
+use mir.Val.{ofZ, toZ}
+use native.Mathlib.Omega.{arith}
+use Rattle.integer.proofs.RangeLaws.{within-fits}
+use Rattle.model.specs.Box.{at, lower, upper}
+use Rattle.model.proofs.BoxLoops.{writeTo}
+use Rattle.row.specs.Moved.{movedBounds}
+use Rattle.row.specs.Propagation.{impliedBox}
+use Rattle.row.specs.ValidRow.{ImpliesBounds}
+use Rattle.row.proofs.MovedLaws.{moved-le}
+use Rattle.row.proofs.RowLoops.{lower-there, moved-more, movedTo, tighten-all, tighten-more, tightenTo, upper-there}
+use Rattle.row.proofs.propagation.tighten_bounds.Statement.{statement}
+use Rattle.row.proofs.propagation.tighten_bounds.Tie as tie
+
+abbrev Inv-loop : tie.InvT-loop
+Inv-loop coefs b least bounds₀ moved₀ j₀ bounds moved j =
+    (j ≤ length coefs)
+    × (length bounds ≡ length bounds₀)
+    × (bounds ≡ tightenTo coefs (toZ w64 b) (toZ w64 least) bounds₀ j)
+    × (moved ≡ movedTo coefs (toZ w64 b) (toZ w64 least) bounds₀ (length coefs) j)
+
+abbrev μ-loop : tie.MeasureT-loop
+μ-loop coefs b least bounds₀ moved₀ j₀ bounds moved j = length coefs - j
+
+loop-holds : tie.Need-loop-holds Inv-loop μ-loop
+unfolding writeTo movedBounds
+loop-holds c = (omega arith, refl, refl, refl)
+
+mul-tighten-bounds-at : tie.Need-mul-tighten-bounds-at Inv-loop μ-loop
+mul-tighten-bounds-at c = omega arith
+
+shared-slice-copy-out-tighten-bounds-at :
+    tie.Need-shared-slice-copy-out-tighten-bounds-at Inv-loop μ-loop
+shared-slice-copy-out-tighten-bounds-at c = omega arith
+
+-- in a turn
+module _ (h : tie.At-loop Inv-loop μ-loop) where
+  abbrev s : tie.Start Inv-loop μ-loop
+  s = h .before
+
+  abbrev A : List ℤ
+  A = s .args .coefs .now
+
+  abbrev B : List ℤ
+  B = s .args .bounds .now
+
+  abbrev b : ℤ
+  b = toZ w64 (ofZ w64 (s .args .b))
+
+  abbrev L : ℤ
+  L = toZ w64 (ofZ w64 (s .args .least))
+
+  abbrev j : ℕ
+  j = h .loop .j
+
+  a-is : toZ w32 (ofZ w32 (at A j)) ≡ at A j
+  a-is = toZ-ofZ {w = w32} (within-fits w32 tt (s .pre .coefs j))
+
+  b-is : b ≡ s .args .b
+  b-is = toZ-ofZ {w = w64} (s .fits .b)
+
+  least-is : L ≡ s .args .least
+  least-is = toZ-ofZ {w = w64} (s .fits .least)
+
+  l-is : lower (h .loop .bounds) j ≡ lower B j
+  l-is = ap (λ (P : List ℤ). lower P j) (h .loop .inv .2) ∙ lower-there A b L B j
+
+  u-is : upper (h .loop .bounds) j ≡ upper B j
+  u-is = ap (λ (P : List ℤ). upper P j) (h .loop .inv .2) ∙ upper-there A b L B j
+
+  implies : ImpliesBounds (at A j) (s .args .b) (s .args .least) (lower B j) (upper B j)
+  implies = record {
+    coef = s .pre .coefs j;
+    rhs = s .pre .rhs;
+    activity = s .pre .activity;
+    met = s .pre .met;
+    low = s .pre .bounds (2 * j);
+    high = s .pre .bounds (2 * j + 1);
+  }
+
+tighten-bounds-at-requires : tie.Need-tighten-bounds-at-requires Inv-loop μ-loop
+tighten-bounds-at-requires c κs =
+    let h = c .before .before .before in
+    (rw (a-is h, b-is h, least-is h, l-is h, u-is h) (implies h), omega (arith, s h .pre .len, s h .pre .boxLen))
+
+add-moved : tie.Need-add-moved Inv-loop μ-loop
+add-moved c =
+    let h = c .before .before .before .before .before .before in
+    omega (arith, s h .pre .few, h .loop .inv .3, moved-le (j h) (B h) (impliedBox (length (A h)) (A h) (b h) (L h) (B h)))
+
+add-j : tie.Need-add-j Inv-loop μ-loop
+add-j c = omega arith
+
+loop-less : tie.Need-loop-less Inv-loop μ-loop
+loop-less c = omega arith
+
+loop-again : tie.Need-loop-again Inv-loop μ-loop
+loop-again c =
+    let h = c .before .before .before .before .before .before in
+    let call = c .before .before .tighten-bounds-at in (
+      omega arith,
+      call .kept .1 .1 .1 .0 ∙ h .loop .inv .1,
+      tighten-more (A h) (b h) (L h) (B h) (j h) (a-is h) (h .loop .inv .2) (call .ensures .0),
+      moved-more (A h) (b h) (L h) (B h) (length (A h)) (j h) (omega arith) (a-is h) (h .loop .inv .2) (h .loop .inv .3) (call .ensures .1)
+          (⊎-elim (λ w. inl (w .0 .taken, w .1)) (λ w. inr (w .0 .left, w .1)) (c .if1 .came)),
+    )
+
+same-length : tie.Need-same-length Inv-loop μ-loop
+same-length c = omega arith
+
+returns : tie.Need-returns Inv-loop μ-loop
+returns c =
+    let h = c .before in
+    let n = length (A h) in
+    let end : h .loop .j ≡ n = omega arith in (
+      h .loop .inv .2
+          ∙ ap₂ (λ (x y : ℤ). tightenTo (A h) x y (B h) (j h)) (b-is h) (least-is h)
+          ∙ ap (tightenTo (A h) (s h .args .b) (s h .args .least) (B h)) end
+          ∙ tighten-all (A h) (s h .args .b) (s h .args .least) (B h) n (s h .pre .boxLen),
+      h .loop .inv .3
+          ∙ ap₂ (λ (x y : ℤ). movedTo (A h) x y (B h) n (j h)) (b-is h) (least-is h)
+          ∙ ap (movedTo (A h) (s h .args .b) (s h .args .least) (B h) n) end,
+    )
+
+pub tighten-bounds-spec : {M : Type 1} → statement M
+tighten-bounds-spec =
+    tie.close
+    (tie.spec
+    Inv-loop
+    μ-loop
+    loop-holds
+    mul-tighten-bounds-at
+    shared-slice-copy-out-tighten-bounds-at
+    tighten-bounds-at-requires
+    add-moved
+    add-j
+    loop-less
+    loop-again
+    same-length
+    returns)
