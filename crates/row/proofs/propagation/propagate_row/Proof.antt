@@ -1,149 +1,56 @@
--- `row::propagation::propagate_row` is propagateRow: each way out is one of its four cases (`on-empty`, `quiet`, `unmet`, `moving`), told
--- by the least sum and the widest term, and the callees do the rest. Assumes nothing.
-use Prim.Native.Nat.{ℕ}
 use borrow.Author.Needs.{needs}
-use lib.IntN.{_-ℤ_, ℤ}
-use lib.ListN.{length}
-use lib.Signed.{_≤ℤ_}
-use mathlib.Core.Bool.{false}
-use mathlib.Core.List.{List}
-use mathlib.Core.Path.{_∙_, _≡_, refl, sym}
-use mir.Syntax.{w32, w64}
-use mir.Val.{ofZ, toZ}
-use Rattle.model.specs.Box.{isEmpty}
-use Rattle.integer.proofs.Reading.{ge-read, gt-read, le-read, lt-read, read-wide, wide-fits}
-use Rattle.row.specs.Activity.{minActivity, widestTerm}
-use Rattle.row.specs.Answers.{propagatedRowOf}
-use Rattle.row.proofs.ReachLaws.{least-read, moving, on-empty, quiet, slack, slack-fits, slack-read, unmet, widest-read}
-use Rattle.row.proofs.RowLoops.{bounds-small, coefs-small, min-activity-small, rhs-within}
 use Rattle.row.proofs.propagation.propagate_row.Statement.{statement}
 use Rattle.row.proofs.propagation.propagate_row.Tie as tie
+use Rattle.row.proofs.propagation.propagate_row.Reads as reads
+use Rattle.row.proofs.propagation.propagate_row.Lts as lts
+use Rattle.row.proofs.propagation.both.Reads as both-reads
+use Rattle.row.proofs.propagation.propagate_form.Reads as propagate-form-reads
 
-is-empty-requires : tie.Need-is-empty-requires
-is-empty-requires c κs = search needs
+propagate-form-requires : tie.Need-propagate-form-requires
+propagate-form-requires c κs = ?
 
 same-length : tie.Need-same-length
 same-length c = search needs
 
 returns : tie.Need-returns
-unfolding propagatedRowOf
-returns c =
-    let s = c .before .before .before in
-    sym (on-empty _ _ _ _ (sym (c .before .is-empty .ensures _ (s .pre .coefs .some) (s .pre .coefs .box)) ∙ c .if1 .taken))
+returns c = ?
 
-cast-rhs : tie.Need-cast-rhs
-cast-rhs c = wide-fits (c .before .before .before .fits .b)
+enum-told : tie.Need-enum-told
+enum-told c = search needs
 
-reach-of-requires : tie.Need-reach-of-requires
-reach-of-requires c κs = search needs
+sub-propagate-form : tie.Need-sub-propagate-form
+sub-propagate-form c = ?
 
--- the row in a box that is not empty, with its least activity
-module _ (c : tie.After-reach-of) where
-  abbrev s : tie.Start
-  s = c .before .before .before .before .before
+propagate-form-requires-2 : tie.Need-propagate-form-requires-2
+propagate-form-requires-2 c κs = ?
 
-  abbrev A : List ℤ
-  A = s .args .coefs .now
-
-  abbrev B : List ℤ
-  B = s .args .bounds .now
-
-  abbrev n : ℕ
-  n = length A
-
-  some : isEmpty n B ≡ false
-  some = sym (c .before .before .before .is-empty .ensures _ (s .pre .coefs .some) (s .pre .coefs .box)) ∙ c .before .before .if1 .left
-
-  rhs-is : toZ w64 (ofZ w64 (toZ w32 (ofZ w32 (s .args .b)))) ≡ s .args .b
-  rhs-is = read-wide (s .fits .b)
-
-  least-is : toZ w64 (ofZ w64 (c .reach-of .result .least)) ≡ minActivity n A B
-  least-is = least-read (s .pre) (c .reach-of .ensures .0) (c .reach-of .ensures .1)
-
-  room-is : toZ w64 (ofZ w64 (slack (s .pre) (c .reach-of .ensures .0) (c .reach-of .ensures .1))) ≡ s .args .b -ℤ minActivity n A B
-  room-is = slack-read (s .pre) (c .reach-of .ensures .0) (c .reach-of .ensures .1)
-
-  widest-is : toZ w64 (ofZ w64 (c .reach-of .result .widest)) ≡ widestTerm n A B
-  widest-is = widest-read (s .pre) (c .reach-of .ensures .0) (c .reach-of .ensures .1)
-
-sub-if2 : tie.Need-sub-if2
-sub-if2 c =
-    let m = c .before in
-    let e = m .reach-of .ensures in
-    slack-fits (s m .pre) (e .0) (e .1)
+both-requires : tie.Need-both-requires
+both-requires c κs = ?
 
 same-length-2 : tie.Need-same-length-2
 same-length-2 c = search needs
 
 returns-2 : tie.Need-returns-2
-unfolding propagatedRowOf
-returns-2 c =
-    let m = c .before .before .before .before in
-    sym (quiet (n m) (A m) (s m .args .b) (B m) (some m) (s m .pre .coefs .box .len) (le-read (widest-is m) (room-is m) (c .if2 .taken)))
-
-make-empty-requires : tie.Need-make-empty-requires
-make-empty-requires c κs = search needs
+returns-2 c = ?
 
 same-length-3 : tie.Need-same-length-3
 same-length-3 c = search needs
 
--- where something moves
-abbrev found : tie.Else2 → tie.After-reach-of
-found e = e .before .before .before .before
-
 returns-3 : tie.Need-returns-3
-unfolding propagatedRowOf
-returns-3 c =
-    let t = c .before .before .before in
-    let m = found (t .before) in
-    let h = lt-read (rhs-is m) (least-is m) (t .if3 .taken) in
-    rw (c .before .make-empty .ensures _ (s m .pre .coefs .box .len)) (sym (unmet (n m) (A m) (s m .args .b) (B m) (some m) h))
-
-met : (c : tie.Else3) → let m = found (c .before) in minActivity (n m) (A m) (B m) ≤ℤ s m .args .b
-met c = let m = found (c .before) in ge-read (rhs-is m) (least-is m) (c .if3 .left)
-
-tighten-bounds-requires : tie.Need-tighten-bounds-requires
-tighten-bounds-requires c κs =
-    let m = found (c .before .before) in
-    let v = s m .pre .coefs in
-    rw (rhs-is m, least-is m) (record {
-      len = refl;
-      boxLen = v .box .len;
-      few = v .few;
-      coefs = coefs-small v;
-      rhs = rhs-within (s m .pre .rhs);
-      activity = min-activity-small v;
-      met = met (c .before);
-      bounds = bounds-small v;
-    })
-
-same-length-4 : tie.Need-same-length-4
-same-length-4 c = search needs
-
-returns-4 : tie.Need-returns-4
-unfolding propagatedRowOf
-returns-4 c =
-    let t = c .before in
-    let e = t .before .before in
-    let m = found (e .before) in
-    let told = rw (rhs-is m, least-is m) at (t .tighten-bounds .ensures) in
-    rw (told .0, told .1) (sym (moving (n m) (A m) (s m .args .b) (B m) (some m) (met e) (gt-read (widest-is m) (room-is m) (e .before .if2 .left))))
+returns-3 c = ?
 
 pub propagate-row-spec : {M : Type 1} → statement M
 propagate-row-spec =
     tie.close
     (tie.spec
-    is-empty-requires
+    propagate-form-requires
     same-length
     returns
-    cast-rhs
-    reach-of-requires
-    sub-if2
+    enum-told
+    sub-propagate-form
+    propagate-form-requires-2
+    both-requires
     same-length-2
     returns-2
-    make-empty-requires
     same-length-3
-    returns-3
-    tighten-bounds-requires
-    same-length-4
-    returns-4)
+    returns-3)
