@@ -23,7 +23,7 @@ enum-known-second : tie.Need-enum-known-second
 enum-known-second c = search needs
 
 add-t6 : tie.Need-add-t6
-add-t6 c = c .before .before .before .before .before .before .pre .few _ _ (c .before .before .before .before .first .given .1) (c .before .second .given .1)
+add-t6 c = let h = c .before .before .before .before .before .before .pre .few _ _ (c .before .before .before .before .first .given .1) (c .before .second .given .1) in omega (arith, h)
 
 enum-told-2 : tie.Need-enum-told-2
 enum-told-2 c = search needs
