@@ -60,7 +60,7 @@ static uint32_t search(Box box, unsigned depth)
 
     printf("%*snode %u: ", 2 * (int)depth, "", ++nodes);
     if (answer[0] == ASTROLABE_PROPAGATE_INFEASIBLE) {
-        printf("infeasible, passes %u\n", (unsigned)answer[1]);
+        printf("infeasible, passes %u, moved %u\n", (unsigned)answer[1], (unsigned)answer[2]);
         return ASTROLABE_OK;
     }
     size_t j = first_unfixed(box);
@@ -68,7 +68,7 @@ static uint32_t search(Box box, unsigned depth)
         print_solution(box);
         return ASTROLABE_OK;
     }
-    printf("branch on x%u, passes %u\n", (unsigned)j, (unsigned)answer[1]);
+    printf("branch on x%u, passes %u, moved %u\n", (unsigned)j, (unsigned)answer[1], (unsigned)answer[2]);
 
     /* x <= middle on one branch, x > middle on the other; each searches its own copy of the bounds. */
     int32_t middle = box[2 * j] + (box[2 * j + 1] - box[2 * j]) / 2;

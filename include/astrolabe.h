@@ -10,8 +10,8 @@
  * It lives in the caller's memory, in flat buffers; nothing is kept between calls.
  *
  *     buffer   type       count   what                                            range of each number
- *     bounds   int32_t    2n      l0 u0 l1 u1 ..: lower and upper bounds;         -32,768 .. 32,767
- *                                 together they are the box
+ *     bounds   int32_t    2n      l0 u0 l1 u1 ..: lower and upper bounds;         -32,768 .. 32,767,
+ *                                 together they are the box                       u - l at most 4,096
  *     coefs    int32_t    m*n     the rows' coefficients, row after row           -1,000,000 .. 1,000,000
  *     rhs      int32_t    m       the rows' right-hand sides                      -1,000,000,000 .. 1,000,000,000
  *     table    uint8_t    4n^2    the implication table: byte p*2n + q is 1       0 or 1
@@ -20,7 +20,7 @@
  *                                 Start it with all 0
  *     calls    uint32_t   4 each  call records: kind, row, variable, budget       any
  *     book     uint8_t    16+     a model as a file, see "Books" below
- *     answer   uint64_t   6       the answer; places that a call does not use
+ *     answer   uint64_t   12      the answer; places that a call does not use
  *                                 are set to 0
  *
  * THE EMPTY BOX (01's void box) has every lower bound 1 and every upper bound 0. It is the only box
@@ -30,12 +30,15 @@
  * A FREE BINARY VARIABLE (01's free 0-1) is one whose bounds are now 0 and 1.
  *
  * WHAT IS PROMISED, and proved for every input: each call does exactly what the specification
- * (document 01) says; the integer points after it are those before it, and no fractional point is
- * added; a call answers INFEASIBLE only where no integer point exists.
+ * (document 01, and 02 where it changes 01) says; the integer points after it are those before it, and
+ * no fractional point is added; a call answers INFEASIBLE only where no integer point exists.
  *
- * REFUSALS. Every function returns ASTROLABE_OK (0), or the number of the first check that fails, in
- * the order of the numbers. On a refusal no lent number changes, the answer's places among them. All
- * that is lent is checked in every call, so a model can be changed freely between calls.
+ * REFUSALS. Every function returns ASTROLABE_OK (0), or the number of the first check that fails. The
+ * order of the checks is that of the numbers but for 23, which came later and stands straight after 7:
+ *     1 2 3 4 5 6 7 23 8 9 10 11 12 13 14 15
+ * Each function's comment lists the checks that it makes, in its order. On a refusal no lent number
+ * changes, the answer's places among them. All that is lent is checked in every call, so a model can be
+ * changed freely between calls.
  *
  * THE CALLER'S FAULT, which no check can see and for which nothing is promised:
  *     - a pointer that is NULL, or does not point to as many elements as its count says, where the
@@ -73,17 +76,19 @@ extern "C" {
 #define ASTROLABE_MAX_ROWS 120
 #define ASTROLABE_MIN_BOUND (-32768)
 #define ASTROLABE_MAX_BOUND 32767
+#define ASTROLABE_MAX_WIDTH 4096     /* u - l of a variable */
 #define ASTROLABE_MAX_COEF 1000000   /* and its negative */
 #define ASTROLABE_MAX_RHS 1000000000 /* and its negative */
-/* The largest budget. It is never spent: no propagation makes more passes. */
+/* The largest budget. It is never spent: the widest box, 128 variables of 4,096, takes at most 524,289 passes. */
 #define ASTROLABE_MAX_BUDGET 8388481
 /* The count of every answer buffer. */
-#define ASTROLABE_ANSWER_LEN 6
+#define ASTROLABE_ANSWER_LEN 12
 /* The bytes of a book's trailer. */
 #define ASTROLABE_TRAILER_LEN 16
 
 /* ---------------------------------------------------------------------------------------------
- * Refusals: 01's "Checks in their order". Each function's comment has those that apply to it.
+ * Refusals: 01's "Checks in their order", and 02's. Each function's comment has those that apply to it,
+ * in the order in which they are made.
  */
 
 #define ASTROLABE_OK 0                           /* accepted */
@@ -102,6 +107,7 @@ extern "C" {
 #define ASTROLABE_REFUSED_VARIABLE 13            /* the variable is not below n */
 #define ASTROLABE_REFUSED_VARIABLE_NOT_FREE 14   /* in a box that is not empty: the variable is not free binary */
 #define ASTROLABE_REFUSED_BUDGET 15              /* the budget is not 1 to 8,388,481 */
+#define ASTROLABE_REFUSED_VARIABLE_TOO_WIDE 23   /* u - l of a variable is over 4,096; made straight after 7 */
 
 /* ---------------------------------------------------------------------------------------------
  * Propagation
@@ -109,7 +115,7 @@ extern "C" {
 
 /* Cases of astrolabe_propagate_row, answer[0]. */
 #define ASTROLABE_ROW_INFEASIBLE 0 /* 01's None: the box is empty now */
-#define ASTROLABE_ROW_TIGHTENED 1  /* 01's Narrowed: a bound moved */
+#define ASTROLABE_ROW_TIGHTENED 1  /* 01's Narrowed: bounds moved */
 #define ASTROLABE_ROW_UNCHANGED 2  /* 01's Same */
 
 /*
@@ -118,8 +124,9 @@ extern "C" {
  *
  *     bounds      written   narrowed, or made the empty box
  *     answer[0]   ASTROLABE_ROW_..
+ *     answer[1]   the bounds moved: those that differ before and after. TIGHTENED: 1 to n; else 0
  *
- * Refused by 3, 5 to 9, 12. On the empty box: infeasible.
+ * Refused by 3 5 6 7 23 8 9 12, in this order. On the empty box: infeasible.
  */
 uint32_t astrolabe_propagate_row(size_t n, size_t m,
                                  int32_t *bounds, size_t bounds_len,
@@ -140,8 +147,11 @@ uint32_t astrolabe_propagate_row(size_t n, size_t m,
  *     bounds      written   narrowed, or made the empty box
  *     answer[0]   ASTROLABE_PROPAGATE_..
  *     answer[1]   the passes made, 1 to budget; a pass that an infeasible row breaks off counts
+ *     answer[2]   the bounds moved, summed over the rows' propagations: a bound counts each time that it
+ *                 moves. An infeasible row adds nothing; what moved before it, in its pass too, is in the
+ *                 sum. At least answer[1] - 1, at most the total width that was lost: 32 bits hold it
  *
- * Refused by 3, 5 to 9, 15. On the empty box: infeasible with 1 pass.
+ * Refused by 3 5 6 7 23 8 9 15, in this order. On the empty box: infeasible with 1 pass, 0 moved.
  */
 uint32_t astrolabe_propagate(size_t n, size_t m,
                              int32_t *bounds, size_t bounds_len,
@@ -171,10 +181,13 @@ uint32_t astrolabe_propagate(size_t n, size_t m,
  *                 INFEASIBLE: 0
  *     answer[2]   the passes of side 0
  *     answer[3]   1 where side 0 spent its budget, else 0; 0 where side 0 is infeasible
- *     answer[4]   the passes of side 1
- *     answer[5]   1 where side 1 spent its budget, else 0; 0 where side 1 is infeasible
+ *     answer[4]   the bounds that the propagation of side 0 moved, as answer[2] of astrolabe_propagate; that
+ *                 the variable is set is not counted
+ *     answer[5]   the passes of side 1
+ *     answer[6]   1 where side 1 spent its budget, else 0; 0 where side 1 is infeasible
+ *     answer[7]   the bounds that the propagation of side 1 moved
  *
- * Refused by 3, 5 to 10, 13, 14, 15. On the empty box: infeasible with 0 passes for each side.
+ * Refused by 3 5 6 7 23 8 9 10 13 14 15, in this order. On the empty box: infeasible, all else 0.
  */
 uint32_t astrolabe_probe(size_t n, size_t m,
                          int32_t *bounds, size_t bounds_len,
@@ -195,7 +208,7 @@ uint32_t astrolabe_probe(size_t n, size_t m,
  *
  *     answer[0]   ASTROLABE_FIXPOINT_..
  *
- * Refused by 3, 5 to 9.
+ * Refused by 3 5 6 7 23 8 9, in this order.
  */
 uint32_t astrolabe_is_probing_fixpoint(size_t n, size_t m,
                                        const int32_t *bounds, size_t bounds_len,
@@ -222,7 +235,7 @@ uint32_t astrolabe_is_probing_fixpoint(size_t n, size_t m,
  *     rhs         written   one right-hand side, where the coefficient is positive
  *     answer[0]   ASTROLABE_TIGHTEN_..
  *
- * Refused by 3, 5 to 9, 12, 13, 14. On the empty box: infeasible.
+ * Refused by 3 5 6 7 23 8 9 12 13 14, in this order. On the empty box: infeasible.
  */
 uint32_t astrolabe_tighten_coefficient(size_t n, size_t m,
                                        const int32_t *bounds, size_t bounds_len,
@@ -244,7 +257,7 @@ uint32_t astrolabe_tighten_coefficient(size_t n, size_t m,
  *     rhs         written   one right-hand side
  *     answer[0]   ASTROLABE_REMOVE_..
  *
- * Refused by 3, 5 to 9, 12. On the empty box: infeasible.
+ * Refused by 3 5 6 7 23 8 9 12, in this order. On the empty box: infeasible.
  */
 uint32_t astrolabe_remove_redundant_row(size_t n, size_t m,
                                         const int32_t *bounds, size_t bounds_len,
@@ -276,7 +289,7 @@ uint32_t astrolabe_remove_redundant_row(size_t n, size_t m,
  *     answer[3]   other calls that changed nothing
  *
  * The four add up to calls_len / 4. An empty list is accepted.
- * The list as a whole is refused by 3, 5 to 10; a calls_len that is not a multiple of four is 5.
+ * The list as a whole is refused by 3 5 6 7 23 8 9 10, in this order; a calls_len that is not a multiple of four is 5.
  */
 uint32_t astrolabe_run(size_t n, size_t m,
                        int32_t *bounds, size_t bounds_len,
@@ -301,7 +314,7 @@ uint32_t astrolabe_run(size_t n, size_t m,
  *     answer[0]   ASTROLABE_ROUNDS_..
  *     answer[1]   the rounds made, the last one included
  *
- * Refused by 3, 5 to 10.
+ * Refused by 3 5 6 7 23 8 9 10, in this order.
  */
 uint32_t astrolabe_rounds(size_t n, size_t m,
                           int32_t *bounds, size_t bounds_len,
@@ -327,7 +340,7 @@ uint32_t astrolabe_rounds(size_t n, size_t m,
  *     answer[0]   n
  *     answer[1]   m
  *
- * Refused by 1, 5 (more than 16 bytes, or a wrong answer_len), 3, 4, in this order.
+ * Refused by 1 5 (more than 16 bytes, or a wrong answer_len) 3 4, in this order.
  */
 uint32_t astrolabe_book_trailer(const uint8_t *bytes, size_t bytes_len,
                                 uint64_t *answer, size_t answer_len);
@@ -339,7 +352,8 @@ uint32_t astrolabe_book_trailer(const uint8_t *bytes, size_t bytes_len,
  *     answer[0]   n
  *     answer[1]   m
  *
- * Refused by 1 to 9; 6 to 9 are of the book's numbers.
+ * Refused by 1 2 3 4 5 6 7 23 8 9, in this order; from 6 on they are of the book's numbers. A stored book
+ * with a variable over 4,096 wide is refused by 23 and must be retyped.
  */
 uint32_t astrolabe_book_read(const uint8_t *book, size_t book_len,
                              int32_t *bounds, size_t bounds_len,
@@ -353,7 +367,7 @@ uint32_t astrolabe_book_read(const uint8_t *book, size_t book_len,
  *
  *     book        written   exactly ASTROLABE_BOOK_LEN(n, m) bytes
  *
- * Refused by 3, 5 to 9.
+ * Refused by 3 5 6 7 23 8 9, in this order.
  */
 uint32_t astrolabe_book_write(size_t n, size_t m,
                               const int32_t *bounds, size_t bounds_len,

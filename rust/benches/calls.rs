@@ -19,6 +19,7 @@ use std::path::Path;
 use compare::lent::{Backend, Lent, Operation, Reference};
 use compare::models::MAX_BUDGET;
 use native::Native;
+use reference::calls::ANSWER;
 
 /// `astrolabe_run`'s kind of a probe.
 const KIND_PROBE: u32 = 3;
@@ -119,7 +120,7 @@ fn remark(operation: Operation, answer: &[u64], refusal: u32) -> String {
     match operation {
         Operation::Propagate { .. } if refusal == 0 => format!(", {}", passes(answer[1])),
         Operation::Probe { .. } if refusal == 0 => {
-            format!(", {} and {}", passes(answer[2]), passes(answer[4]))
+            format!(", {} and {}", passes(answer[2]), passes(answer[5]))
         }
         Operation::IsProbingFixpoint => format!(": {}", ["no", "yes"][answer[0] as usize]),
         _ => String::new(),
@@ -144,7 +145,7 @@ fn lent(folder: &str, name: &str) -> Lent {
         table: vec![0; 4 * n * n],
         calls: (0..n as u32).flat_map(|k| [KIND_PROBE, 0, k, MAX_BUDGET]).collect(),
         book,
-        answer: vec![0; 6],
+        answer: vec![0; ANSWER],
     };
     assert_eq!(Reference.call(Operation::BookRead, lent.lend()), 0, "{name}");
     lent

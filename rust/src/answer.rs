@@ -1,28 +1,44 @@
-//! What the calls answer, taken from the six places of the C interface.
+//! What the calls answer, taken from the places of the C interface.
 
-/// The six places.
-pub(crate) type Places = [u64; 6];
+use crate::ffi;
 
-/// What a call on one row did.
+/// The places of an answer; those that a call does not use are 0.
+pub(crate) type Places = [u64; ffi::ANSWER_LEN];
+
+/// What the propagation of one row did (document 01's visit).
+#[derive(Clone, Copy, Debug, PartialEq, Eq, Hash)]
+pub enum RowPropagation {
+    /// The model has no integer point; the box is empty (01's None).
+    Infeasible,
+    /// This many bounds moved, 1 to n (01's Narrowed).
+    Tightened { moved: u32 },
+    /// No bound moved (01's Same).
+    Unchanged,
+}
+
+/// What the tightening of a coefficient or the removal of a row did.
 #[derive(Clone, Copy, Debug, PartialEq, Eq, Hash)]
 pub enum Outcome {
-    /// The model has no integer point; the box is empty (document 01's None).
+    /// The model has no integer point; the box is empty (01's None).
     Infeasible,
-    /// A number changed (01's Narrowed, Sharpened or Dropped).
+    /// A number changed (01's Sharpened or Dropped).
     Changed,
     /// Nothing changed (01's Same).
     Unchanged,
 }
 
-/// How a propagation ended (01's settle).
+/// How a propagation ended (01's settle), with the passes made and the bounds moved: the sum over all rows'
+/// propagations, so that a bound counts each time that it moves. `passes - 1 <= moved`, since each pass
+/// but the last moved a bound.
 #[derive(Clone, Copy, Debug, PartialEq, Eq, Hash)]
 pub enum Propagation {
-    /// The model has no integer point; the box is empty (01's None).
-    Infeasible { passes: u32 },
+    /// The model has no integer point; the box is empty (01's None). What moved before the infeasible row
+    /// is counted.
+    Infeasible { passes: u32, moved: u32 },
     /// The last pass moved nothing (01's Settled).
-    Converged { passes: u32 },
+    Converged { passes: u32, moved: u32 },
     /// The budget's passes are made and the last one moved a bound (01's Spent).
-    BudgetSpent { passes: u32 },
+    BudgetSpent { passes: u32, moved: u32 },
 }
 
 /// What a probe tells of one side.
@@ -32,6 +48,9 @@ pub struct Side {
     pub passes: u32,
     /// Whether its budget was spent; its box was used as it was reached.
     pub spent: bool,
+    /// The bounds that its propagation moved, as in [`Propagation`]; the probed variable's own are not
+    /// among them.
+    pub moved: u32,
 }
 
 /// What a probe found.
@@ -74,21 +93,21 @@ fn no_such_case(case: u64) -> ! {
     unreachable!("the library answered case {case}, which its contract rules out")
 }
 
-/// Passes and rounds are at most a budget or a limit, which are `u32`.
+/// Passes and rounds are at most a budget or a limit, which are `u32`; bounds moved are at most the width
+/// that is lost, 524,288.
 fn count(value: u64) -> u32 {
-    u32::try_from(value).expect("a count is at most the limit given")
+    u32::try_from(value).expect("a count is within 32 bits by the library's contract")
 }
 
-/// An answer that is one of three cases with a count.
-fn counted<T>([case, value, ..]: Places, cases: [fn(u32) -> T; 3]) -> T {
-    let [first, second, third] = cases;
-    let make = match case {
-        0 => first,
-        1 => second,
-        2 => third,
-        case => no_such_case(case),
-    };
-    make(count(value))
+impl From<Places> for RowPropagation {
+    fn from([case, moved, ..]: Places) -> Self {
+        match case {
+            0 => RowPropagation::Infeasible,
+            1 => RowPropagation::Tightened { moved: count(moved) },
+            2 => RowPropagation::Unchanged,
+            case => no_such_case(case),
+        }
+    }
 }
 
 impl From<Places> for Outcome {
@@ -103,22 +122,25 @@ impl From<Places> for Outcome {
 }
 
 impl From<Places> for Propagation {
-    fn from(places: Places) -> Self {
-        counted(
-            places,
-            [
-                |passes| Propagation::Infeasible { passes },
-                |passes| Propagation::Converged { passes },
-                |passes| Propagation::BudgetSpent { passes },
-            ],
-        )
+    fn from([case, passes, moved, ..]: Places) -> Self {
+        let (passes, moved) = (count(passes), count(moved));
+        match case {
+            0 => Propagation::Infeasible { passes, moved },
+            1 => Propagation::Converged { passes, moved },
+            2 => Propagation::BudgetSpent { passes, moved },
+            case => no_such_case(case),
+        }
     }
 }
 
 impl From<Places> for Probe {
-    fn from([case, value, passes0, spent0, passes1, spent1]: Places) -> Self {
-        let side = |passes, spent| Side { passes: count(passes), spent: spent == 1 };
-        let sides = [side(passes0, spent0), side(passes1, spent1)];
+    fn from([case, value, passes0, spent0, moved0, passes1, spent1, moved1, ..]: Places) -> Self {
+        let side = |passes, spent, moved| Side {
+            passes: count(passes),
+            spent: spent == 1,
+            moved: count(moved),
+        };
+        let sides = [side(passes0, spent0, moved0), side(passes1, spent1, moved1)];
         match case {
             0 => Probe::Infeasible { sides },
             1 => Probe::Fixed { value: u8::from(value == 1), sides },
@@ -135,14 +157,13 @@ impl From<Places> for Counts {
 }
 
 impl From<Places> for Rounds {
-    fn from(places: Places) -> Self {
-        counted(
-            places,
-            [
-                |rounds| Rounds::Infeasible { rounds },
-                |rounds| Rounds::Unchanged { rounds },
-                |rounds| Rounds::LimitReached { rounds },
-            ],
-        )
+    fn from([case, rounds, ..]: Places) -> Self {
+        let rounds = count(rounds);
+        match case {
+            0 => Rounds::Infeasible { rounds },
+            1 => Rounds::Unchanged { rounds },
+            2 => Rounds::LimitReached { rounds },
+            case => no_such_case(case),
+        }
     }
 }

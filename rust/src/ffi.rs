@@ -1,7 +1,8 @@
 //! The C interface as it is: `include/astrolabe.h` in Rust.
 //!
 //! Every slice is a pointer and a count, never a Rust slice. Each function returns 0 or the number of
-//! the failed check, and checks everything that it is lent; what it cannot check is for the caller.
+//! the failed check, and checks everything that it is lent; what it cannot check is for the caller. An
+//! answer has [`ANSWER_LEN`] places, and those that a function does not name are set to 0.
 //!
 //! # Safety
 //!
@@ -9,8 +10,11 @@
 //! initialised, and not written by others meanwhile; no two buffers overlap. With a count of 0 a
 //! pointer may be null.
 
+/// The count of every answer buffer.
+pub const ANSWER_LEN: usize = 12;
+
 unsafe extern "C" {
-    /// Answer: case (0 infeasible, 1 tightened, 2 unchanged).
+    /// Answer: case (0 infeasible, 1 tightened, 2 unchanged), bounds moved.
     pub fn astrolabe_propagate_row(
         n: usize,
         m: usize,
@@ -25,7 +29,7 @@ unsafe extern "C" {
         answer_len: usize,
     ) -> u32;
 
-    /// Answer: case (0 infeasible, 1 converged, 2 budget spent), passes.
+    /// Answer: case (0 infeasible, 1 converged, 2 budget spent), passes, bounds moved.
     pub fn astrolabe_propagate(
         n: usize,
         m: usize,
@@ -40,8 +44,8 @@ unsafe extern "C" {
         answer_len: usize,
     ) -> u32;
 
-    /// Answer: case (0 infeasible, 1 fixed, 2 both feasible), value or new table bytes, passes and
-    /// spent of side 0, passes and spent of side 1.
+    /// Answer: case (0 infeasible, 1 fixed, 2 both feasible), value or new table bytes; passes, spent and
+    /// bounds moved of side 0, then those of side 1.
     pub fn astrolabe_probe(
         n: usize,
         m: usize,

@@ -1,10 +1,10 @@
 //! A presolve library for 0-1 and small-integer linear models whose every function is proved.
 //!
-//! A [`Model`] has n variables (1 to 128) with whole bounds and m rows (0 to 120), each row saying
-//! `sum of coefficient · variable ≤ right-hand side`. Its methods make the model smaller: after each of
-//! them the integer points are exactly those before, no fractional point is added, and "infeasible" is
-//! said only where there is no integer point. That is proved of the library behind this wrapper, for
-//! every input.
+//! A [`Model`] has n variables (1 to 128) with whole bounds at most 4,096 apart and m rows (0 to 120),
+//! each row saying `sum of coefficient · variable ≤ right-hand side`. Its methods make the model smaller:
+//! after each of them the integer points are exactly those before, no fractional point is added, and
+//! "infeasible" is said only where there is no integer point. That is proved of the library behind this
+//! wrapper, for every input.
 //!
 //! ```
 //! use astrolabe::{Model, Propagation};
@@ -12,7 +12,7 @@
 //! # fn main() -> Result<(), astrolabe::Refusal> {
 //! // 2x ≤ 5 and y ≤ x, both variables from 0 to 5.
 //! let mut model = Model::new(vec![0, 5, 0, 5], vec![2, 0, -1, 1], vec![5, 0])?;
-//! assert_eq!(model.propagate(1_000)?, Propagation::Converged { passes: 2 });
+//! assert_eq!(model.propagate(1_000)?, Propagation::Converged { passes: 2, moved: 2 });
 //! assert_eq!(model.bounds(), [0, 2, 0, 2]);
 //! # Ok(())
 //! # }
@@ -27,7 +27,7 @@
 //! let root = Model::new(vec![0, 1, 0, 1, 0, 1], vec![2, 3, 4], vec![5])?;
 //! let mut branch = root.clone();
 //! branch.set_bounds(2, 1, 1); // variable 2 is 1: then 2x + 3y ≤ 1
-//! assert_eq!(branch.propagate(1_000)?, Propagation::Converged { passes: 2 });
+//! assert_eq!(branch.propagate(1_000)?, Propagation::Converged { passes: 2, moved: 2 });
 //! assert_eq!(branch.bounds(), [0, 0, 0, 0, 1, 1]);
 //! # Ok(())
 //! # }
@@ -40,7 +40,7 @@ pub mod ffi;
 mod model;
 mod refusal;
 
-pub use answer::{Counts, Outcome, Probe, Propagation, Rounds, Side};
+pub use answer::{Counts, Outcome, Probe, Propagation, Rounds, RowPropagation, Side};
 pub use model::{Call, Model, book_size};
 pub use refusal::Refusal;
 
@@ -50,5 +50,8 @@ pub const VERSION: &str = env!("CARGO_PKG_VERSION");
 pub const MAX_VARIABLES: usize = 128;
 /// The most rows that a model has.
 pub const MAX_ROWS: usize = 120;
-/// The largest budget. It is never spent: no propagation makes more passes.
+/// The most that a variable's upper bound lies above its lower.
+pub const MAX_WIDTH: i32 = 4_096;
+/// The largest budget. It is never spent: the widest box, 128 variables of 4,096, takes at most 524,289
+/// passes.
 pub const MAX_BUDGET: u32 = 8_388_481;

@@ -1,6 +1,6 @@
 //! The model, in owned buffers, with a method for each call.
 
-use crate::answer::{Counts, Outcome, Places, Probe, Propagation, Rounds};
+use crate::answer::{Counts, Outcome, Places, Probe, Propagation, Rounds, RowPropagation};
 use crate::ffi;
 use crate::refusal::Refusal;
 
@@ -63,7 +63,7 @@ impl Call {
 
 /// Makes a call with a full answer.
 fn answered<T: From<Places>>(call: impl FnOnce(*mut u64, usize) -> u32) -> Result<T, Refusal> {
-    let mut answer: Places = [0; 6];
+    let mut answer = Places::default();
     let returned = call(answer.as_mut_ptr(), answer.len());
     Refusal::from_returned(returned)?;
     Ok(T::from(answer))
@@ -256,18 +256,18 @@ impl Model {
         self.bounds.chunks_exact(2).all(|pair| pair == [1, 0])
     }
 
-    /// Propagates one row over the box once (01's visit).
+    /// Propagates one row over the box once (01's visit), and tells how many bounds it moved.
     ///
     /// ```
-    /// use astrolabe::{Model, Outcome};
+    /// use astrolabe::{Model, RowPropagation};
     ///
     /// let mut model = Model::new(vec![-5, 5], vec![2], vec![-3])?; // 2x ≤ −3
-    /// assert_eq!(model.propagate_row(0)?, Outcome::Changed);
+    /// assert_eq!(model.propagate_row(0)?, RowPropagation::Tightened { moved: 1 });
     /// assert_eq!(model.bounds(), [-5, -2]);
-    /// assert_eq!(model.propagate_row(0)?, Outcome::Unchanged);
+    /// assert_eq!(model.propagate_row(0)?, RowPropagation::Unchanged);
     /// # Ok::<(), astrolabe::Refusal>(())
     /// ```
-    pub fn propagate_row(&mut self, row: u32) -> Result<Outcome, Refusal> {
+    pub fn propagate_row(&mut self, row: u32) -> Result<RowPropagation, Refusal> {
         call!(self.astrolabe_propagate_row, as_mut_ptr, as_ptr, row)
     }
 
@@ -276,8 +276,9 @@ impl Model {
     /// ```
     /// use astrolabe::{Model, Propagation};
     ///
-    /// let mut model = Model::new(vec![0, 1, 0, 1], vec![-1, -1], vec![-3])?; // x + y ≥ 3
-    /// assert_eq!(model.propagate(1_000)?, Propagation::Infeasible { passes: 1 });
+    /// // x + y ≥ 2 moves both lower bounds, then x + y ≤ 1 is infeasible.
+    /// let mut model = Model::new(vec![0, 1, 0, 1], vec![-1, -1, 1, 1], vec![-2, 1])?;
+    /// assert_eq!(model.propagate(1_000)?, Propagation::Infeasible { passes: 1, moved: 2 });
     /// assert!(model.is_empty_box());
     /// # Ok::<(), astrolabe::Refusal>(())
     /// ```

@@ -5,7 +5,8 @@ use std::fmt;
 
 /// The first check that failed. A refused call changes nothing.
 ///
-/// The discriminants are the specification's check numbers:
+/// The discriminants are the check numbers of the specification and of its requests. The checks are made
+/// in the order of the numbers but for [`Refusal::VariableTooWide`], 23, which comes straight after 7:
 ///
 /// ```
 /// use astrolabe::{Model, Refusal};
@@ -48,10 +49,13 @@ pub enum Refusal {
     VariableNotFree = 14,
     /// The budget is not 1 to 8,388,481.
     BudgetOutOfRange = 15,
+    /// A variable's upper bound is more than 4,096 above its lower. A stored book that is refused by it
+    /// has to be retyped: see `docs/INTEGRATION.md`.
+    VariableTooWide = 23,
 }
 
 impl Refusal {
-    const ALL: [Refusal; 15] = [
+    const ALL: [Refusal; 16] = [
         Refusal::BookTooShort,
         Refusal::BookLengthMismatch,
         Refusal::SizeOutOfRange,
@@ -67,6 +71,7 @@ impl Refusal {
         Refusal::NoSuchVariable,
         Refusal::VariableNotFree,
         Refusal::BudgetOutOfRange,
+        Refusal::VariableTooWide,
     ];
 
     /// The number of the check.
@@ -76,10 +81,12 @@ impl Refusal {
 
     /// What a call of the library returned: 0 is accepted, else a check's number.
     pub(crate) fn from_returned(number: u32) -> Result<(), Refusal> {
-        match number {
-            0 => Ok(()),
-            1..=15 => Err(Refusal::ALL[number as usize - 1]),
-            _ => unreachable!("the library returned {number}, which its contract rules out"),
+        if number == 0 {
+            return Ok(());
+        }
+        match Refusal::ALL.into_iter().find(|refusal| refusal.check() == number) {
+            Some(refusal) => Err(refusal),
+            None => unreachable!("the library returned {number}, which its contract rules out"),
         }
     }
 
@@ -102,6 +109,7 @@ impl Refusal {
             Refusal::NoSuchVariable => "the variable is not below n",
             Refusal::VariableNotFree => "the variable is not free binary",
             Refusal::BudgetOutOfRange => "the budget is not 1 to 8388481",
+            Refusal::VariableTooWide => "a variable is over 4096 wide",
         }
     }
 }
@@ -121,7 +129,7 @@ mod tests {
     #[test]
     fn each_number_gives_its_own_refusal() {
         assert_eq!(Refusal::from_returned(0), Ok(()));
-        for number in 1..=15 {
+        for number in (1..=15).chain([23]) {
             assert_eq!(Refusal::from_returned(number).unwrap_err().check(), number);
         }
     }

@@ -9,7 +9,7 @@ mod native;
 use std::thread;
 
 use compare::lent::{Lent, Operation, Reference};
-use compare::models::{self, MAX_BUDGET, MAX_ROWS, MAX_VARIABLES, Ring};
+use compare::models::{self, MAX_BOUND, MAX_BUDGET, MAX_ROWS, MAX_VARIABLES, MAX_WIDTH, Ring};
 use compare::rng::Rng;
 use compare::suite::{self, Plan, SEED};
 use native::Native;
@@ -54,15 +54,15 @@ fn the_largest_models_in_whole_rounds() {
 
 #[test]
 fn a_crawl_of_hundreds_of_thousands_of_passes() {
-    let passes = |bounds, ends_at_zero| {
-        let ring = Ring { variables: 12, bounds, ends_at_zero, switched: false, reversed: false };
+    let passes = |variables, bounds, ends_at_zero| {
+        let ring = Ring { variables, bounds, ends_at_zero, switched: false, reversed: false };
         let lent = ring.model().with_table();
         agree(lent, &[Operation::Propagate { budget: MAX_BUDGET }])[1]
     };
-    // Upper bounds go down to 0, each step in as many passes as there are rows.
-    assert!(passes([0, 32_767], true) > 300_000);
+    // Upper bounds go down to 0, each step in as many passes as there are rows but one.
+    assert!(passes(60, [0, MAX_WIDTH], true) > 59 * 4_096);
     // Lower bounds go up by one in each pass until they meet the upper ones.
-    assert!(passes([-32_768, 32_767], false) > 60_000);
+    assert!(passes(12, [MAX_BOUND - MAX_WIDTH, MAX_BOUND], false) > 3_500);
 }
 
 #[test]

@@ -1,5 +1,7 @@
-//! `include/astrolabe.h` and `src/ffi.rs` declare the same functions, and the header has the wrapper's version: nothing else compares
-//! the two.
+//! `include/astrolabe.h` and `src/ffi.rs` declare the same functions, and the header has the wrapper's version and limits: nothing else
+//! compares the two.
+
+use astrolabe::Refusal;
 
 const HEADER: &str = include_str!("../../include/astrolabe.h");
 const FFI: &str = include_str!("../src/ffi.rs");
@@ -68,14 +70,26 @@ fn every_pointer_is_followed_by_its_count() {
     }
 }
 
-/// The number that the header defines as `ASTROLABE_VERSION_` and the part's name.
-fn version_part(part: &str) -> &'static str {
-    let define = format!("#define ASTROLABE_VERSION_{part} ");
-    HEADER.lines().find_map(|line| line.strip_prefix(&define)).expect("the header has a version")
+/// The number that the header defines by this name, without `ASTROLABE_`.
+fn defined(name: &str) -> &'static str {
+    let define = format!("#define ASTROLABE_{name} ");
+    let rest = HEADER.lines().find_map(|line| line.strip_prefix(&define)).expect("a definition");
+    rest.split_whitespace().next().expect("a number")
 }
 
 #[test]
 fn the_header_has_the_version_of_the_wrapper() {
-    let parts = ["MAJOR", "MINOR", "PATCH"].map(version_part);
+    let parts = ["VERSION_MAJOR", "VERSION_MINOR", "VERSION_PATCH"].map(defined);
     assert_eq!(parts.join("."), astrolabe::VERSION);
+}
+
+#[test]
+fn the_header_has_the_limits_and_numbers_of_the_wrapper() {
+    assert_eq!(defined("MAX_VARIABLES"), astrolabe::MAX_VARIABLES.to_string());
+    assert_eq!(defined("MAX_ROWS"), astrolabe::MAX_ROWS.to_string());
+    assert_eq!(defined("MAX_WIDTH"), astrolabe::MAX_WIDTH.to_string());
+    assert_eq!(defined("ANSWER_LEN"), astrolabe::ffi::ANSWER_LEN.to_string());
+    assert_eq!(defined("MAX_BUDGET"), astrolabe::MAX_BUDGET.to_string());
+    assert_eq!(defined("REFUSED_BUDGET"), Refusal::BudgetOutOfRange.check().to_string());
+    assert_eq!(defined("REFUSED_VARIABLE_TOO_WIDE"), Refusal::VariableTooWide.check().to_string());
 }

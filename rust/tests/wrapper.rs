@@ -1,65 +1,79 @@
 //! The safe wrapper: its methods say what the calls say, and its refusals are the checks' numbers.
 
-use astrolabe::{Call, Model, Outcome, Probe, Propagation, Refusal, Rounds, Side};
+use astrolabe::ffi::ANSWER_LEN;
+use astrolabe::{Call, Model, Outcome, Probe, Propagation, Refusal, Rounds, RowPropagation, Side};
 use compare::lent::{Backend, Lent, Operation, Reference};
 use compare::models::{self, Family};
 use compare::rng::Rng;
 use compare::suite::SEED;
 
 /// What a method says, as the C interface has it.
-type Said = Result<[u64; 6], u32>;
+type Said = Result<[u64; ANSWER_LEN], u32>;
 
-fn said<T>(result: Result<T, Refusal>, places: impl FnOnce(T) -> [u64; 6]) -> Said {
-    result.map(places).map_err(Refusal::check)
+/// Fills the places from the left, the others with 0.
+fn places<const N: usize>(values: [u64; N]) -> [u64; ANSWER_LEN] {
+    let mut all = [0; ANSWER_LEN];
+    all[..N].copy_from_slice(&values);
+    all
 }
 
-fn outcome(outcome: Outcome) -> [u64; 6] {
-    [outcome as u64, 0, 0, 0, 0, 0]
+fn said<T, const N: usize>(result: Result<T, Refusal>, values: impl FnOnce(T) -> [u64; N]) -> Said {
+    result.map(values).map(places).map_err(Refusal::check)
 }
 
-fn propagation(answer: Propagation) -> [u64; 6] {
-    let (case, passes) = match answer {
-        Propagation::Infeasible { passes } => (0, passes),
-        Propagation::Converged { passes } => (1, passes),
-        Propagation::BudgetSpent { passes } => (2, passes),
+fn row_propagation(answer: RowPropagation) -> [u64; 2] {
+    match answer {
+        RowPropagation::Infeasible => [0, 0],
+        RowPropagation::Tightened { moved } => [1, moved.into()],
+        RowPropagation::Unchanged => [2, 0],
+    }
+}
+
+fn outcome(outcome: Outcome) -> [u64; 1] {
+    [outcome as u64]
+}
+
+fn propagation(answer: Propagation) -> [u64; 3] {
+    let (case, passes, moved) = match answer {
+        Propagation::Infeasible { passes, moved } => (0, passes, moved),
+        Propagation::Converged { passes, moved } => (1, passes, moved),
+        Propagation::BudgetSpent { passes, moved } => (2, passes, moved),
     };
-    [case, passes.into(), 0, 0, 0, 0]
+    [case, passes.into(), moved.into()]
 }
 
-fn probe(answer: Probe) -> [u64; 6] {
+fn probe(answer: Probe) -> [u64; 8] {
     let (case, value, sides) = match answer {
         Probe::Infeasible { sides } => (0, 0, sides),
         Probe::Fixed { value, sides } => (1, value.into(), sides),
         Probe::BothFeasible { new_implications, sides } => (2, new_implications, sides),
     };
-    let [(passes0, spent0), (passes1, spent1)] =
-        sides.map(|Side { passes, spent }| (passes.into(), spent.into()));
-    [case, value, passes0, spent0, passes1, spent1]
+    let side = |Side { passes, spent, moved }| [passes.into(), spent.into(), moved.into()];
+    let [[passes0, spent0, moved0], [passes1, spent1, moved1]] = sides.map(side);
+    [case, value, passes0, spent0, moved0, passes1, spent1, moved1]
 }
 
-fn rounds(answer: Rounds) -> [u64; 6] {
+fn rounds(answer: Rounds) -> [u64; 2] {
     let (case, rounds) = match answer {
         Rounds::Infeasible { rounds } => (0, rounds),
         Rounds::Unchanged { rounds } => (1, rounds),
         Rounds::LimitReached { rounds } => (2, rounds),
     };
-    [case, rounds.into(), 0, 0, 0, 0]
+    [case, rounds.into()]
 }
 
 fn call(model: &mut Model, operation: Operation, list: &[Call]) -> Said {
     match operation {
-        Operation::PropagateRow { row } => said(model.propagate_row(row), outcome),
+        Operation::PropagateRow { row } => said(model.propagate_row(row), row_propagation),
         Operation::Propagate { budget } => said(model.propagate(budget), propagation),
         Operation::Probe { variable, budget } => said(model.probe(variable, budget), probe),
         Operation::TightenCoefficient { row, variable } => {
             said(model.tighten_coefficient(row, variable), outcome)
         }
         Operation::RemoveRedundantRow { row } => said(model.remove_redundant_row(row), outcome),
-        Operation::IsProbingFixpoint => {
-            said(model.is_probing_fixpoint(), |yes| [yes.into(), 0, 0, 0, 0, 0])
-        }
+        Operation::IsProbingFixpoint => said(model.is_probing_fixpoint(), |yes| [yes.into()]),
         Operation::Run => said(model.run(list), |counts| {
-            [counts.refused, counts.infeasible, counts.changed, counts.unchanged, 0, 0]
+            [counts.refused, counts.infeasible, counts.changed, counts.unchanged]
         }),
         Operation::Rounds { limit } => said(model.rounds(limit), rounds),
         Operation::BookTrailer | Operation::BookRead | Operation::BookWrite => {
@@ -71,7 +85,7 @@ fn call(model: &mut Model, operation: Operation, list: &[Call]) -> Said {
 /// What the reference says on the same buffers.
 fn expected(lent: &mut Lent, operation: Operation) -> Said {
     match Reference.call(operation, lent.lend()) {
-        0 => Ok(lent.answer[..].try_into().expect("an answer has six places")),
+        0 => Ok(lent.answer[..].try_into().expect("an answer has its places")),
         check => Err(check),
     }
 }
@@ -117,6 +131,25 @@ fn methods_say_what_the_calls_say() {
 }
 
 #[test]
+fn bounds_moved_are_told() {
+    // Row 0 puts both at 1, row 1 is infeasible.
+    let both = || Model::new(vec![0, 1, 0, 1], vec![-1, -1, 1, 1], vec![-2, 1]).unwrap();
+    assert_eq!(both().propagate_row(0), Ok(RowPropagation::Tightened { moved: 2 }));
+    assert_eq!(both().propagate(9), Ok(Propagation::Infeasible { passes: 1, moved: 2 }));
+    // The same on the side x = 1 of a variable that loosens row 0 when it is 0.
+    let mut model =
+        Model::new(vec![0, 1, 0, 1, 0, 1], vec![2, -1, -1, 0, 1, 1], vec![0, 1]).unwrap();
+    let sides =
+        [Side { passes: 1, spent: false, moved: 0 }, Side { passes: 1, spent: false, moved: 2 }];
+    assert_eq!(model.probe(0, 9), Ok(Probe::Fixed { value: 0, sides }));
+    // A bound counts each time that it moves: x ≤ y and 1,000,000 y ≤ 999,999 x, both 0..3.
+    let mut model =
+        Model::new(vec![0, 3, 0, 3], vec![1, -1, -999_999, 1_000_000], vec![0, 0]).unwrap();
+    assert_eq!(model.propagate(2), Ok(Propagation::BudgetSpent { passes: 2, moved: 3 }));
+    assert_eq!(model.propagate(9), Ok(Propagation::Converged { passes: 3, moved: 3 }));
+}
+
+#[test]
 fn books_come_back() {
     let mut rng = Rng::new(SEED);
     for _ in 0..500 {
@@ -143,8 +176,28 @@ fn bad_books_are_refused_in_the_books_own_order() {
     assert_eq!(with(28, 1), Err(Refusal::BookLayout));
     assert_eq!(with(6, 1), Err(Refusal::BoundOutOfRange));
     assert_eq!(with(0, 2), Err(Refusal::BoundsCrossed));
+    assert_eq!(with(5, 0x10), Err(Refusal::VariableTooWide)); // u = 4,097
     assert_eq!(with(23, 1), Err(Refusal::CoefficientOutOfRange));
     assert_eq!(with(19, 0x7f), Err(Refusal::RightHandSideOutOfRange));
+}
+
+#[test]
+fn a_bound_that_is_too_wide_is_retyped() {
+    // What docs/INTEGRATION.md says of a stored book: 30,000 typed for 30 lots.
+    let mut book = Model::new(vec![0, 30], vec![10], vec![305]).unwrap().to_book().unwrap();
+    book[4..8].copy_from_slice(&30_000_i32.to_le_bytes());
+    let refusal = Model::from_book(&book).unwrap_err();
+    assert_eq!((refusal, refusal.check()), (Refusal::VariableTooWide, 23));
+    assert_eq!(refusal.to_string(), "refused by check 23: a variable is over 4096 wide");
+    book[4..8].copy_from_slice(&30_i32.to_le_bytes());
+    assert_eq!(Model::from_book(&book).unwrap().bounds(), [0, 30]);
+    // Bounds that a branch sets are checked at the next call, and a refusal changes nothing.
+    let mut model = Model::from_book(&book).unwrap();
+    model.set_bounds(0, 0, 4_097);
+    assert_eq!(model.propagate(1), Err(Refusal::VariableTooWide));
+    assert_eq!(model.bounds(), [0, 4_097]);
+    model.set_bounds(0, 0, 4_096);
+    assert_eq!(model.propagate(1), Ok(Propagation::BudgetSpent { passes: 1, moved: 1 }));
 }
 
 #[test]
@@ -161,6 +214,11 @@ fn a_model_is_checked_when_it_is_made() {
     assert_eq!(new(&[-32_769, 1], &[], &[]), Err(Refusal::BoundOutOfRange));
     assert_eq!(new(&[2, 1], &[], &[]), Err(Refusal::BoundsCrossed));
     assert_eq!(new(&[1, 0], &[], &[]), Ok(()));
+    assert_eq!(new(&[-1, 4_096], &[], &[]), Err(Refusal::VariableTooWide));
+    assert_eq!(new(&[-1, 4_095], &[], &[]), Ok(()));
+    // Straight after 7, before 8.
+    assert_eq!(new(&[-1, 4_096, 2, 1], &[], &[]), Err(Refusal::BoundsCrossed));
+    assert_eq!(new(&[-1, 4_096], &[1_000_001], &[3]), Err(Refusal::VariableTooWide));
     assert_eq!(new(&[0, 1], &[1_000_001], &[3]), Err(Refusal::CoefficientOutOfRange));
     assert_eq!(new(&[0, 1], &[1], &[1_000_000_001]), Err(Refusal::RightHandSideOutOfRange));
 }

@@ -4,19 +4,16 @@ use Prim.Native.Nat.{_*_, _<_, _≤_, ℕ}
 use lib.Dec.{T, eqb}
 use lib.IntN.{ℤ}
 use lib.ListN.{length}
-use mathlib.Core.Bool.{Bool, _&&_, _||_}
-use mathlib.Core.List.{List, [], _++_, _∷_}
+use mathlib.Core.Bool.{Bool, _&&_}
+use mathlib.Core.List.{List, [], _++_}
 use mathlib.Core.Logic.{_↔_}
 use mathlib.Core.Path.{_∙_, _≡_, ap, refl, sym}
 use native.Mathlib.Decide.{ℕ-discrete}
 use native.Mathlib.Omega.{arith}
-use Rattle.integer.specs.Index.{all}
 use Rattle.integer.proofs.Tests.{all-three, eqb-test, leb-test, test-false, test-true}
-use Rattle.model.specs.Box.{isEmpty}
-use Rattle.model.specs.Checks.{Check, first, inRange, lengthChecks, modelChecks, modelFault, must, none, numberChecks, ordered, sizeChecks, tableByteChecks, tableLengthChecks}
-use Rattle.model.specs.Limits.{maxBound, maxRows, maxVariables, minBound}
+use Rattle.model.specs.Checks.{Check, boxChecks, first, lengthChecks, modelChecks, modelFault, none, numberChecks, sizeChecks, tableByteChecks, tableLengthChecks}
+use Rattle.model.specs.Limits.{maxRows, maxVariables}
 use Rattle.model.specs.Model.{Model, modelOf}
-use Rattle.model.specs.Rows.{rowsOf}
 use Rattle.model.specs.Valid.{ValidModel}
 use Rattle.model.proofs.CheckLaws.{ends, fails, fault-none, first-none, first-stop, first-zero-append, fits-fault-none, goes, length-test, numbered, past, size-test}
 use Rattle.book.specs.Answers.{readFault, writeFault}
@@ -27,7 +24,7 @@ use Rattle.book.proofs.DecodeLaws.{length-boundsOf, length-coefsOf, len
 -- the three lists of checks that a model in memory takes
 pub valid-checks : (M : Model)
     → ValidModel M ↔ ((first (sizeChecks (M .n) (M .m)) ≡ 0) × (first (lengthChecks M) ≡ 0) × (first (modelNumberChecks M) ≡ 0))
-unfolding modelFault modelChecks sizeChecks lengthChecks tableLengthChecks numberChecks tableByteChecks first
+unfolding modelFault modelChecks sizeChecks lengthChecks tableLengthChecks boxChecks numberChecks tableByteChecks first
 valid-checks M =
     let f = fault-none M in
     let N = modelNumberChecks M in
@@ -141,15 +138,6 @@ unfolding bookLength
 head-holds bs h =
     let l = h .layout in
     record { few = l .few; fewRows = l .fewRows; body = omega (arith, h .whole, l .ends) }
-
--- 6 and 7, of the box alone
-abbrev pub boxChecks : ℕ → List ℤ → List Check
-boxChecks n B = must (inRange minBound maxBound B) 6 ∷ must (isEmpty n B || ordered B) 7 ∷ []
-
--- a model without rows has no other number that could fail a check
-pub box-checks : (n : ℕ) (B : List ℤ) → first (numberChecks n B (rowsOf [] [])) ≡ first (boxChecks n B)
-unfolding numberChecks first inRange all
-box-checks n B = refl
 
 -- ---- reading and writing
 

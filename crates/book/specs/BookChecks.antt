@@ -1,4 +1,4 @@
--- The checks of a book and of a book to be written, by 01's numbers and in 01's order.
+-- The checks of a book and of a book to be written, by the numbers of 01 and 02 and in their order.
 use Prim.Native.Nat.{_*_, ℕ}
 use lib.Dec.{eqb, leb}
 use lib.IntN.{ℤ}
@@ -30,19 +30,19 @@ givenLengthChecks t len = must (eqb (lengthGiven t) len) 2 ∷ []
 unfoldable pub headChecks : List ℕ → List Check
 headChecks bs = must (leb 16 (length bs)) 1 ∷ givenLengthChecks (trailerOf bs) (length bs) ++ layoutChecks (trailerOf bs)
 
--- 6 to 9, of a model's numbers
+-- 6, 7, 23, 8 and 9, of a model's numbers
 abbrev pub modelNumberChecks : Model → List Check
 modelNumberChecks M = numberChecks (M .n) (M .box) (M .rows)
 
--- a book alone: 1 to 4 and 6 to 9
+-- a book alone: 1 to 4, then those of the numbers
 unfoldable pub bookChecks : List ℕ → List Check
 bookChecks bs = headChecks bs ++ modelNumberChecks (decode bs)
 
--- reading a book into lent buffers: 1 to 9
+-- reading a book into lent buffers: 1 to 4, 5, then those of the numbers
 unfoldable pub readChecks : List ℕ → List ℤ → List ℤ → List ℤ → List Check
 readChecks bs B C R = headChecks bs ++ (lengthChecks (modelOf (decode bs .n) (decode bs .m) B C R) ++ modelNumberChecks (decode bs))
 
--- writing a model into a lent book of k bytes: 3, 5 to 9
+-- writing a model into a lent book of k bytes: those of the model
 unfoldable pub writeChecks : Model → ℕ → List Check
 writeChecks M k = modelChecks M none (eqb k (bookLength (M .n) (M .m)))
 

@@ -10,34 +10,25 @@ use crate::layout::trailer_u16;
 use model::MAX_COEF;
 use model::MAX_RHS;
 use model::MAX_VARIABLES;
-ghost use mathlib.Core.List.{[]};
 ghost use mathlib.Core.Path.{_≡_};
 ghost use Prim.Native.Nat.{ℕ, _*_, _≤_};
 ghost use lib.ListN.{length};
-ghost use Rattle.model.specs.Checks.{first, inRange, numberChecks};
+ghost use Rattle.model.specs.Checks.{boxChecks, first, inRange, numberChecks};
 ghost use Rattle.model.specs.Limits.{minCoef, maxCoef};
 ghost use Rattle.model.specs.Model.{modelOf};
 ghost use Rattle.model.specs.Rows.{rowsOf};
 ghost use Rattle.book.specs.Answers.{boundsRead, coefsRead, readCall, readFault, rhsRead, sizesAnswer, sizesAre};
 ghost use Rattle.book.specs.Book.{HoldsModel, boundsOf, coefsOf, encode, rhsOf};
 
-// Checks 6 and 7: a model without rows has no other number that could fail a check.
-fn box_fault(n: usize, bounds: &[i32]) -> u32
-    ensures { λ r. ⌜ r ≡ first (numberChecks n (now (bounds .entry)) (rowsOf [] [])) ⌝ }
-{
-    let none = &bounds[..0];
-    model::number_fault(n, bounds, none, none)
-}
-
-// Checks 6 and 7 over the book's bounds.
+// Checks 6, 7 and 23 over the book's bounds.
 fn bounds_fault(n: usize, book: &[u8]) -> u32
     requires { ⌜ (n ≤ 128) × (8 * n ≤ length (now book)) ⌝ }
-    ensures { λ r. ⌜ r ≡ first (numberChecks n (boundsOf n (now (book .entry))) (rowsOf [] [])) ⌝ }
+    ensures { λ r. ⌜ r ≡ first (boxChecks n (boundsOf n (now (book .entry)))) ⌝ }
 {
     let mut bounds = [0i32; 2 * MAX_VARIABLES];
     let len = 2 * n;
     read_integers(book, 0, 4, &mut bounds[..len]);
-    box_fault(n, &bounds[..len])
+    model::box_fault(n, &bounds[..len])
 }
 
 // Check 8: whether every coefficient of the book lies in its range.
@@ -56,7 +47,7 @@ fn coefs_in_range(n: usize, m: usize, book: &[u8]) -> bool
     true
 }
 
-// Checks 6 to 9 over the book's numbers: the number of the first that fails, else 0.
+// Checks 6, 7, 23, 8 and 9 over the book's numbers: the number of the first that fails, else 0.
 fn number_fault(n: usize, m: usize, book: &[u8]) -> u32
     requires { ⌜ HoldsModel n m (now book) ⌝ }
     ensures { λ r.
@@ -76,7 +67,8 @@ fn number_fault(n: usize, m: usize, book: &[u8]) -> u32
     0
 }
 
-// Checks 1 to 9 of a book and of the buffers that it is to be read into: the number of the first that fails, else 0.
+// All checks of a book and of the buffers that it is to be read into, 1 to 9 and 23: the number of the first that
+// fails, else 0.
 fn read_fault(book: &[u8], bounds: &[i32], coefs: &[i32], rhs: &[i32]) -> u32
     ensures { λ r. ⌜ r ≡ readFault (now (book .entry)) (now (bounds .entry)) (now (coefs .entry)) (now (rhs .entry)) ⌝ }
 {
@@ -107,7 +99,7 @@ fn read_coefs(n: usize, m: usize, book: &[u8], coefs: &mut [i32])
     }
 }
 
-// Reads a book into lent buffers and answers n and m. Refused by 1 to 9; then nothing is written.
+// Reads a book into lent buffers and answers n and m. Refused by 1 to 9 and 23; then nothing is written.
 // Writing what was read gives the same book (`round_trip`).
 pub fn read(book: &[u8], bounds: &mut [i32], coefs: &mut [i32], rhs: &mut [i32]) -> SizesAnswer
     ensures answer { λ r.

@@ -36,8 +36,8 @@ fn is_book_length(n: usize, m: usize, len: usize) -> bool
     len == book_length(n, m)
 }
 
-// Checks 3 and 5 to 9 of a model and of the book that it is to be written to: the number of
-// the first that fails, else 0.
+// The checks of a model, with the length of the book that it is to be written to (5): the number of the first that
+// fails, else 0.
 fn write_fault(n: usize, m: usize, bounds: &[i32], coefs: &[i32], rhs: &[i32], book: &[u8]) -> u32
     ensures { λ r.
         let M = modelOf n m (now (bounds .entry)) (now (coefs .entry)) (now (rhs .entry)) in
@@ -65,7 +65,7 @@ fn write_rows(n: usize, coefs: &[i32], rhs: &[i32], book: &mut [u8])
     }
 }
 
-// Writes a model as a book. Refused by 3 and 5 to 9; then nothing is written.
+// Writes a model as a book. Refused by 3, 5 to 9 and 23; then nothing is written.
 // Reading what was written is not refused, and gives the same model (`round_trip`).
 pub fn write(
     n: usize,

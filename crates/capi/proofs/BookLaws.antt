@@ -17,31 +17,30 @@ use Rattle.model.specs.Checks.{Check, first, lengthChecks, must}
 use Rattle.model.proofs.CheckLaws.{fails, first-go, first-stop, first-zero-append, numbered}
 use Rattle.model.specs.Model.{modelOf}
 use Rattle.capi.specs.Exports.{bookAnswered, bookExported, lentTo, wrongLength}
-use Rattle.capi.specs.Replies.{returned, written}
-use Rattle.capi.specs.declared.reply.Reply.{Reply}
+use Rattle.capi.specs.Replies.{Reply, answerLength, returned, written}
 
-pub book-refused : (A : List ℕ) (before : List Check) (q : Reply) {number : ℕ} → (length A ≡ 6 → ⊥) → number ≡ wrongLength before
+pub book-refused : (A : List ℕ) (before : List Check) (q : Reply) {number : ℕ} → (length A ≡ answerLength → ⊥) → number ≡ wrongLength before
     → bookExported number A ≡ bookAnswered A before q
 unfolding bookAnswered
 book-refused A before q wrong e =
     ap (λ (k : ℕ). bookExported k A) e
-    ∙ sym (ap (λ (t : Bool). cond t (bookExported (returned q) (written q A)) (bookExported (wrongLength before) A)) (ne-eqb (length A) 6 wrong))
+    ∙ sym (ap (λ (t : Bool). cond t (bookExported (returned q) (written q A)) (bookExported (wrongLength before) A)) (ne-eqb (length A) answerLength wrong))
 
-pub book-replied : (A : List ℕ) (before : List Check) {q p : Reply} {number : ℕ} {places : List ℕ} → length A ≡ 6
+pub book-replied : (A : List ℕ) (before : List Check) {q p : Reply} {number : ℕ} {places : List ℕ} → length A ≡ answerLength
     → (number ≡ returned q) × (places ≡ written q A) → q ≡ p → bookExported number places ≡ bookAnswered A before p
 unfolding bookAnswered
 book-replied A before {q} {p} right put e =
     ap₂ bookExported (put .0) (put .1)
-    ∙ sym (ap (λ (b : Bool). cond b (bookExported (returned q) (written q A)) (bookExported (wrongLength before) A)) (eq-eqb (length A) 6 right))
+    ∙ sym (ap (λ (b : Bool). cond b (bookExported (returned q) (written q A)) (bookExported (wrongLength before) A)) (eq-eqb (length A) answerLength right))
     ∙ ap (bookAnswered A before) e
 
-pub lent-stays : (A : List ℕ) (before after : List ℤ) → (length A ≡ 6 → ⊥) → before ≡ lentTo A before after
+pub lent-stays : (A : List ℕ) (before after : List ℤ) → (length A ≡ answerLength → ⊥) → before ≡ lentTo A before after
 unfolding lentTo
-lent-stays A before after wrong = sym (ap (λ (t : Bool). cond t after before) (ne-eqb (length A) 6 wrong))
+lent-stays A before after wrong = sym (ap (λ (t : Bool). cond t after before) (ne-eqb (length A) answerLength wrong))
 
-pub lent-after : (A : List ℕ) (before : List ℤ) {after left : List ℤ} → length A ≡ 6 → left ≡ after → left ≡ lentTo A before after
+pub lent-after : (A : List ℕ) (before : List ℤ) {after left : List ℤ} → length A ≡ answerLength → left ≡ after → left ≡ lentTo A before after
 unfolding lentTo
-lent-after A before {after} right e = e ∙ sym (ap (λ (t : Bool). cond t after before) (eq-eqb (length A) 6 right))
+lent-after A before {after} right e = e ∙ sym (ap (λ (t : Bool). cond t after before) (eq-eqb (length A) answerLength right))
 
 -- a wrong length is always refused
 pub wrong-length-refused : (before : List Check) → T (numbered before) → wrongLength before ≡ 0 → ⊥

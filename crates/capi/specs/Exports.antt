@@ -17,12 +17,7 @@ use Rattle.semantics.specs.Perform.{perform}
 use Rattle.semantics.specs.Run.{run}
 use Rattle.model.specs.State.{State}
 use Rattle.semantics.specs.Call.{callOf}
-use Rattle.capi.specs.Replies.{bookReply, callReply, listReply, restReply, returned, roundsReply, written}
-use Rattle.capi.specs.declared.reply.Reply.{Reply}
-
--- "The buffer must be exactly 6 long (else refused by 5, nothing written)"
-abbrev pub answerLength : ℕ
-answerLength = 6
+use Rattle.capi.specs.Replies.{Reply, answerLength, bookReply, callReply, listReply, restReply, returned, roundsReply, written}
 
 -- the number that a wrong answer length is refused by: of the checks that come before 5 the first that fails, else 5
 unfoldable pub wrongLength : List Check → ℕ

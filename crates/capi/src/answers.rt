@@ -1,8 +1,5 @@
 // The reply to each answer of the open calls.
 use crate::reply::Reply;
-use crate::reply::one;
-use crate::reply::probed;
-use crate::reply::two;
 use book::SizesAnswer;
 use reducer::calls::ProbeAnswer;
 use reducer::calls::PropagateAnswer;
@@ -18,75 +15,75 @@ ghost use Rattle.reducer.specs.CallLists.{listAnswer};
 ghost use Rattle.reducer.specs.OpenCalls.{probeAnswer, propagateAnswer, removeAnswer, restVerdict, rowAnswer};
 ghost use Rattle.reducer.specs.OpenCalls.{tightenAnswer};
 ghost use Rattle.rounds.specs.Answers.{roundsAnswer};
-ghost use Rattle.capi.specs.Replies.{bookReply, callReply, listReply, restReply, roundsReply};
+ghost use Rattle.capi.specs.Replies.{bookReply, callReply, listReply, replyOf, restReply, roundsReply};
 
 pub fn row_reply(a: PropagateRowAnswer) -> Reply
-    ensures { λ r. ⌜ r ≡ callReply (rowAnswer a) ⌝ }
+    ensures { λ r. ⌜ replyOf r ≡ callReply (rowAnswer a) ⌝ }
 {
     match a {
         PropagateRowAnswer::Refused(number) => Reply::Refused(number),
-        PropagateRowAnswer::Infeasible => one(0),
-        PropagateRowAnswer::Tightened => one(1),
-        PropagateRowAnswer::Unchanged => one(2),
+        PropagateRowAnswer::Infeasible => Reply::Numbers(0, 0, 0, 0),
+        PropagateRowAnswer::Tightened(moved) => Reply::Numbers(1, moved as u64, 0, 0),
+        PropagateRowAnswer::Unchanged => Reply::Numbers(2, 0, 0, 0),
     }
 }
 
 pub fn propagate_reply(a: PropagateAnswer) -> Reply
-    ensures { λ r. ⌜ r ≡ callReply (propagateAnswer a) ⌝ }
+    ensures { λ r. ⌜ replyOf r ≡ callReply (propagateAnswer a) ⌝ }
 {
     match a {
         PropagateAnswer::Refused(number) => Reply::Refused(number),
-        PropagateAnswer::Infeasible(passes) => two(0, passes as u64),
-        PropagateAnswer::Converged(passes) => two(1, passes as u64),
-        PropagateAnswer::BudgetSpent(passes) => two(2, passes as u64),
+        PropagateAnswer::Infeasible(passes, moved) => Reply::Numbers(0, passes as u64, moved as u64, 0),
+        PropagateAnswer::Converged(passes, moved) => Reply::Numbers(1, passes as u64, moved as u64, 0),
+        PropagateAnswer::BudgetSpent(passes, moved) => Reply::Numbers(2, passes as u64, moved as u64, 0),
     }
 }
 
 pub fn probe_reply(a: ProbeAnswer) -> Reply
-    ensures { λ r. ⌜ r ≡ callReply (probeAnswer a) ⌝ }
+    ensures { λ r. ⌜ replyOf r ≡ callReply (probeAnswer a) ⌝ }
 {
     match a {
         ProbeAnswer::Refused(number) => Reply::Refused(number),
-        ProbeAnswer::Infeasible(side0, side1) => probed(0, 0, side0, side1),
-        ProbeAnswer::Fixed(value, side0, side1) => probed(1, value, side0, side1),
-        ProbeAnswer::BothFeasible(added, side0, side1) => probed(2, added, side0, side1),
+        ProbeAnswer::Infeasible(side0, side1) => Reply::Probed(0, 0, side0, side1),
+        ProbeAnswer::Fixed(value, side0, side1) => Reply::Probed(1, value, side0, side1),
+        ProbeAnswer::BothFeasible(added, side0, side1) => Reply::Probed(2, added, side0, side1),
     }
 }
 
 pub fn tighten_reply(a: TightenAnswer) -> Reply
-    ensures { λ r. ⌜ r ≡ callReply (tightenAnswer a) ⌝ }
+    ensures { λ r. ⌜ replyOf r ≡ callReply (tightenAnswer a) ⌝ }
 {
     match a {
         TightenAnswer::Refused(number) => Reply::Refused(number),
-        TightenAnswer::Infeasible => one(0),
-        TightenAnswer::Tightened => one(1),
-        TightenAnswer::Unchanged => one(2),
+        TightenAnswer::Infeasible => Reply::Numbers(0, 0, 0, 0),
+        TightenAnswer::Tightened => Reply::Numbers(1, 0, 0, 0),
+        TightenAnswer::Unchanged => Reply::Numbers(2, 0, 0, 0),
     }
 }
 
 pub fn remove_reply(a: RemoveAnswer) -> Reply
-    ensures { λ r. ⌜ r ≡ callReply (removeAnswer a) ⌝ }
+    ensures { λ r. ⌜ replyOf r ≡ callReply (removeAnswer a) ⌝ }
 {
     match a {
         RemoveAnswer::Refused(number) => Reply::Refused(number),
-        RemoveAnswer::Infeasible => one(0),
-        RemoveAnswer::Removed => one(1),
-        RemoveAnswer::Unchanged => one(2),
+        RemoveAnswer::Infeasible => Reply::Numbers(0, 0, 0, 0),
+        RemoveAnswer::Removed => Reply::Numbers(1, 0, 0, 0),
+        RemoveAnswer::Unchanged => Reply::Numbers(2, 0, 0, 0),
     }
 }
 
 pub fn rest_reply(a: RestAnswer) -> Reply
-    ensures { λ r. ⌜ r ≡ restReply (restVerdict a) ⌝ }
+    ensures { λ r. ⌜ replyOf r ≡ restReply (restVerdict a) ⌝ }
 {
     match a {
         RestAnswer::Refused(number) => Reply::Refused(number),
-        RestAnswer::No => one(0),
-        RestAnswer::Yes => one(1),
+        RestAnswer::No => Reply::Numbers(0, 0, 0, 0),
+        RestAnswer::Yes => Reply::Numbers(1, 0, 0, 0),
     }
 }
 
 pub fn run_reply(a: RunAnswer) -> Reply
-    ensures { λ r. ⌜ r ≡ listReply (listAnswer a) ⌝ }
+    ensures { λ r. ⌜ replyOf r ≡ listReply (listAnswer a) ⌝ }
 {
     match a {
         RunAnswer::Refused(number) => Reply::Refused(number),
@@ -95,28 +92,26 @@ pub fn run_reply(a: RunAnswer) -> Reply
             counts.infeasible as u64,
             counts.changed as u64,
             counts.unchanged as u64,
-            0,
-            0,
         ),
     }
 }
 
 pub fn rounds_reply(a: RoundsAnswer) -> Reply
-    ensures { λ r. ⌜ r ≡ roundsReply (roundsAnswer a) ⌝ }
+    ensures { λ r. ⌜ replyOf r ≡ roundsReply (roundsAnswer a) ⌝ }
 {
     match a {
         RoundsAnswer::Refused(number) => Reply::Refused(number),
-        RoundsAnswer::Infeasible(made) => two(0, made as u64),
-        RoundsAnswer::NothingChanged(made) => two(1, made as u64),
-        RoundsAnswer::AtLimit(made) => two(2, made as u64),
+        RoundsAnswer::Infeasible(made) => Reply::Numbers(0, made as u64, 0, 0),
+        RoundsAnswer::NothingChanged(made) => Reply::Numbers(1, made as u64, 0, 0),
+        RoundsAnswer::AtLimit(made) => Reply::Numbers(2, made as u64, 0, 0),
     }
 }
 
 pub fn sizes_reply(a: SizesAnswer) -> Reply
-    ensures { λ r. ⌜ r ≡ bookReply (sizesAnswer a) ⌝ }
+    ensures { λ r. ⌜ replyOf r ≡ bookReply (sizesAnswer a) ⌝ }
 {
     match a {
         SizesAnswer::Refused(number) => Reply::Refused(number),
-        SizesAnswer::Sizes { n, m } => two(n as u64, m as u64),
+        SizesAnswer::Sizes { n, m } => Reply::Numbers(n as u64, m as u64, 0, 0),
     }
 }

@@ -45,7 +45,7 @@ fn read_fault(book: &[u8]) -> u32
     }
 }
 
-// Reads a book into lent buffers: {n, m}. Refused by 1 to 9.
+// Reads a book into lent buffers: {n, m}. Refused by 1 to 7, 23, 8, 9.
 #[no_mangle]
 pub extern "C" fn astrolabe_book_read(
     book: &[u8],
@@ -90,7 +90,7 @@ fn write_number(a: WriteAnswer) -> u32
     }
 }
 
-// Writes a model as a book; the number says all. Refused by 3, 5 to 9.
+// Writes a model as a book; the number says all. Refused by the model's checks.
 #[no_mangle]
 pub extern "C" fn astrolabe_book_write(
     n: usize,

@@ -1,4 +1,5 @@
-// The calls on a model in memory.
+// The calls on a model in memory. Every call is refused by the model's checks first, 3, 5, 6, 7, 23, 8 and 9, and then
+// by those that its own comment names.
 use crate::answers::probe_reply;
 use crate::answers::propagate_reply;
 use crate::answers::remove_reply;
@@ -21,7 +22,7 @@ ghost use mathlib.Core.Path.{_≡_};
 ghost use Rattle.model.specs.State.{stateOf};
 ghost use Rattle.capi.specs.Exports.{callExport, exported, listExport, restExport, roundsExport};
 
-// 01's visit: {0 None | 1 Narrowed | 2 Same}. Refused by 3, 5 to 9, 12.
+// 01's visit: {0 None | 1 Narrowed | 2 Same, moved}. Refused by 12.
 #[no_mangle]
 pub extern "C" fn astrolabe_propagate_row(
     n: usize,
@@ -48,7 +49,7 @@ pub extern "C" fn astrolabe_propagate_row(
     )
 }
 
-// 01's settle: {0 None | 1 Settled | 2 Spent, passes}. Refused by 3, 5 to 9, 15.
+// 01's settle: {0 None | 1 Settled | 2 Spent, passes, moved}. Refused by 15.
 #[no_mangle]
 pub extern "C" fn astrolabe_propagate(
     n: usize,
@@ -75,8 +76,8 @@ pub extern "C" fn astrolabe_propagate(
     )
 }
 
-// 01's probe: {0 None | 1 Fixed | 2 Both, v or new bytes, passes0, spent0, passes1, spent1}. Refused by 3, 5 to 10,
-// 13 to 15.
+// 01's probe: {0 None | 1 Fixed | 2 Both, v or new bytes, passes0, spent0, moved0, passes1, spent1, moved1}. Refused
+// by 10, 13 to 15.
 #[no_mangle]
 pub extern "C" fn astrolabe_probe(
     n: usize,
@@ -105,7 +106,7 @@ pub extern "C" fn astrolabe_probe(
     )
 }
 
-// 01's sharpen: {0 None | 1 Sharpened | 2 Same}. Refused by 3, 5 to 9, 12 to 14.
+// 01's sharpen: {0 None | 1 Sharpened | 2 Same}. Refused by 12 to 14.
 #[no_mangle]
 pub extern "C" fn astrolabe_tighten_coefficient(
     n: usize,
@@ -134,7 +135,7 @@ pub extern "C" fn astrolabe_tighten_coefficient(
     )
 }
 
-// 01's drop: {0 None | 1 Dropped | 2 Same}. Refused by 3, 5 to 9, 12.
+// 01's drop: {0 None | 1 Dropped | 2 Same}. Refused by 12.
 #[no_mangle]
 pub extern "C" fn astrolabe_remove_redundant_row(
     n: usize,
@@ -162,7 +163,7 @@ pub extern "C" fn astrolabe_remove_redundant_row(
     )
 }
 
-// 01's rest call: {0 no | 1 yes}. Refused by 3, 5 to 9.
+// 01's rest call: {0 no | 1 yes}.
 #[no_mangle]
 pub extern "C" fn astrolabe_is_probing_fixpoint(
     n: usize,
@@ -187,7 +188,7 @@ pub extern "C" fn astrolabe_is_probing_fixpoint(
     )
 }
 
-// 01's run sheet, four numbers to a record: {refused, none, changed, unchanged}. Refused as a whole by 3, 5 to 10.
+// 01's run sheet, four numbers to a record: {refused, none, changed, unchanged}. Refused as a whole by 10.
 #[no_mangle]
 pub extern "C" fn astrolabe_run(
     n: usize,
@@ -216,7 +217,7 @@ pub extern "C" fn astrolabe_run(
     )
 }
 
-// The rounds of `reduce`: {0 None | 1 nothing changed | 2 at the limit, rounds}. Refused by 3, 5 to 10.
+// The rounds of `reduce`: {0 None | 1 nothing changed | 2 at the limit, rounds}. Refused by 10.
 #[no_mangle]
 pub extern "C" fn astrolabe_rounds(
     n: usize,

@@ -12,7 +12,7 @@ use native.Mathlib.Decide.{decLt, ℕ-discrete}
 use native.Mathlib.Omega.{arith}
 use Rattle.integer.specs.Index.{all}
 use Rattle.integer.proofs.IndexLaws.{all-more, all-test, getD-all, sum-below}
-use Rattle.integer.proofs.Parts.{zarith, zify}
+use Rattle.integer.proofs.Parts.{zarith}
 use Rattle.integer.proofs.Tests.{all-three, and-l, and-r, both, cond-ind, eqb-test, le-test, leb-test, ltb-test, neqb→ne, or-cases, or-inl, or-inr, true→T}
 use Rattle.model.specs.Box.{NonEmpty, at, emptyBox, isEmpty, lower, upper, width}
 use Rattle.model.specs.Checks.{Check, bits, boxChecks, first, inRange, lengthChecks, modelChecks, modelFault, must, narrow, none, numberChecks, ordered, sizeChecks, table, tableByteChecks, tableLengthChecks}

@@ -2,7 +2,6 @@
 -- fails is the one with the least place.
 use Prim.Native.Nat.{_%_, _*_, _/_, _<_, ℕ}
 use lib.Dec.{T, eqb, eqb→eq, leb, leb→le}
-use lib.IntN.{ℤ}
 use mathlib.Core.Bool.{Bool, _&&_, cond, false, true}
 use mathlib.Core.List.{List, [], _∷_}
 use mathlib.Core.Path.{_∙_, _≡_, ap, refl, sym}

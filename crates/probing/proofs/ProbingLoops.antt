@@ -73,27 +73,27 @@ fix-model k v p f h b = record {
 
 box-is : (s : Propagation) (S : List ℤ) → propagationOf s S .box ≡ S
 unfolding propagationOf
-box-is (Infeasible p) S = refl
-box-is (Converged p) S = refl
-box-is (BudgetSpent p) S = refl
+box-is (Infeasible p k) S = refl
+box-is (Converged p k) S = refl
+box-is (BudgetSpent p k) S = refl
 
 report-is : (s : Propagation) (S : List ℤ) → sideOf (propagationOf s S) ≡ sideOf (propagationOf s [])
 unfolding propagationOf sideOf
-report-is (Infeasible p) S = refl
-report-is (Converged p) S = refl
-report-is (BudgetSpent p) S = refl
+report-is (Infeasible p k) S = refl
+report-is (Converged p k) S = refl
+report-is (BudgetSpent p k) S = refl
 
-pub is-none : {s : Propagation} {p : ℕ} (S : List ℤ) → s ≡ Infeasible p → isNone (propagationOf s S .ending) ≡ true
+pub is-none : {s : Propagation} {p k : ℕ} (S : List ℤ) → s ≡ Infeasible p k → isNone (propagationOf s S .ending) ≡ true
 unfolding propagationOf isNone
 is-none S e = ap (λ (s : Propagation). isNone (propagationOf s S .ending)) e
 
--- what the else of `let Propagation::Infeasible(_) = s else` knows: the tag is another's
+-- what the else of `let Propagation::Infeasible(_, _) = s else` knows: the tag is another's
 pub is-some : (s : Propagation) (S : List ℤ) → OneOf (1 ∷ 2 ∷ []) (tagOf the-type s) → isNone (propagationOf s S .ending) ≡ false
 unfolding propagationOf isNone
-is-some (Infeasible p) S h =
+is-some (Infeasible p k) S h =
     ⊎-elim (λ e. let z : _≡_ {A = ℕ} 0 1 = e in absurd (omega arith)) (λ e. let z : _≡_ {A = ℕ} 0 2 = e in absurd (omega arith)) h
-is-some (Converged p) S h = refl
-is-some (BudgetSpent p) S h = refl
+is-some (Converged p k) S h = refl
+is-some (BudgetSpent p k) S h = refl
 
 -- a side that was propagated: its box is valid, and empty exactly if the answer is infeasible
 module _ (budget m : ℕ) (C R : List ℤ) {n : ℕ} {B : List ℤ} (h : 0 < n) (v : ValidBox n B) (s : Propagation) (S : List ℤ)

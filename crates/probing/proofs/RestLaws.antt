@@ -27,9 +27,9 @@ use Rattle.propagation.specs.declared.Propagation.the-variants.{BudgetSpent, Co
 pub answered : (p : code.Propagation) (B : List ℤ) {W : Propagated} → propagationOf p B ≡ W
     → (isNone (propagationOf p [] .ending) ≡ isNone (W .ending)) × (B ≡ W .box)
 unfolding propagationOf
-answered (Infeasible p) B e = (ap (λ (w : Propagated). isNone (w .ending)) e, ap (λ (w : Propagated). w .box) e)
-answered (Converged p) B e = (ap (λ (w : Propagated). isNone (w .ending)) e, ap (λ (w : Propagated). w .box) e)
-answered (BudgetSpent p) B e = (ap (λ (w : Propagated). isNone (w .ending)) e, ap (λ (w : Propagated). w .box) e)
+answered (Infeasible p k) B e = (ap (λ (w : Propagated). isNone (w .ending)) e, ap (λ (w : Propagated). w .box) e)
+answered (Converged p k) B e = (ap (λ (w : Propagated). isNone (w .ending)) e, ap (λ (w : Propagated). w .box) e)
+answered (BudgetSpent p k) B e = (ap (λ (w : Propagated). isNone (w .ending)) e, ap (λ (w : Propagated). w .box) e)
 
 -- ---- the hull
 

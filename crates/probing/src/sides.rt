@@ -12,7 +12,7 @@ use propagation::marks::remark_all;
 use propagation::marks::remark_at;
 use propagation::propagate_marked;
 ghost use mathlib.Core.Path.{_≡_};
-ghost use mathlib.Core.Bool.{_||_, cond};
+ghost use mathlib.Core.Bool.{_||_, cond, false};
 ghost use mathlib.Core.List.{[]};
 ghost use mathlib.Core.Logic.{_⊎_};
 ghost use Prim.Native.Nat.{ℕ, _*_, _<_, _≤_};
@@ -95,19 +95,7 @@ fn propagate_side(
 {
     copy_box(bounds, seen);
     remark_at(n, m, coefs, kinds, k, signs, seen, side, marks);
-    propagate_marked(
-        n,
-        m,
-        side,
-        coefs,
-        rhs,
-        kinds,
-        budget,
-        across,
-        signs,
-        seen,
-        marks,
-    )
+    propagate_marked(n, m, side, coefs, rhs, kinds, budget, across, signs, seen, marks)
 }
 
 // Side v of k, in the lent buffer: the box with k fixed at v, propagated with the budget, by the index and the marks of
@@ -254,6 +242,86 @@ fn join_marked<'a>(
     answer
 }
 
+// The rest of a probe of the free variable k whose side 0 is propagated: side 1, and what the two come to.
+fn finish_probe<'a>(
+    n: usize,
+    m: usize,
+    bounds: &mut [i32],
+    coefs: &[i32],
+    rhs: &[i32],
+    kinds: &[u8],
+    table: &mut [u8],
+    k: usize,
+    budget: u32,
+    s0: Propagation,
+    zero: &'a [i32],
+    across: &mut [u8],
+    signs: &mut [u8],
+    marks: &mut [u8],
+) -> Probing
+    requires { ⌜ ValidModel (modelOf n m (now bounds) (rowsOf (now coefs) (now rhs) (now kinds))) ⌝ }
+    requires { ⌜ ValidTable n (now table) ⌝ }
+    requires { ⌜ T (isFree (now bounds) k) ⌝ }
+    requires { ⌜ k < n ⌝ }
+    requires { ⌜ (length (now zero) ≡ 256) × (propagationOf s0 (take (2 * n) (now zero))
+        ≡ propagated budget n m (rowsOf (now coefs) (now rhs) (now kinds)) (fix n (now bounds) k 0)) ⌝ }
+    requires { let A = rowsOf (now coefs) (now rhs) (now kinds) in
+        ⌜ Marked n m (now bounds) A (now across) (now signs) (now marks) ⌝ }
+    ensures answer { λ r.
+        let A = rowsOf (now (coefs .entry)) (now (rhs .entry)) (now (kinds .entry)) in
+        ⌜ probingOf r (now (bounds .exit)) (now (table .exit))
+        ≡ probed k budget n m A (now (bounds .entry))
+        (now (table .entry)) ⌝ }
+    ensures marks { λ r.
+        let A = rowsOf (now (coefs .entry)) (now (rhs .entry)) (now (kinds .entry)) in
+        ⌜ Marked n m (now (bounds .exit)) A (now (across .exit))
+        (now (signs .exit)) (now (marks .exit)) ⌝ }
+{
+    let len = bounds.len();
+    let mut one = [0i32; MAX_BOX];
+    let s1 = try_side(
+        n,
+        m,
+        bounds,
+        coefs,
+        rhs,
+        kinds,
+        k,
+        1,
+        budget,
+        across,
+        signs,
+        marks,
+        &mut one[..len],
+    );
+    join_marked(
+        n,
+        m,
+        k,
+        s0,
+        s1,
+        zero,
+        &one,
+        bounds,
+        table,
+        coefs,
+        kinds,
+        signs,
+        marks,
+    )
+}
+
+// A side that was not tried: the box is empty already.
+fn untried() -> Side
+    ensures { λ r. ⌜ r ≡ record { passes = 0; spent = false; moved = 0 } ⌝ }
+{
+    Side {
+        passes: 0,
+        spent: false,
+        moved: 0,
+    }
+}
+
 // Probes the free binary variable k of a model that passed the checks, by its index and the marks of its box, which
 // become those of the box that is left. The two sides' boxes are working memory of this call.
 pub fn probe_marked(
@@ -287,18 +355,7 @@ pub fn probe_marked(
         (now (signs .exit)) (now (marks .exit)) ⌝ }
 {
     if model::is_empty(bounds) {
-        return Probing::Infeasible(
-            Side {
-                passes: 0,
-                spent: false,
-                moved: 0,
-            },
-            Side {
-                passes: 0,
-                spent: false,
-                moved: 0,
-            },
-        );
+        return Probing::Infeasible(untried(), untried());
     }
     find_clean(n, m, bounds, coefs, rhs, kinds, across, marks);
     let len = bounds.len();
@@ -318,34 +375,19 @@ pub fn probe_marked(
         marks,
         &mut zero[..len],
     );
-    let mut one = [0i32; MAX_BOX];
-    let s1 = try_side(
+    finish_probe(
         n,
         m,
         bounds,
         coefs,
         rhs,
         kinds,
-        k,
-        1,
-        budget,
-        across,
-        signs,
-        marks,
-        &mut one[..len],
-    );
-    join_marked(
-        n,
-        m,
-        k,
-        s0,
-        s1,
-        &zero,
-        &one,
-        bounds,
         table,
-        coefs,
-        kinds,
+        k,
+        budget,
+        s0,
+        &zero,
+        across,
         signs,
         marks,
     )

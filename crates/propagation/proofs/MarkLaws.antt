@@ -8,7 +8,7 @@ use lib.Signed.{_<ℤ_, _≤ℤ_, ≤ℤ-refl}
 use mathlib.Core.Bool.{not}
 use mathlib.Core.List.{List}
 use mathlib.Core.Logic.{_⊎_, inl, inr}
-use mathlib.Core.Path.{_∙_, _≡_, refl, sym}
+use mathlib.Core.Path.{_∙_, _≡_, ap, refl, sym}
 use native.Mathlib.Decide.{decLt, ℕ-discrete}
 use native.Mathlib.Omega.{arith}
 use Rattle.integer.proofs.Parts.{lt-is, lt-isn't, zarith}
@@ -17,11 +17,11 @@ use Rattle.model.proofs.BoxLaws.{inside-refl, not-in-empty}
 use Rattle.model.proofs.BoxLoops.{lower-withBounds, upper-withBounds, withBounds-other}
 use Rattle.model.specs.Valid.{ValidBox, ValidModel}
 use Rattle.row.specs.Activity.{minActivity}
-use Rattle.row.specs.Answers.{propagationOutcome}
-use Rattle.row.specs.Outcome.{Outcome, isChanged, isInfeasible, unchanged}
+use Rattle.row.specs.Answers.{propagatedRowOf}
+use Rattle.row.specs.Outcome.{isChanged, isInfeasible, unchanged}
 use Rattle.row.specs.declared.propagation.RowPropagation.{RowPropagation}
 use Rattle.row.specs.declared.propagation.RowPropagation.the-variants.{Infeasible, Tightened, Unchanged}
-use Rattle.row.specs.Propagation.{propagateRow}
+use Rattle.row.specs.Propagation.{PropagatedRow, propagateRow}
 use Rattle.row.proofs.BoundLaws.{newLower-nonneg, newUpper-nonpos}
 use Rattle.row.proofs.ImpliedBoxLaws.{lower-implied, upper-implied}
 use Rattle.row.proofs.PropagationLaws.{propagate-row-feasible-ind, propagate-row-infeasible-box, propagate-row-nonEmpty, propagate-row-shrinks, propagate-row-unchanged, propagate-row-valid}
@@ -213,10 +213,10 @@ visit-zero n A b B f k h e = propagate-row-feasible-ind n A b B (λ v. (lower (v
 
 -- one row more is clean
 pub clean-one : {n m : ℕ} {C R B : List ℤ} {marks : List ℕ} (r : ℕ) → Clean n m C R B marks
-    → propagateRow n (rowOf n C r) (at R r) B ≡ record { outcome = unchanged; box = B } → r < length marks → Clean n m C R B (set marks r 1)
+    → propagateRow n (rowOf n C r) (at R r) B ≡ record { outcome = unchanged; moved = 0; box = B } → r < length marks → Clean n m C R B (set marks r 1)
 clean-one {n} {m} {C} {R} {B} {marks} r c e h = record { same = λ p i k f. go p i k f (ℕ-discrete i r) }
   where
-    go : NonEmpty n B → (i : ℕ) → i < m → getD (set marks r 1) i 0 ≡ 1 → Dec (i ≡ r) → propagateRow n (rowOf n C i) (at R i) B ≡ record { outcome = unchanged; box = B }
+    go : NonEmpty n B → (i : ℕ) → i < m → getD (set marks r 1) i 0 ≡ 1 → Dec (i ≡ r) → propagateRow n (rowOf n C i) (at R i) B ≡ record { outcome = unchanged; moved = 0; box = B }
     go p i k f (yes d) = rw d e
     go p i k f (no d) = c .same p i k (sym (getD-set-other marks r i 1 0 d) ∙ f)
 
@@ -231,7 +231,7 @@ module _ {n m : ℕ} {B C R : List ℤ} {across signs : List ℕ} {seen : List �
   copied = g .watched .copied (g .nonEmpty)
 
   module _ (f : T (not (isInfeasible (propagateRow n (rowOf n C r) (at R r) B .outcome)))) where
-    stays : propagateRow n (rowOf n C r) (at R r) Q ≡ record { outcome = unchanged; box = Q }
+    stays : propagateRow n (rowOf n C r) (at R r) Q ≡ record { outcome = unchanged; moved = 0; box = Q }
     stays = rw q (same-after (rowOf n C r) (at R r) (g .valid .some) (g .nonEmpty) f)
 
     shrinks : Inside n Q B
@@ -272,18 +272,31 @@ module _ {n m : ℕ} {B C R : List ℤ} {across signs : List ℕ} {seen : List �
         clean = clean-empty marks (g .valid .some) e;
       }
 
--- by the answer
-pub tightened : {o : Outcome} (v : RowPropagation) → propagationOutcome v ≡ o → v ≡ Tightened → T (not (isInfeasible o))
-unfolding propagationOutcome isInfeasible
-tightened v e t = rw (← e, t) tt
+-- by the answer v, with which the box Q was left
+box-of : (v : RowPropagation) (Q : List ℤ) → propagatedRowOf v Q .box ≡ Q
+unfolding propagatedRowOf
+box-of Infeasible Q = refl
+box-of (Tightened k) Q = refl
+box-of Unchanged Q = refl
 
-pub unmoved : {o : Outcome} (v : RowPropagation) → propagationOutcome v ≡ o → v ≡ Unchanged → T (not (isInfeasible o)) × T (not (isChanged o))
-unfolding propagationOutcome isInfeasible isChanged
-unmoved v e t = rw (← e, t) (tt, tt)
+module _ {w : PropagatedRow} (v : RowPropagation) (Q : List ℤ) (e : propagatedRowOf v Q ≡ w) where
+  pub said : {u : RowPropagation} → v ≡ u → propagatedRowOf u Q ≡ w
+  said t = rw t at e
 
-pub broken : {o : Outcome} (v : RowPropagation) → propagationOutcome v ≡ o → v ≡ Infeasible → T (isInfeasible o)
-unfolding propagationOutcome isInfeasible
-broken v e t = rw (← e, t) tt
+  pub left-by : Q ≡ w .box
+  left-by = sym (box-of v Q) ∙ ap (λ (u : PropagatedRow). u .box) e
+
+  pub tightened : {k : ℕ} → v ≡ Tightened k → T (not (isInfeasible (w .outcome)))
+  unfolding propagatedRowOf isInfeasible
+  tightened t = rw (← e, t) tt
+
+  pub unmoved : v ≡ Unchanged → T (not (isInfeasible (w .outcome))) × T (not (isChanged (w .outcome)))
+  unfolding propagatedRowOf isInfeasible isChanged
+  unmoved t = rw (← e, t) (tt, tt)
+
+  pub broken : v ≡ Infeasible → T (isInfeasible (w .outcome))
+  unfolding propagatedRowOf isInfeasible
+  broken t = rw (← e, t) tt
 
 -- ---- passes
 
@@ -345,7 +358,7 @@ ready-visit A b i q f w l x y s k = record {
 pub clean-less : {n m : ℕ} {C R B : List ℤ} {marks : List ℕ} (r : ℕ) → Clean n m C R B marks → r < length marks → Clean n m C R B (set marks r 2)
 clean-less {n} {m} {C} {R} {B} {marks} r c h = record { same = λ p i k f. go p i k f (ℕ-discrete i r) }
   where
-    go : NonEmpty n B → (i : ℕ) → i < m → getD (set marks r 2) i 0 ≡ 1 → Dec (i ≡ r) → propagateRow n (rowOf n C i) (at R i) B ≡ record { outcome = unchanged; box = B }
+    go : NonEmpty n B → (i : ℕ) → i < m → getD (set marks r 2) i 0 ≡ 1 → Dec (i ≡ r) → propagateRow n (rowOf n C i) (at R i) B ≡ record { outcome = unchanged; moved = 0; box = B }
     go p i k f (yes d) = absurd (let z : _≡_ {A = ℕ} 2 1 = sym (getD-set-same marks r 2 0 h) ∙ (rw d at f) in let w : ⊥ = omega arith in w)
     go p i k f (no d) = c .same p i k (sym (getD-set-other marks r i 2 0 d) ∙ f)
 

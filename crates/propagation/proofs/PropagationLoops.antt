@@ -1,12 +1,13 @@
 -- What the two loops of `propagate` need: a row of the matrix is a valid one, one row more of a pass, and one pass more.
-use Prim.Native.Nat.{_*_, _+_, _-_, _<_, _≤_, suc, zero, ℕ}
-use lib.IntN.{pos, ℤ}
+use Prim.Native.Nat.{_*_, _+_, _-_, _<_, _^_, _≤_, suc, zero, ℕ}
+use lib.IntN.{_+ℤ_, pos, ℤ}
 use lib.ListN.{drop, getD, length, length-drop}
 use lib.Seq.{getD-drop, getD-take, length-take-le}
-use mathlib.Core.Bool.{Bool, _||_, false, true}
+use lib.Signed.{_≤ℤ_}
+use mathlib.Core.Bool.{Bool, false, true}
 use mathlib.Core.List.{List}
 use mathlib.Core.Logic.{_⊎_, inl, inr}
-use mathlib.Core.Path.{_∙_, _≡_, ap, refl, sym}
+use mathlib.Core.Path.{_∙_, _≡_, refl, sym}
 use mir.Facts.{toZ-ofZ}
 use mir.Syntax.{w32}
 use mir.Val.{ofZ, toZ}
@@ -17,22 +18,24 @@ use native.Mathlib.Omega.{arith}
 use Rattle.integer.proofs.IndexLaws.{getD-all}
 use Rattle.integer.proofs.Parts.{zarith}
 use Rattle.integer.proofs.RangeLaws.{within-fits}
-use Rattle.model.specs.Box.{NonEmpty, at}
+use Rattle.model.specs.Box.{NonEmpty, at, width}
 use Rattle.model.specs.Limits.{maxCoef, minCoef}
 use Rattle.model.specs.Rows.{rowOf, rowsOf}
 use Rattle.model.specs.Valid.{Between, ValidBox, ValidModel}
 use Rattle.model.specs.Model.{modelOf}
-use Rattle.row.specs.Answers.{propagationOutcome}
-use Rattle.row.specs.Outcome.{isChanged, isInfeasible}
-use Rattle.row.specs.Propagation.{PropagatedRow, propagateRow}
+use Rattle.row.specs.Answers.{propagatedRowOf}
+use Rattle.row.specs.Outcome.{isInfeasible}
+use Rattle.row.specs.Propagation.{propagateRow}
 use Rattle.row.specs.ValidRow.{ValidRow}
 use Rattle.row.specs.declared.propagation.RowPropagation.{RowPropagation}
 use Rattle.row.specs.declared.propagation.RowPropagation.the-variants.{Infeasible, Tightened, Unchanged}
 use Rattle.row_view.specs.RowIn.{RowIn}
 use Rattle.propagation.specs.Marks.{Clean}
 use Rattle.row.proofs.RowLoops.{rhs-within}
+use Rattle.semantics.specs.Convergence.{LargestBudget}
 use Rattle.semantics.specs.Propagate.{Propagated, budgetSpent, converged, infeasible, passTo, propagateFrom}
-use Rattle.semantics.proofs.PropagateLaws.{pass-ended, pass-next, propagate-again, propagate-converged, propagate-none-now, propagate-spent}
+use Rattle.semantics.proofs.Convergence.{width-limit}
+use Rattle.semantics.proofs.PropagateLaws.{moved-at-most, moved-then, pass-ended, pass-moved-width, pass-next, propagate-again, propagate-converged, propagate-none-now, propagate-spent}
 
 -- ---- row r of the matrix
 
@@ -64,73 +67,88 @@ module _ {n m : ℕ} {B₀ C R : List ℤ} (v : ValidModel (modelOf n m B₀ C R
 
 -- ---- one row more of the pass over the box B
 
-or-false : (a : Bool) → (a || false) ≡ a
-or-false true = refl
-or-false false = refl
+-- rows 0 to r − 1 left the box P; `before` bounds moved before the pass, and with those that these rows moved they are `sum`
+pub record PassIs (n r : ℕ) (C R B : List ℤ) (before : ℕ) (over : Bool) (sum : ℕ) (P : List ℤ) : Type 0 where
+  pub ended : passTo n r (rowsOf C R) B .ended ≡ over
+  pub moved : before + passTo n r (rowsOf C R) B .moved ≡ sum
+  pub box : passTo n r (rowsOf C R) B .box ≡ P
 
-or-true : (a : Bool) → (a || true) ≡ true
-or-true true = refl
-or-true false = refl
+pub pass-begins : (n : ℕ) (C R B : List ℤ) (before : ℕ) → PassIs n 0 C R B before false before B
+unfolding passTo
+pass-begins n C R B before = record { ended = refl; moved = omega arith; box = refl }
 
--- rows 0 to r − 1 left the box P, and on it row r answered v and left Q
-module _ (n r : ℕ) (C R B : List ℤ) (v : RowPropagation) {moved : Bool} {P Q : List ℤ}
-    (e : passTo n r (rowsOf C R) B ≡ record { ended = false; moved = moved; box = P })
-    (a : propagationOutcome v ≡ propagateRow n (rowOf n C r) (at R r) P .outcome)
-    (q : Q ≡ propagateRow n (rowOf n C r) (at R r) P .box) where
-  row-more : passTo n (r + 1) (rowsOf C R) B ≡ record { ended = isInfeasible (propagationOutcome v); moved = moved || isChanged (propagationOutcome v); box = Q }
-  row-more = (rw e at (pass-next n r (rowsOf C R) B)) tt ∙ rw (a, q)
+-- and on it row r answered v and left Q
+module _ (n r : ℕ) (C R B : List ℤ) (before : ℕ) (v : RowPropagation) {sum : ℕ} {P : List ℤ} (Q : List ℤ) (i : PassIs n r C R B before false sum P)
+    (a : propagatedRowOf v Q ≡ propagateRow n (rowOf n C r) (at R r) P) where
+  row-more : passTo n (r + 1) (rowsOf C R) B
+      ≡ record { ended = isInfeasible (propagatedRowOf v Q .outcome); moved = passTo n r (rowsOf C R) B .moved + propagatedRowOf v Q .moved; box = propagatedRowOf v Q .box }
+  row-more = rw a (rw (i .box) at (pass-next n r (rowsOf C R) B (rw (i .ended) tt)))
 
-  pub row-feasible : {now : Bool} → ((v ≡ Tightened) × (now ≡ true)) ⊎ ((v ≡ Unchanged) × (now ≡ moved))
-      → passTo n (r + 1) (rowsOf C R) B ≡ record { ended = false; moved = now; box = Q }
-  unfolding propagationOutcome isInfeasible isChanged
-  row-feasible (inl w) = row-more ∙ rw (w .0, w .1, or-true moved)
-  row-feasible (inr w) = row-more ∙ rw (w .0, w .1, or-false moved)
+  pub row-feasible : {k now : ℕ} → ((v ≡ Tightened k) × (now ≡ sum + k)) ⊎ ((v ≡ Unchanged) × (now ≡ sum)) → PassIs n (r + 1) C R B before false now Q
+  unfolding propagatedRowOf isInfeasible
+  row-feasible (inl w) = let e = rw (w .0) at row-more in record { ended = rw e; moved = rw e (omega (arith, i .moved, w .1)); box = rw e }
+  row-feasible (inr w) = let e = rw (w .0) at row-more in record { ended = rw e; moved = rw e (omega (arith, i .moved, w .1)); box = rw e }
 
   -- no later row changes what an infeasible one left
-  pub row-infeasible : (m : ℕ) → r < m → v ≡ Infeasible → passTo n m (rowsOf C R) B ≡ record { ended = true; moved = moved; box = Q }
-  unfolding propagationOutcome isInfeasible isChanged
+  pub row-infeasible : (m : ℕ) → r < m → v ≡ Infeasible → PassIs n m C R B before true sum Q
+  unfolding propagatedRowOf isInfeasible
   row-infeasible m h w =
-      let f : passTo n (r + 1) (rowsOf C R) B ≡ record { ended = true; moved = moved; box = Q } = row-more ∙ rw (w, or-false moved) in
-      pass-ended n (r + 1) (rowsOf C R) B m (omega arith) (rw f tt) ∙ f
+      let e = rw w at row-more in
+      let f = pass-ended n (r + 1) (rowsOf C R) B m (omega arith) (rw e tt) in
+      record { ended = rw (f, e); moved = rw (f, e) (omega (arith, i .moved)); box = rw (f, e) }
 
 -- clean rows are passed over
-pub pass-over : {n m : ℕ} {C R : List ℤ} (B : List ℤ) {moved : Bool} {P : List ℤ} {marks : List ℕ} (r s : ℕ)
-    → passTo n r (rowsOf C R) B ≡ record { ended = false; moved = moved; box = P } → NonEmpty n P → Clean n m C R P marks
+pub pass-over : {n m : ℕ} {C R : List ℤ} (B : List ℤ) {before sum : ℕ} {P : List ℤ} {marks : List ℕ} (r s : ℕ)
+    → PassIs n r C R B before false sum P → NonEmpty n P → Clean n m C R P marks
     → r ≤ s → s ≤ m → ((i : ℕ) → r ≤ i → i < s → getD marks i 0 ≡ 1)
-    → passTo n s (rowsOf C R) B ≡ record { ended = false; moved = moved; box = P }
-unfolding propagationOutcome
+    → PassIs n s C R B before false sum P
+unfolding propagatedRowOf
 pass-over B r zero e p c h k f = let z : r ≡ 0 = omega arith in rw z at e
-pass-over {n} {m} {C} {R} B {moved} {P} {marks} r (suc s) e p c h k f =
+pass-over {n} {m} {C} {R} B {before} {sum} {P} {marks} r (suc s) e p c h k f =
     go (ℕ-discrete r (suc s)) (λ d. pass-over B r s e p c d (omega arith) (λ i a b. f i a (omega arith)))
   where
-    go : Dec (r ≡ suc s) → (r ≤ s → passTo n s (rowsOf C R) B ≡ record { ended = false; moved = moved; box = P })
-        → passTo n (suc s) (rowsOf C R) B ≡ record { ended = false; moved = moved; box = P }
+    go : Dec (r ≡ suc s) → (r ≤ s → PassIs n s C R B before false sum P) → PassIs n (suc s) C R B before false sum P
     go (yes d) w = rw d at e
     go (no d) w =
         let v = c .same p s (omega arith) (f s (omega arith) (omega arith)) in
-        rw (add-one s) at (row-feasible n s C R B Unchanged (w (omega arith)) (sym (ap (λ (v : PropagatedRow). v .outcome) v)) (sym (ap (λ (v : PropagatedRow). v .box) v)) (inr (refl, refl)))
+        rw (add-one s) at (row-feasible n s C R B before Unchanged P (w (omega arith)) (sym v) {k = 0} (inr (refl, refl)))
 
--- ---- one pass more, after `made` of `budget`; W is what the whole comes to
+-- ---- the bounds moved are no more than the width that was lost since the box B₀, so their number fits
 
-module _ (budget made n m : ℕ) (C R B : List ℤ) {W : Propagated} (h : made < budget)
-    (w : propagateFrom (budget - made) made n m (rowsOf C R) B ≡ W) where
-  left-one : propagateFrom (suc (budget - (made + 1))) made n m (rowsOf C R) B ≡ W
+module _ {n r : ℕ} {C R B : List ℤ} {before sum : ℕ} {Q : List ℤ} (i : PassIs n r C R B before false sum Q) (B₀ : List ℤ)
+    (w : (pos before +ℤ width n B) ≤ℤ width n B₀) where
+  pub pass-width : (pos sum +ℤ width n Q) ≤ℤ width n B₀
+  pass-width = rw (i .moved, i .box) at (moved-then n before _ B₀ B _ w (pass-moved-width n (rowsOf C R) r B (rw (i .ended) tt)))
+
+  pub sum-fits : {m : ℕ} → ValidModel (modelOf n m B₀ C R) → NonEmpty n Q → sum < 2 ^ 32
+  unfolding LargestBudget
+  sum-fits {m} v p = let a = moved-at-most n sum B₀ p pass-width in let b = width-limit (modelOf n m B₀ C R) v .0 in omega zarith
+
+-- ---- one pass more, after `made` of `budget` that moved `before` bounds; W is what the whole comes to
+
+module _ (budget made before n m : ℕ) (C R B : List ℤ) {W : Propagated} (h : made < budget)
+    (w : propagateFrom (budget - made) made before n m (rowsOf C R) B ≡ W) where
+  left-one : propagateFrom (suc (budget - (made + 1))) made before n m (rowsOf C R) B ≡ W
   left-one = let k : suc (budget - (made + 1)) ≡ budget - made = omega arith in rw k w
 
-  pub pass-infeasible : {moved : Bool} {Q : List ℤ} → passTo n m (rowsOf C R) B ≡ record { ended = true; moved = moved; box = Q }
-      → W ≡ record { ending = infeasible; passes = made + 1; box = Q }
-  pass-infeasible e = sym left-one ∙ propagate-none-now (budget - (made + 1)) made n m (rowsOf C R) B (rw e tt) ∙ rw (e, add-one)
+  pub pass-infeasible : {sum : ℕ} {Q : List ℤ} → PassIs n m C R B before true sum Q
+      → W ≡ record { ending = infeasible; passes = made + 1; moved = sum; box = Q }
+  pass-infeasible i = sym left-one ∙ propagate-none-now (budget - (made + 1)) made before n m (rowsOf C R) B (rw (i .ended) tt) ∙ rw (i .moved, i .box, add-one)
 
-  pub pass-converged : {Q : List ℤ} → passTo n m (rowsOf C R) B ≡ record { ended = false; moved = false; box = Q }
-      → W ≡ record { ending = converged; passes = made + 1; box = Q }
-  pass-converged e = sym left-one ∙ propagate-converged (budget - (made + 1)) made n m (rowsOf C R) B (rw e tt) (rw e tt) ∙ rw (e, add-one)
+  pub pass-converged : {Q : List ℤ} → PassIs n m C R B before false before Q
+      → W ≡ record { ending = converged; passes = made + 1; moved = before; box = Q }
+  pass-converged i =
+      let e : passTo n m (rowsOf C R) B .moved ≡ 0 = omega (arith, i .moved) in
+      sym left-one ∙ propagate-converged (budget - (made + 1)) made before n m (rowsOf C R) B (rw (i .ended) tt) e ∙ rw (i .box, add-one)
 
-  pub pass-moved : {Q : List ℤ} → passTo n m (rowsOf C R) B ≡ record { ended = false; moved = true; box = Q }
-      → propagateFrom (budget - (made + 1)) (made + 1) n m (rowsOf C R) Q ≡ W
-  pass-moved e = sym (sym left-one ∙ propagate-again (budget - (made + 1)) made n m (rowsOf C R) B (rw e tt) (rw e tt) ∙ rw (e, add-one made))
+  pub pass-moved : {sum : ℕ} {Q : List ℤ} → PassIs n m C R B before false sum Q → (sum ≡ before → ⊥)
+      → propagateFrom (budget - (made + 1)) (made + 1) sum n m (rowsOf C R) Q ≡ W
+  pass-moved i d =
+      let e : 0 < passTo n m (rowsOf C R) B .moved = omega (arith, i .moved) in
+      sym (sym left-one ∙ propagate-again (budget - (made + 1)) made before n m (rowsOf C R) B (rw (i .ended) tt) e ∙ rw (i .moved, i .box, add-one made))
 
-pub budget-spent : (budget made n m : ℕ) (C R B : List ℤ) {W : Propagated} → budget ≤ made
-    → propagateFrom (budget - made) made n m (rowsOf C R) B ≡ W → W ≡ record { ending = budgetSpent; passes = made; box = B }
-budget-spent budget made n m C R B h w =
+pub budget-spent : (budget made sum n m : ℕ) (C R B : List ℤ) {W : Propagated} → budget ≤ made
+    → propagateFrom (budget - made) made sum n m (rowsOf C R) B ≡ W → W ≡ record { ending = budgetSpent; passes = made; moved = sum; box = B }
+budget-spent budget made sum n m C R B h w =
     let k : budget - made ≡ 0 = omega arith in
-    sym w ∙ rw (k, propagate-spent made n m (rowsOf C R) B)
+    sym w ∙ rw (k, propagate-spent made sum n m (rowsOf C R) B)

@@ -22,7 +22,7 @@ ghost use lib.ListN.{length};
 ghost use Rattle.propagation.specs.Marks.{Watched};
 ghost use Rattle.propagation.specs.Results.{propagationOf};
 
-// The largest budget: one more than any box is wide, so it is never spent.
+// The largest budget. Any valid box is narrower, so it is never spent.
 pub const MAX_BUDGET: u32 = 8_388_481;
 
 // 01's None, Settled and Spent, each with the passes made and the number of bounds moved.

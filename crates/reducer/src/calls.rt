@@ -2,7 +2,8 @@
 // check that fails and then changes nothing; everything else is accepted. In the contracts `s` is the state before
 // the call and `r'` the state after it. `defined`: the answer and every lent buffer afterwards are what `perform`
 // gives for the call made of the very n, m, numbers and buffer lengths handed over. `meaning`: what the answer means
-// for the points, and that the call ended within its budget.
+// for the points, and that the call ended within its budget. Every call is refused by the model's checks first, 3, 5,
+// 6, 7, 23, 8 and 9 (`model_fault`), and then by those that its own comment names.
 use crate::checks::call_fault;
 use crate::checks::probe_fault;
 use probing::sides::Probing;
@@ -78,7 +79,7 @@ pub enum RestAnswer {
     Yes,
 }
 
-// Propagates row `row` once (01's visit). Refused by 3, 5 to 9, 12.
+// Propagates row `row` once (01's visit). Refused by 12.
 pub fn propagate_row(
     n: usize,
     m: usize,
@@ -116,7 +117,7 @@ pub fn propagate_row(
     }
 }
 
-// Propagates all rows in at most `budget` passes (01's settle). Refused by 3, 5 to 9, 15.
+// Propagates all rows in at most `budget` passes (01's settle). Refused by 15.
 pub fn propagate(
     n: usize,
     m: usize,
@@ -158,8 +159,8 @@ pub fn propagate(
     }
 }
 
-// Probes the free binary variable `variable`, each side with `budget` passes (01's probe). Refused by 3, 5 to 10, 13
-// to 15.
+// Probes the free binary variable `variable`, each side with `budget` passes (01's probe). Refused by 10, 13 to
+// 15.
 pub fn probe(
     n: usize,
     m: usize,
@@ -211,8 +212,7 @@ pub fn probe(
     }
 }
 
-// Tightens the coefficient of the free binary variable `variable` in row `row` (01's sharpen). Refused by 3, 5 to 9,
-// 12 to 14.
+// Tightens the coefficient of the free binary variable `variable` in row `row` (01's sharpen). Refused by 12 to 14.
 pub fn tighten_coefficient(
     n: usize,
     m: usize,
@@ -261,7 +261,7 @@ pub fn tighten_coefficient(
     }
 }
 
-// Removes row `row` where the box implies it (01's drop). Refused by 3, 5 to 9, 12.
+// Removes row `row` where the box implies it (01's drop). Refused by 12.
 pub fn remove_redundant_row(
     n: usize,
     m: usize,
@@ -301,7 +301,7 @@ pub fn remove_redundant_row(
     }
 }
 
-// Whether the box is a probing fixpoint (01's rest call). Refused by 3, 5 to 9.
+// Whether the box is a probing fixpoint (01's rest call).
 pub fn is_probing_fixpoint(
     n: usize,
     m: usize,

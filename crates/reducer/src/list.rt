@@ -17,7 +17,8 @@ pub enum RunAnswer {
     Ran(Counts),
 }
 
-// The number by which a list is refused as a whole, 0 where it is run: 3, 5 (its own length among them), 6 to 10.
+// The number by which a list is refused as a whole, 0 where it is run: the model's checks, 5 of its own length too, and
+// 10.
 fn list_fault(
     n: usize,
     m: usize,

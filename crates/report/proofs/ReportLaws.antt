@@ -1,9 +1,10 @@
 -- The report is its lines, and what its chunks come to; and byte (2k + v) · 2n + 2j + w of the table says k, v, j, w.
 use Prim.Native.Nat.{_%_, _*_, _+_, _-_, _/_, _<_, _≤_, ℕ}
+use borrow.Author.Tests.{ne-eqb}
 use lib.Dec.{T}
 use lib.IntN.{pos, ℤ}
-use lib.ListN.{length}
-use mathlib.Core.List.{List, append-assoc}
+use lib.ListN.{getD, length}
+use mathlib.Core.List.{List, [], append-assoc}
 use mathlib.Core.Logic.{_↔_}
 use mathlib.Core.Path.{_∙_, _≡_}
 use native.Mathlib.Nat.{div-eq-of-lt, mod-eq-of-lt, mul-add-div-right, mul-add-mod-self-right}
@@ -43,6 +44,13 @@ module _ (n m rounds : ℕ) (B C R : List ℤ) (t : List ℕ) (i : ℕ) where
   pub line-implication : 1 ≤ i → n ≤ i - 1 → m ≤ i - 1 - n → lineAt n m rounds B C R t i ≡ implicationAt n t (i - 1 - n - m)
   unfolding lineAt
   line-implication h k l = rw (then-later, then-later, then-later)
+
+  -- a byte that is not 1 has no text
+  pub line-silent : 1 + (n + m) ≤ i → (getD t (i - (1 + (n + m))) 0 ≡ 1 → ⊥) → lineAt n m rounds B C R t i ≡ []
+  unfolding implicationAt
+  line-silent h k =
+      let e : i - 1 - n - m ≡ i - (1 + (n + m)) = omega arith in
+      line-implication (omega arith) (omega arith) (omega arith) ∙ rw (e, ne-eqb _ 1 k)
 
 -- ---- the byte of an implication, and a zero row
 

@@ -4,7 +4,7 @@ use borrow.Author.Tests.{le-ltb, lt-ltb}
 use lib.ListN.{drop, length, length-append, length-drop, length-take, set, take, take-append-drop}
 use lib.Seq.{append-snoc, drop-at, drop-drop, set-split, take-at}
 use mathlib.Core.List.{List, [], _++_, _∷_, append-assoc, append-nil}
-use mathlib.Core.Path.{_∙_, _≡_, ap, refl}
+use mathlib.Core.Path.{_∙_, _≡_, ap, refl, sym}
 use native.Mathlib.Nat.{add-suc, add-zero}
 use native.Mathlib.Numerals.{add-one}
 use native.Mathlib.Omega.{arith}
@@ -61,6 +61,17 @@ chunk-chunk f a b c h k =
     let e : c - a ≡ (b - a) + (c - b) = omega arith in
     let g : (i : ℕ) → i < c - b → f (b + i) ≡ f (a + (b - a + i)) = λ i _. let d : b + i ≡ a + (b - a + i) = omega arith in ap f d in
     rw (e, texts-add, texts-same (c - b) _ _ g)
+
+texts-silent : (n : ℕ) (f : ℕ → List ℕ) → ((i : ℕ) → i < n → f i ≡ []) → texts n f ≡ []
+unfolding texts
+texts-silent zero f h = refl
+texts-silent (suc n) f h = rw (texts-silent n f (λ i k. h i (omega arith)), h n (omega arith))
+
+-- texts of nothing at its end change no chunk
+pub chunk-silent : (f : ℕ → List ℕ) (a b c : ℕ) → a ≤ b → b ≤ c → ((q : ℕ) → b ≤ q → q < c → f q ≡ []) → chunk f a c ≡ chunk f a b
+unfolding chunk
+chunk-silent f a b c h k s =
+    sym (chunk-chunk f a b c h k) ∙ rw (texts-silent (c - b) (λ i. f (b + i)) (λ i l. s (b + i) (omega arith) (omega arith))) (append-nil _)
 
 pub chunk-whole : (f : ℕ → List ℕ) (n : ℕ) → chunk f 0 n ≡ texts n f
 unfolding chunk

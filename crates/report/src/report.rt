@@ -1,7 +1,7 @@
 // A report line by line, and in chunks that fit a buffer.
 ghost use mathlib.Core.Path.{_≡_};
-ghost use Prim.Native.Nat.{_+_, _*_, _<_, _≤_};
-ghost use lib.ListN.{length};
+ghost use Prim.Native.Nat.{ℕ, _+_, _-_, _*_, _<_, _≤_};
+ghost use lib.ListN.{getD, length};
 ghost use Rattle.model.specs.Limits.{maxRows, maxVariables};
 ghost use Rattle.report.specs.Report.{Printable, implicationAt, lineAt, lineCount, maxLine, maxShortLine, rowAt};
 ghost use Rattle.report.specs.Text.{Wrote, chunk};
@@ -100,6 +100,26 @@ pub fn line_count(n: usize, m: usize) -> usize
     1 + (n + (m + 4 * (n * n)))
 }
 
+// The next line from i on that may have text: of the table only a byte 1 has a line. `first` is the line of byte 0.
+fn next_line(first: usize, table: &[u8], i: usize) -> usize
+    requires { ⌜ (i ≤ first + length (now table)) × (first + length (now table) < 18_446_744_073_709_551_616) ⌝ }
+    ensures within { λ r. ⌜ (i ≤ r) × (r ≤ first + length (now (table .entry))) ⌝ }
+    ensures silent { λ r.
+        ⌜ ((q : ℕ) → i ≤ q → q < r → (first ≤ q) × (getD (now (table .entry)) (q - first) 0 ≡ 1 → ⊥)) ⌝ }
+{
+    if i < first {
+        return i;
+    }
+    let mut byte = i - first;
+    while byte < table.len() {
+        if table[byte] == 1 {
+            return first + byte;
+        }
+        byte += 1;
+    }
+    first + byte
+}
+
 // Writes the report's lines from `from` on, as many as have room, at the start of the buffer: at
 // least one where one is left.
 pub fn fill(
@@ -131,7 +151,7 @@ pub fn fill(
             return Chunk { next, end };
         }
         end = write_line(n, m, rounds, bounds, coefs, rhs, table, next, buf, end);
-        next += 1;
+        next = next_line(1 + (n + m), table, next + 1);
     }
     Chunk { next, end }
 }

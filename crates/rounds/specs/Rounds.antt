@@ -101,7 +101,7 @@ roundsFrom (suc left) made s =
 
 -- ---- the call
 
--- refused by 3, 5 to 10, or the rounds with the given limit
+-- refused by the checks of the model and 10, or the rounds with the given limit
 pub data RoundsAnswer : Type 0 where
   refusedRounds : ℕ → RoundsAnswer
   ended : RoundsEnding → ℕ → RoundsAnswer

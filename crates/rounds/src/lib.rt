@@ -328,8 +328,8 @@ fn round(
     changed
 }
 
-// Makes rounds until one changes nothing, the box is empty or `limit` rounds are made. Refused by 3, 5 to 10; the
-// table is kept and extended.
+// Makes rounds until one changes nothing, the box is empty or `limit` rounds are made. Refused by the model's
+// checks and 10; the table is kept and extended.
 pub fn run(
     n: usize,
     m: usize,

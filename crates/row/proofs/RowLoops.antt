@@ -34,7 +34,7 @@ use Rattle.row.specs.Outcome.{changed, unchanged}
 use Rattle.row.specs.Propagation.{impliedBox, newLower, newUpper, stays, staysAt}
 use Rattle.row.specs.Redundancy.{zeroRow}
 use Rattle.row.specs.Tightening.{NewRow, tightenAt}
-use Rattle.row.specs.ValidRow.{ImpliesBounds, ValidCoefs}
+use Rattle.row.specs.ValidRow.{ImpliesBounds, ImpliesBox, ValidCoefs, ValidRow}
 use Rattle.row.proofs.ImpliedBoxLaws.{moved-implied}
 
 not-le : {x y : ℤ} → (x ≤ℤ y → ⊥) → y <ℤ x
@@ -102,6 +102,19 @@ module _ {n : ℕ} {A B : List ℤ} (v : ValidCoefs n A B) where
   pub max-activity-small : Within 5_000_000_000_000 (maxActivity n A B)
   unfolding maxActivity
   max-activity-small = sum-small _ (max-terms .small) n (v .few)
+
+-- a row that the box can meet has all that its new bounds are found by
+pub implies-box : {n : ℕ} {A : List ℤ} {b : ℤ} {B : List ℤ} → ValidRow n A b B → minActivity n A B ≤ℤ b → ImpliesBox n A b (minActivity n A B) B
+implies-box v met = record {
+  len = v .coefs .len;
+  boxLen = v .coefs .box .len;
+  few = v .coefs .few;
+  coefs = coefs-small (v .coefs);
+  rhs = rhs-within (v .rhs);
+  activity = min-activity-small (v .coefs);
+  met = met;
+  bounds = bounds-small (v .coefs);
+}
 
 -- ---- new bounds
 
@@ -250,6 +263,17 @@ count false e f (inl w) = omega arith
 count false e f (inr w) = absurd (true≢false (sym f ∙ w .0))
 
 module _ (A : List ℤ) (b L : ℤ) (B : List ℤ) where
+  -- each variable's numbers are within the limits
+  pub implies-at : {n : ℕ} → ImpliesBox n A b L B → (j : ℕ) → ImpliesBounds (at A j) b L (lower B j) (upper B j)
+  implies-at i j = record {
+    coef = i .coefs j;
+    rhs = i .rhs;
+    activity = i .activity;
+    met = i .met;
+    low = i .bounds (2 * j);
+    high = i .bounds (2 * j + 1);
+  }
+
   abbrev lows : ℕ → ℤ
   lows j = newLower (at A j) b L (lower B j) (upper B j)
 

@@ -17,9 +17,9 @@ module _ {n : ℕ} {A : List ℤ} {b : ℤ} {B : List ℤ} (valid : ValidRow n A
   pub view-valid : ValidRow (length (now (d .coefs))) (now (d .coefs)) (d .b) B
   view-valid = rw (e .0, e .1, valid .coefs .len) valid
 
-  pub view-told : (r : RowPropagation) {zs : List ℤ}
+  pub view-told : (r : RowPropagation) (zs : List ℤ)
       → propagatedRowOf r zs ≡ propagateRow (length (now (d .coefs))) (now (d .coefs)) (d .b) B → propagatedRowOf r zs ≡ propagateRow n A b B
-  view-told r t = rw (e .0, e .1, valid .coefs .len) at t
+  view-told r zs t = rw (e .0, e .1, valid .coefs .len) at t
 
   pub view-steps : {S : List ℕ} → Steps n A S → Steps (length (now (d .coefs))) (now (d .coefs)) S
   view-steps s = rw (e .0, valid .coefs .len) s

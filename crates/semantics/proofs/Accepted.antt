@@ -8,7 +8,7 @@ use mathlib.Core.Logic.{_↔_}
 use mathlib.Core.Path.{_∙_, _≡_, ap}
 use Rattle.integer.proofs.Tests.{T→true, all-three, both, eqb-test, leb-test, ltb-test, when-test}
 use Rattle.model.specs.Box.{isEmpty, isFree}
-use Rattle.model.specs.Checks.{LentTable, first, lengthChecks, modelChecks, modelFault, none, numberChecks, sizeChecks, table, tableByteChecks, tableLengthChecks}
+use Rattle.model.specs.Checks.{LentTable, boxChecks, first, lengthChecks, modelChecks, modelFault, none, numberChecks, sizeChecks, table, tableByteChecks, tableLengthChecks}
 use Rattle.model.specs.Model.{Model}
 use Rattle.model.specs.State.{State}
 use Rattle.model.specs.Valid.{ValidModel, ValidState, ValidTable}
@@ -58,7 +58,7 @@ lent-test k s c =
 -- ---- such a call's checks are those of the model, then its own
 
 pub numbered-model : (M : Model) (t : LentTable) (fits : Bool) → T (numbered (modelChecks M t fits))
-unfolding modelChecks sizeChecks lengthChecks tableLengthChecks numberChecks tableByteChecks
+unfolding modelChecks sizeChecks lengthChecks tableLengthChecks boxChecks numberChecks tableByteChecks
 numbered-model M none fits = tt
 numbered-model M (table t) fits = tt
 

@@ -1,10 +1,9 @@
--- How an accepted call counts, read off its answer alone: a visit, sharpen or drop by its outcome, a settle by its passes, a probe
+-- How an accepted call counts, read off its answer alone: a visit, sharpen or drop by its outcome, a settle by the bounds it moved, a probe
 -- by its case, its new bytes and its box; each by the laws that say when the call's own rule leaves the state. Assumes nothing.
-use Prim.Native.Nat.{_<_, _≤_, suc, zero, ℕ}
+use Prim.Native.Nat.{_<_, ℕ}
 use lib.Dec.{T, eqb}
 use lib.IntN.{ℤ}
 use lib.ListN.{length}
-use lib.Signed.{_<ℤ_}
 use mathlib.Core.Bool.{Bool, _&&_, _||_, cond, false, not, true}
 use mathlib.Core.List.{List, [], _∷_}
 use mathlib.Core.Logic.{_↔_, _≢_, ⊎-elim}
@@ -12,7 +11,7 @@ use mathlib.Core.Path.{_∙_, _≡_, ap, refl, subst, sym}
 use native.Mathlib.Omega.{arith}
 use Rattle.integer.proofs.Parts.{zarith}
 use Rattle.integer.proofs.Tests.{T→false, T→true, and-i, and-l, and-r, bool-ext, decide, eqb-test, not-not, or-r, test-false, test-true}
-use Rattle.model.specs.Box.{Inside, NonEmpty, at, isEmpty, isFree, sameList, width}
+use Rattle.model.specs.Box.{Inside, NonEmpty, at, isEmpty, isFree, sameList}
 use Rattle.model.specs.Rows.{Row, Rows, rowAt, rowOf, setRow}
 use Rattle.model.specs.State.{State, withBox, withRow}
 use Rattle.model.specs.Valid.{ValidModel, ValidTable}
@@ -26,20 +25,18 @@ use Rattle.row.proofs.ImpliedBoxLaws.{valid-nonEmpty}
 use Rattle.row.proofs.PropagationLaws.{propagate-row-changed, propagate-row-feasible-ind, propagate-row-unchanged}
 use Rattle.row.proofs.RedundancyLaws.{remove-redundant-row-changed, remove-redundant-row-replaces, remove-redundant-row-unchanged}
 use Rattle.row.proofs.TighteningLaws.{tighten-coefficient-changed, tighten-coefficient-length, tighten-coefficient-unchanged}
-use Rattle.row.proofs.Width.{width-mono}
-use Rattle.semantics.specs.Call.{Call, Kind, hasBudget, hasRow, hasTable, hasVariable, kindOf, probing, propagation, removal, rowPropagation, tightening}
+use Rattle.semantics.specs.Call.{Call, Kind, hasRow, hasTable, hasVariable, kindOf, probing, propagation, removal, rowPropagation, tightening}
 use Rattle.semantics.specs.CallChecks.{callFault}
 use Rattle.semantics.specs.Demand2.{ones}
 use Rattle.semantics.specs.Perform.{act, perform}
 use Rattle.semantics.specs.Probe.{ProbeEnding, bothFeasible, fix, fixed, infeasible, probe, recordTo}
-use Rattle.semantics.specs.Propagate.{isNone, isSpent, passTo, propagate, propagateFrom}
+use Rattle.semantics.specs.Propagate.{isNone, propagate}
 use Rattle.semantics.specs.Run.{CallClass, answersNone, changedCall, classOf, infeasibleCall, isRefused, probeInfeasible, refusedCall, sameBytes, sameState, step, unchangedCall}
 use Rattle.semantics.proofs.Accepted.{Accepted, accepted}
 use Rattle.semantics.proofs.CallLaws.{perform-accepted, step-accepted, step-ind}
-use Rattle.semantics.proofs.Convergence.{pass-passed}
 use Rattle.semantics.proofs.ImplicationLaws.{recordTo-added, recordTo-same}
 use Rattle.semantics.proofs.ProbeLaws.{at-fix, probe-ind}
-use Rattle.semantics.proofs.PropagateLaws.{propagate-ind, propagate-shrinks, propagateFrom-ind, propagateFrom-shrinks}
+use Rattle.semantics.proofs.PropagateLaws.{propagate-ind, propagate-moved-iff, propagate-shrinks}
 
 -- ---- the same state
 
@@ -120,39 +117,14 @@ row-same s i q v im len stays moves =
     (λ t. let h = stays t in
     rw (setRow-same n A i (rowLeft q) (h .0) (h .1)) (and-i (sameList (A .coefs) (A .coefs)) _ (sameList-refl (A .coefs)) (sameList-refl (A .rhs))))
 
-module _ (n m : ℕ) (A : Rows) where
-  -- one that is not Spent made a pass of its own
-  one-more : (left made : ℕ) (B : List ℤ) → T (not (isSpent (propagateFrom left made n m A B .ending)))
-      → made < propagateFrom left made n m A B .passes
-  unfolding propagateFrom isSpent
-  one-more zero made B = λ z. absurd z
-  one-more (suc left) made B = propagateFrom-ind left made n m A B (λ r. T (not (isSpent (r .ending))) → made < r .passes)
-      (λ _ _. omega arith)
-      (λ _ _ t. let h = one-more left (suc made) (passTo n m A B .box) t in omega arith)
-      (λ _ _ _. omega arith)
-
-  -- a settle leaves the box exactly where its first pass moved nothing; a later box is less wide
-  propagate-same : (budget : ℕ) {B : List ℤ} → 1 ≤ budget → NonEmpty n B → let r = propagate budget n m A B in
-      T (not (isNone (r .ending))) → sameList B (r .box) ≡ (not (isSpent (r .ending)) && eqb (r .passes) 1)
-  unfolding isNone isSpent
-  propagate-same zero h p = absurd (let z : ⊥ = omega arith in z)
-  propagate-same (suc left) {B} h p =
-      propagate-ind (suc left) n m A B (λ r. T (not (isNone (r .ending))) → sameList B (r .box) ≡ (not (isSpent (r .ending)) && eqb (r .passes) 1))
-      (λ _ z. absurd z)
-      (λ _. propagateFrom-ind left 0 n m A B
-      (λ r. T (not (isNone (r .ending))) → sameList B (r .box) ≡ (not (isSpent (r .ending)) && eqb (r .passes) 1))
-      (λ _ z. absurd z)
-      (λ t u w. let P = passTo n m A B .box in let r = propagateFrom left 1 n m A P in
-      let d = test-false (sameList B (r .box)) (same-test B (r .box)) (λ e. less P (r .box) (pass-passed m A p t .less u) (propagateFrom-shrinks n m A left 1 P w) e) in
-      d ∙ sym (later (r .passes) (isSpent (r .ending)) (one-more left 1 P)))
-      (λ t u _. test-true (sameList B (passTo n m A B .box)) (same-test B (passTo n m A B .box)) (pass-passed m A p t .same u)))
-    where
-      less : (P Q : List ℤ) → width n P <ℤ width n B → Inside n Q P → Q ≡ B → ⊥
-      less P Q l i e = let w = width-mono i in let f = ap (width n) e in let z : ⊥ = omega zarith in z
-
-      later : (q : ℕ) (spent : Bool) → (T (not spent) → 1 < q) → (not spent && eqb q 1) ≡ false
-      later q true g = refl
-      later q false g = let k = g tt in test-false (eqb q 1) (eqb-test q 1) (λ e. let z : ⊥ = omega arith in z)
+-- a settle leaves the box exactly where it moved nothing
+propagate-same : (n m : ℕ) (A : Rows) (budget : ℕ) {B : List ℤ} → NonEmpty n B → let r = propagate budget n m A B in
+    T (not (isNone (r .ending))) → sameList B (r .box) ≡ eqb (r .moved) 0
+propagate-same n m A budget {B} p t =
+    let r = propagate budget n m A B in
+    let d = propagate-moved-iff m A budget p t in
+    bool-ext (sameList B (r .box)) (eqb (r .moved) 0)
+    (λ u. eqb-test (r .moved) 0 .1 (d .1 (same-test B (r .box) .0 u))) (λ u. same-test B (r .box) .1 (d .0 (eqb-test (r .moved) 0 .0 u)))
 
 -- no byte became 1, of a probe with both sides
 unfoldable pub addsNone : ProbeEnding → Bool
@@ -225,15 +197,15 @@ module _ (s : State) (c : Call) (e : callFault s c ≡ 0) where
       (λ t. propagate-row-unchanged A b p f t) (λ t. propagate-row-changed A b p (not-not (isChanged (r .outcome)) t)))
 
   pub propagate-class : kindOf (c .kind) ≡ propagation → let r = propagate (c .budget) (s .model .n) (s .model .m) (s .model .rows) (s .model .box) in
-      classOf s c ≡ classBy (isNone (r .ending)) (not (isSpent (r .ending)) && eqb (r .passes) 1)
-  unfolding act answersNone isRefused hasBudget isNone
+      classOf s c ≡ classBy (isNone (r .ending)) (eqb (r .moved) 0)
+  unfolding act answersNone isRefused isNone
   propagate-class q =
       let a = accepted-kind propagation q in
       let r = propagate (c .budget) (s .model .n) (s .model .m) (s .model .rows) (s .model .box) in
       class-of propagation q tt ∙ class-is (isNone (r .ending)) (λ f.
       let p = valid-nonEmpty (a .model .box) (propagate-ind (c .budget) (s .model .n) (s .model .m) (s .model .rows) (s .model .box)
       (λ r. T (not (isNone (r .ending))) → T (not (isEmpty (s .model .n) (s .model .box)))) (λ _ z. absurd z) (λ t _. t) f) in
-      same-box s (r .box) ∙ propagate-same (s .model .n) (s .model .m) (s .model .rows) (c .budget) (a .budget tt .0) p f)
+      same-box s (r .box) ∙ propagate-same (s .model .n) (s .model .m) (s .model .rows) (c .budget) p f)
 
   pub probe-class : kindOf (c .kind) ≡ probing
       → let r = probe (c .variable) (c .budget) (s .model .n) (s .model .m) (s .model .rows) (s .model .box) (s .table) in

@@ -1,8 +1,8 @@
 -- A budget above the box's width is never spent: propagation then ends in the greatest fixpoint inside, or infeasible where there is
 -- none. So the test of the rest call, and rest in the demand's own words, say what a probing fixpoint is.
-use Prim.Native.Nat.{_*_, _+_, _<_, suc, zero, ℕ}
+use Prim.Native.Nat.{_+_, _<_, _≤_, suc, zero, ℕ}
 use lib.Dec.{T, T-not, not-T}
-use lib.IntN.{_-ℤ_, pos, ℤ}
+use lib.IntN.{_+ℤ_, pos, ℤ}
 use lib.Signed.{_<ℤ_, _≤ℤ_}
 use mathlib.Core.Bool.{Bool, _&&_, _||_, false, not, true}
 use mathlib.Core.List.{List}
@@ -11,89 +11,63 @@ use mathlib.Core.Path.{_∙_, _≡_, ap, ap₂, refl, subst}
 use native.Mathlib.Decide.{ℕ-discrete}
 use native.Mathlib.Omega.{arith}
 use Rattle.integer.specs.Index.{all}
-use Rattle.integer.specs.Range.{Within}
-use Rattle.integer.proofs.IndexLaws.{all-test, sum-within}
-use Rattle.integer.proofs.Parts.{sub-parts, zarith}
-use Rattle.integer.proofs.RangeLaws.{within!, zwithin}
-use Rattle.integer.proofs.Tests.{all-three, both, false→T, not-or-l, not-or-r, or-cases, or-inl, or-inr, true→T}
-use Rattle.model.specs.Box.{Inside, NonEmpty, at, emptyBox, isEmpty, isFree, lower, sameList, upper, width}
+use Rattle.integer.proofs.IndexLaws.{all-test}
+use Rattle.integer.proofs.Parts.{zarith}
+use Rattle.integer.proofs.Tests.{all-three, both, false→T, or-cases, or-inl, or-inr, true→T}
+use Rattle.model.specs.Box.{Inside, NonEmpty, at, emptyBox, isEmpty, isFree, sameList, width}
+use Rattle.model.specs.Model.{Model}
 use Rattle.model.specs.Rows.{Rows, rowAt}
 use Rattle.model.specs.State.{State}
 use Rattle.model.specs.Valid.{ValidModel}
 use Rattle.model.proofs.BoxLaws.{empty-is, inside-antisymm, inside-refl, inside-trans, isEmpty→eq, nonEmpty-isn't, not-in-empty, sameList-refl, sameList→eq}
+use Rattle.model.proofs.CheckLaws.{model-width}
 use Rattle.row.specs.Outcome.{isChanged, isInfeasible}
 use Rattle.row.specs.Propagation.{PropagatedRow, propagateRowOf}
-use Rattle.row.proofs.PropagationLaws.{box→stable, propagate-row-nonEmpty, propagate-row-shrinks, propagate-row-unchanged, propagate-row-width, stable→same}
+use Rattle.row.proofs.PropagationLaws.{box→stable, propagate-row-moved-none, propagate-row-unchanged, stable→same}
 use Rattle.row.proofs.Width.{width-mono, width-nonneg}
 use Rattle.semantics.specs.CallChecks.{maxBudget}
-use Rattle.semantics.specs.Convergence.{Ends, EnoughPasses, LargestBudget, NothingMoves, RestInOwnWords, RestIsTested, UniqueGreatest}
+use Rattle.semantics.specs.Convergence.{Ends, EnoughPasses, LargestBudget, MovedLimit, NothingMoves, RestInOwnWords, RestIsTested, UniqueGreatest}
 use Rattle.semantics.specs.Fixpoint.{Fixpoint, GreatestFixpoint, ProbedFixpoint, ProbingFixpoint, SidesSpan}
 use Rattle.semantics.specs.Probe.{ProbeEnding, bothFeasible, fix, fixed, hull, infeasible, probe}
-use Rattle.semantics.specs.Propagate.{Pass, isNone, isSpent, passTo, propagate, propagateFrom}
+use Rattle.semantics.specs.Propagate.{isNone, isSpent, passTo, propagate, propagateFrom}
 use Rattle.semantics.specs.RestTest.{isFixpoint, isProbingFixpoint, sidesSpan}
 use Rattle.semantics.proofs.ProbeLaws.{fix-inside, fix-nonEmpty, probe-ind}
-use Rattle.semantics.proofs.PropagateLaws.{pass-ind, pass-infeasible-box, pass-keeps, pass-shrinks, propagate-ind, propagateFrom-ind}
+use Rattle.semantics.proofs.PropagateLaws.{moved-at-most, pass-ind, pass-infeasible-box, pass-keeps, pass-moved-none, pass-moved-width, pass-nonEmpty, pass-shrinks, propagate-empty, propagate-ind, propagate-moved-le, propagateFrom-ind}
 
--- ---- a pass in which no row was infeasible
+-- ---- a pass that moved nothing
 
-or-left : (a b : Bool) → T (a || b) → T a ⊎ (T (not a) × T b)
-or-left true b t = inl tt
-or-left false b t = inr (tt, t)
-
--- r is what a pass over the first i rows left of B: narrower where a bound moved, and where none did, B, which those rows leave as it is
-pub record Passed (n i : ℕ) (A : Rows) (B : List ℤ) (r : Pass) : Type 0 where
-  pub nonEmpty : NonEmpty n (r .box)
-  pub less : T (r .moved) → width n (r .box) <ℤ width n B
-  pub same : T (not (r .moved)) → r .box ≡ B
-  pub stays : T (not (r .moved)) → (j : ℕ) → j < i → propagateRowOf n (rowAt n A j) B .box ≡ B
-
-module _ (n i : ℕ) (A : Rows) (B : List ℤ) (r : Pass) (p : Passed n i A B r)
-    (t : T (not (isInfeasible (propagateRowOf n (rowAt n A i) (r .box) .outcome)))) where
-  abbrev next : PropagatedRow
-  next = propagateRowOf n (rowAt n A i) (r .box)
-
-  passed-row : Passed n (suc i) A B (record { ended = isInfeasible (next .outcome); moved = r .moved || isChanged (next .outcome); box = next .box })
-  passed-row = record {
-    nonEmpty = propagate-row-nonEmpty (rowAt n A i .coefs) (rowAt n A i .rhs) (p .nonEmpty) t;
-    less = λ u. less (or-left (r .moved) (isChanged (next .outcome)) u);
-    same = λ u. stay u ∙ p .same (not-or-l (r .moved) _ u);
-    stays = λ u j h. last u j h (ℕ-discrete j i);
-  }
-    where
-      less : T (r .moved) ⊎ (T (not (r .moved)) × T (isChanged (next .outcome))) → width n (next .box) <ℤ width n B
-      less (inl m) = let l = p .less m in let w = width-mono (propagate-row-shrinks n (rowAt n A i .coefs) (rowAt n A i .rhs) (r .box) t) in omega zarith
-      less (inr m) = subst (λ (c : List ℤ). width n (next .box) <ℤ width n c) (p .same (m .0)) (propagate-row-width (rowAt n A i .coefs) (rowAt n A i .rhs) (p .nonEmpty) (m .1))
-
-      stay : T (not (r .moved || isChanged (next .outcome))) → next .box ≡ r .box
-      stay u = propagate-row-unchanged (rowAt n A i .coefs) (rowAt n A i .rhs) (p .nonEmpty) t (not-or-r (r .moved) (isChanged (next .outcome)) u)
-
-      last : T (not (r .moved || isChanged (next .outcome))) → (j : ℕ) → j < suc i → Dec (j ≡ i) → propagateRowOf n (rowAt n A j) B .box ≡ B
-      last u j h (yes e) =
-          rw e (subst (λ (c : List ℤ). propagateRowOf n (rowAt n A i) c .box ≡ c) (p .same (not-or-l (r .moved) _ u)) (stay u))
-      last u j h (no ne) = p .stays (not-or-l (r .moved) _ u) j (omega arith)
-
-pub pass-passed : (i : ℕ) (A : Rows) {n : ℕ} {B : List ℤ} → NonEmpty n B → T (not (passTo n i A B .ended))
-    → Passed n i A B (passTo n i A B)
+-- its rows leave the box as it is
+pub pass-stays : (i : ℕ) (A : Rows) {n : ℕ} {B : List ℤ} → NonEmpty n B → T (not (passTo n i A B .ended)) → passTo n i A B .moved ≡ 0
+    → (j : ℕ) → j < i → propagateRowOf n (rowAt n A j) B .box ≡ B
 unfolding passTo
-pass-passed zero A p = λ _. record { nonEmpty = p; less = λ z. absurd z; same = λ _. refl; stays = λ _ j h. absurd (let z : ⊥ = omega arith in z) }
-pass-passed (suc i) A {n} {B} p = pass-ind n i A B (λ r. T (not (r .ended)) → Passed n (suc i) A B r)
+pass-stays zero A p = λ _ _ j h. absurd (let z : ⊥ = omega arith in z)
+pass-stays (suc i) A {n} {B} p =
+    pass-ind n i A B (λ r. T (not (r .ended)) → r .moved ≡ 0 → (j : ℕ) → j < suc i → propagateRowOf n (rowAt n A j) B .box ≡ B)
     (λ t u. absurd (T-not (passTo n i A B .ended) u t))
-    (λ t u. passed-row n i A B (passTo n i A B) (pass-passed i A p t) u)
+    (λ t u e j h. last t u e j h (ℕ-discrete j i) (pass-stays i A p t (omega arith) j))
+  where
+    last : T (not (passTo n i A B .ended)) → let v = propagateRowOf n (rowAt n A i) (passTo n i A B .box) in
+        T (not (isInfeasible (v .outcome))) → passTo n i A B .moved + v .moved ≡ 0 → (j : ℕ) → j < suc i → Dec (j ≡ i)
+        → (j < i → propagateRowOf n (rowAt n A j) B .box ≡ B) → propagateRowOf n (rowAt n A j) B .box ≡ B
+    last t u e j h (yes q) r =
+        rw q (subst (λ (c : List ℤ). propagateRowOf n (rowAt n A i) c .box ≡ c) (pass-moved-none A p i t (omega arith))
+        (propagate-row-moved-none (rowAt n A i .coefs) (rowAt n A i .rhs) (pass-nonEmpty A i p t) u (omega arith)))
+    last t u e j h (no ne) r = r (omega arith)
 
 -- ---- a budget above the width is enough
 
-propagateFrom-ends : (left made n m : ℕ) (A : Rows) (B : List ℤ) → 0 < n → NonEmpty n B → width n B <ℤ pos left
-    → Ends n m A B (propagateFrom left made n m A B)
+propagateFrom-ends : (left made sum n m : ℕ) (A : Rows) (B : List ℤ) → 0 < n → NonEmpty n B → width n B <ℤ pos left
+    → Ends n m A B (propagateFrom left made sum n m A B)
 unfolding isSpent isNone
-propagateFrom-ends zero made n m A B h p w = absurd (let z = width-nonneg p in let y : ⊥ = omega zarith in y)
-propagateFrom-ends (suc left) made n m A B h p w = propagateFrom-ind left made n m A B (Ends n m A B)
+propagateFrom-ends zero made sum n m A B h p w = absurd (let z = width-nonneg p in let y : ⊥ = omega zarith in y)
+propagateFrom-ends (suc left) made sum n m A B h p w = propagateFrom-ind left made sum n m A B (Ends n m A B)
     (λ t. record {
       notSpent = tt;
       none = λ _ P q i. not-in-empty n P h (q .nonEmpty) (rw (pass-infeasible-box n A m B t) at (pass-keeps h q m (omega arith) i));
       greatest = λ z. absurd z;
     })
-    (λ t u. let d = pass-passed m A p t in let l = d .less u in
-    let e = propagateFrom-ends left (suc made) n m A (passTo n m A B .box) h (d .nonEmpty) (omega zarith) in
+    (λ t u. let l = pass-moved-width n A m B t in
+    let e = propagateFrom-ends left (suc made) _ n m A (passTo n m A B .box) h (pass-nonEmpty A m p t) (omega (zarith, simp zify at l)) in
     record {
       notSpent = e .notSpent;
       none = λ v P q i. e .none v P q (pass-keeps h q m (omega arith) i);
@@ -103,31 +77,37 @@ propagateFrom-ends (suc left) made n m A B h p w = propagateFrom-ind left made n
         greatest = λ P q i. e .greatest v .greatest P q (pass-keeps h q m (omega arith) i);
       };
     })
-    (λ t u. let d = pass-passed m A p t in
-    record {
+    (λ t u. record {
       notSpent = tt;
       none = λ z. absurd z;
-      greatest = λ _. rw (d .same u) (record { fixpoint = record { nonEmpty = p; same = d .stays u }; inside = inside-refl n B; greatest = λ P q i. i });
+      greatest = λ _. rw (pass-moved-none A p m t u) (record { fixpoint = record { nonEmpty = p; same = pass-stays m A p t u }; inside = inside-refl n B; greatest = λ P q i. i });
     })
 
 pub propagate-ends : EnoughPasses
 unfolding EnoughPasses
 propagate-ends budget n m A B h p w = propagate-ind budget n m A B (Ends n m A B)
     (λ t. absurd (not-in-empty n B h p (subst (Inside n B) (isEmpty→eq n B t) (inside-refl n B))))
-    (λ _. propagateFrom-ends budget 0 n m A B h p w)
+    (λ _. propagateFrom-ends budget 0 0 n m A B h p w)
 
 pub width-limit : LargestBudget
-unfolding LargestBudget width
-width-limit M v =
-    let w : Within (M .n * 65_535) (width (M .n) (M .box)) = sum-within 65_535 (λ j. upper (M .box) j -ℤ lower (M .box) j) term (M .n) in
-    let f = v .few in
-    (omega zwithin, omega zwithin)
-  where
-    term : (j : ℕ) → Within 65_535 (upper (M .box) j -ℤ lower (M .box) j)
-    term j =
-        let a = v .box .range (2 * j) in
-        let b = v .box .range (2 * j + 1) in
-        within! 65_535 (upper (M .box) j -ℤ lower (M .box) j) (omega (zarith, sub-parts (upper (M .box) j) (lower (M .box) j)))
+unfolding LargestBudget
+width-limit M v = let w = model-width M v in (w, omega zarith)
+
+-- k bounds that moved from the box of a model to P, which is not empty, are within that
+pub moved-limit : (M : Model) → ValidModel M → (k : ℕ) {P : List ℤ} → NonEmpty (M .n) P
+    → (pos k +ℤ width (M .n) P) ≤ℤ width (M .n) (M .box) → k ≤ 524_288
+unfolding LargestBudget
+moved-limit M v k p f =
+    let w = width-limit M v .0 in
+    let g = moved-at-most (M .n) k (M .box) p f in
+    omega zarith
+
+pub propagate-moved-limit : MovedLimit
+unfolding MovedLimit LargestBudget
+propagate-moved-limit M v budget = ⊎-elim
+    (λ (e : M .box ≡ emptyBox (M .n)). rw (e, propagate-empty budget (M .n) (M .m) (M .rows)) (omega arith))
+    (λ p. let w = width-limit M v .0 in let g = propagate-moved-le (M .m) (M .rows) budget p in omega zarith)
+    (v .box .shape)
 
 pub greatest-unique : UniqueGreatest
 unfolding UniqueGreatest

@@ -1,67 +1,31 @@
--- Demand 1: the checks of a call stand in the order of their numbers, so the first that fails is the least number that fails.
+-- Demand 1: the checks of a call stand in the order of their places, so the first that fails is the one with the least place.
 use Prim.Native.Nat.{_*_, _+_, _/_, _<_, _≤_, ℕ}
-use lib.Dec.{T, eqb, eqb→eq, leb, leb→le, ltb}
+use lib.Dec.{T, eqb, eqb→eq, leb, ltb}
 use lib.IntN.{ℤ}
 use lib.ListN.{length}
 use lib.Signed.{_≤ℤ_, leZ}
-use mathlib.Core.Bool.{Bool, _&&_, _||_, false, not, true}
+use mathlib.Core.Bool.{_&&_, _||_, not, true}
 use mathlib.Core.List.{List, [], _∷_}
 use mathlib.Core.Logic.{Iff·trans, _↔_}
 use mathlib.Core.Path.{_∙_, _≡_, ap, refl, subst, sym}
 use native.Mathlib.Decide.{decLt, ℕ-discrete}
 use native.Mathlib.Omega.{arith}
 use Rattle.integer.proofs.IndexLaws.{all-test}
-use Rattle.integer.proofs.Tests.{and-l, and-r, both, cond-ind, eqb-test, le-test, leb-test, ltb-test, neqb→ne, or-test, when-test}
+use Rattle.integer.proofs.Tests.{both, cond-ind, eqb-test, le-test, leb-test, ltb-test, neqb→ne, or-test, when-test}
 use Rattle.model.specs.Box.{isEmpty, isFree, lower, upper}
-use Rattle.model.specs.Checks.{Check, bits, first, inRange, lengthChecks, modelChecks, must, numberChecks, ordered, sizeChecks, tableByteChecks, tableLengthChecks}
+use Rattle.model.specs.Checks.{Check, bits, boxChecks, first, inRange, lengthChecks, modelChecks, must, narrow, numberChecks, ordered, sizeChecks, tableByteChecks, tableLengthChecks}
 use Rattle.model.specs.Limits.{maxBound, maxCoef, maxRhs, maxRows, maxVariables, minBound, minCoef, minRhs}
+use Rattle.model.specs.Places.{place}
 use Rattle.model.specs.State.{State}
 use Rattle.model.proofs.BoxLaws.{isEmpty-test}
-use Rattle.model.proofs.CheckLaws.{Hold, bits-test, first-none, inRange-test, length-test, size-test}
+use Rattle.model.proofs.CheckLaws.{bits-test, first-none, inRange-test, length-test, narrow-test, size-test}
+use Rattle.model.proofs.PlaceLaws.{AllPass, first-before, first-fails, hold-pass, place-injective}
 use Rattle.semantics.specs.Call.{Call, Kind, hasBudget, hasRow, hasTable, hasVariable, isUnknown, kindOf, probing, propagation, removal, rowPropagation, tightening, unknown}
 use Rattle.semantics.specs.CallChecks.{callChecks, callFault, givenModel, isLent, lentTable, maxBudget, recordChecks}
 use Rattle.semantics.specs.Demand1.{Demand1, LengthsFit, Passes}
 use Rattle.semantics.specs.Perform.{Answer, Performed, act, perform, refused}
 use Rattle.semantics.specs.Run.{isRefused}
 use Rattle.semantics.proofs.Accepted.{accepted, lent-test}
-
--- ---- a list of checks in the order of their numbers
-
--- every test of number N holds
-abbrev AllPass : ℕ → List Check → Type 0
-AllPass N [] = Unit {0}
-AllPass N (must ok number ∷ checks) = (N ≡ number → T ok) × AllPass N checks
-
--- the numbers are low or more, and none is less than the one before it
-abbrev sortedFrom : ℕ → List Check → Bool
-sortedFrom low [] = true
-sortedFrom low (must ok number ∷ checks) = leb low number && sortedFrom number checks
-
-hold-pass : (N : ℕ) (checks : List Check) → Hold checks → AllPass N checks
-hold-pass N [] h = tt
-hold-pass N (must ok number ∷ checks) h = ((λ _. h .0), hold-pass N checks (h .1))
-
-below-pass : (N low : ℕ) (checks : List Check) → T (sortedFrom low checks) → N < low → AllPass N checks
-below-pass N low [] t h = tt
-below-pass N low (must ok number ∷ checks) t h =
-    let l = leb→le low number (and-l (leb low number) (sortedFrom number checks) t) in
-    ((λ e. absurd (let z : ⊥ = omega arith in z)), below-pass N number checks (and-r (leb low number) (sortedFrom number checks) t) (omega arith))
-
--- below the number of the first check that fails, all pass
-first-below : (N low : ℕ) (checks : List Check) → T (sortedFrom low checks) → N < first checks → AllPass N checks
-unfolding first
-first-below N low [] t h = tt
-first-below N low (must true number ∷ checks) t h =
-    ((λ _. tt), first-below N number checks (and-r (leb low number) (sortedFrom number checks) t) h)
-first-below N low (must false number ∷ checks) t h =
-    ((λ e. absurd (let z : ⊥ = omega arith in z)), below-pass N number checks (and-r (leb low number) (sortedFrom number checks) t) h)
-
--- at its number, not all pass
-first-fails : (checks : List Check) → (first checks ≡ 0 → ⊥) → AllPass (first checks) checks → ⊥
-unfolding first
-first-fails [] n p = n refl
-first-fails (must true number ∷ checks) n p = first-fails checks n (p .1)
-first-fails (must false number ∷ checks) n p = p .0 refl
 
 -- ---- what the tests of a call say
 
@@ -74,6 +38,7 @@ flatChecks k s c =
     ∷ must (isLent k s c) 5
     ∷ must (inRange minBound maxBound (s .model .box)) 6
     ∷ must (isEmpty (c .n) (s .model .box) || ordered (s .model .box)) 7
+    ∷ must (narrow (s .model .box)) 23
     ∷ must (inRange minCoef maxCoef (s .model .rows .coefs)) 8
     ∷ must (inRange minRhs maxRhs (s .model .rows .rhs)) 9
     ∷ must (not (hasTable k) || bits (s .table)) 10
@@ -85,7 +50,7 @@ flatChecks k s c =
     ∷ []
 
 flat : (k : Kind) (s : State) (c : Call) → first (callChecks k s c) ≡ first (flatChecks k s c)
-unfolding first callChecks givenModel recordChecks modelChecks sizeChecks lengthChecks tableLengthChecks numberChecks tableByteChecks lentTable hasTable
+unfolding first callChecks givenModel recordChecks modelChecks sizeChecks lengthChecks tableLengthChecks boxChecks numberChecks tableByteChecks lentTable hasTable
 flat rowPropagation s c = refl
 flat propagation s c = refl
 flat probing s c = refl
@@ -152,6 +117,7 @@ passes-test N s c =
     let t5 = lengths-test s c in
     let t6 = inRange-test minBound maxBound (s .model .box) in
     let t7 = or-test (isEmpty (c .n) (s .model .box)) (ordered (s .model .box)) (isEmpty-test (c .n) (s .model .box)) (order-test (s .model .box)) in
+    let t23 = narrow-test (s .model .box) in
     let t8 = inRange-test minCoef maxCoef (s .model .rows .coefs) in
     let t9 = inRange-test minRhs maxRhs (s .model .rows .rhs) in
     let t10 = when-test (hasTable k) _ (bits-test (s .table)) in
@@ -161,11 +127,12 @@ passes-test N s c =
     let t14 = when-test (hasVariable k) _
     (or-test (isEmpty (s .model .n) (s .model .box)) (isFree (s .model .box) (c .variable)) (isEmpty-test (s .model .n) (s .model .box)) ((λ t. t), (λ t. t))) in
     let t15 = when-test (hasBudget k) _ (both (leb 1 (c .budget)) (leb (c .budget) maxBudget) (leb-test 1 (c .budget)) (leb-test (c .budget) maxBudget)) in (
-      (λ (p3, (p5, (p5′, (p5″, (p6, (p7, (p8, (p9, (p10, (p11, (p12, (p13, (p14, (p15, u)))))))))))))). record {
+      (λ (p3, (p5, (p5′, (p5″, (p6, (p7, (p23, (p8, (p9, (p10, (p11, (p12, (p13, (p14, (p15, u))))))))))))))). record {
         check3 = λ e. t3 .0 (p3 e);
         check5 = λ e. t5 .0 (p5 e, p5′ e, p5″ e);
         check6 = λ e. t6 .0 (p6 e);
         check7 = λ e. t7 .0 (p7 e);
+        check23 = λ e. t23 .0 (p23 e);
         check8 = λ e. t8 .0 (p8 e);
         check9 = λ e. t9 .0 (p9 e);
         check10 = λ e. t10 .0 (p10 e);
@@ -177,9 +144,9 @@ passes-test N s c =
       }),
       (λ q. also (λ e. t3 .1 (q .check3 e))
           (also (λ e. t5 .1 (q .check5 e) .0) (also (λ e. t5 .1 (q .check5 e) .1) (also (λ e. t5 .1 (q .check5 e) .2)
-          (also (λ e. t6 .1 (q .check6 e)) (also (λ e. t7 .1 (q .check7 e)) (also (λ e. t8 .1 (q .check8 e)) (also (λ e. t9 .1 (q .check9 e))
+          (also (λ e. t6 .1 (q .check6 e)) (also (λ e. t7 .1 (q .check7 e)) (also (λ e. t23 .1 (q .check23 e)) (also (λ e. t8 .1 (q .check8 e)) (also (λ e. t9 .1 (q .check9 e))
           (also (λ e. t10 .1 (q .check10 e)) (also (λ e. t11 .1 (q .check11 e)) (also (λ e. t12 .1 (q .check12 e)) (also (λ e. t13 .1 (q .check13 e))
-          (also (λ e. t14 .1 (q .check14 e)) (also (λ e. t15 .1 (q .check15 e)) tt)))))))))))))),
+          (also (λ e. t14 .1 (q .check14 e)) (also (λ e. t15 .1 (q .check15 e)) tt))))))))))))))),
     )
 
 -- ---- the number of the first check that fails
@@ -196,9 +163,9 @@ module _ (s : State) (c : Call) where
   unfolding checks
   none-passes e N = passes-test N s c .0 (hold-pass N checks (first-none checks tt .0 (sym fault ∙ e)))
 
-  below-passes : (N : ℕ) → N < callFault s c → Passes N s c
-  unfolding checks
-  below-passes N h = passes-test N s c .0 (first-below N 0 checks tt (rw fault at h))
+  before-passes : (N : ℕ) → place N < place (callFault s c) → Passes N s c
+  unfolding checks place
+  before-passes N h = passes-test N s c .0 (first-before N 0 checks tt (rw fault at h))
 
   fault-fails : (callFault s c ≡ 0 → ⊥) → Passes (callFault s c) s c → ⊥
   unfolding checks
@@ -211,17 +178,17 @@ module _ (s : State) (c : Call) where
       decided (yes e) = e
       decided (no n) = absurd (fault-fails n (f (callFault s c)))
 
-  number-iff : (N : ℕ) → ((callFault s c ≡ N) × (callFault s c ≡ 0 → ⊥)) ↔ ((Passes N s c → ⊥) × ((M : ℕ) → M < N → Passes M s c))
+  number-iff : (N : ℕ) → ((callFault s c ≡ N) × (callFault s c ≡ 0 → ⊥)) ↔ ((Passes N s c → ⊥) × ((M : ℕ) → place M < place N → Passes M s c))
   number-iff N = (
-    (λ h. ((λ p. fault-fails (h .1) (rw (h .0) p)), (λ M l. below-passes M (omega arith)))),
-    (λ h. let n : callFault s c ≡ 0 → ⊥ = (λ e. h .0 (none-passes e N)) in (least h n (decLt (callFault s c) N) (decLt N (callFault s c)), n)),
+    (λ h. ((λ p. fault-fails (h .1) (rw (h .0) p)), (λ M l. before-passes M (omega (arith, ap place (h .0)))))),
+    (λ h. let n : callFault s c ≡ 0 → ⊥ = (λ e. h .0 (none-passes e N)) in (least h n (decLt (place (callFault s c)) (place N)) (decLt (place N) (place (callFault s c))), n)),
   )
     where
-      least : (Passes N s c → ⊥) × ((M : ℕ) → M < N → Passes M s c) → (callFault s c ≡ 0 → ⊥) → Dec (callFault s c < N) → Dec (N < callFault s c)
-          → callFault s c ≡ N
+      least : (Passes N s c → ⊥) × ((M : ℕ) → place M < place N → Passes M s c) → (callFault s c ≡ 0 → ⊥)
+          → Dec (place (callFault s c) < place N) → Dec (place N < place (callFault s c)) → callFault s c ≡ N
       least h n (yes l) d = absurd (fault-fails n (h .1 (callFault s c) l))
-      least h n (no l) (yes g) = absurd (h .0 (below-passes N g))
-      least h n (no l) (no g) = omega arith
+      least h n (no l) (yes g) = absurd (h .0 (before-passes N g))
+      least h n (no l) (no g) = place-injective (callFault s c) N (omega arith)
 
 -- ---- the answer
 

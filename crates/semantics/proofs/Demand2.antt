@@ -1,33 +1,38 @@
 -- Demand 2: what an accepted call means, kind by kind, and what any run keeps.
 use Prim.Native.Nat.{_+_, _<_, ℕ}
-use lib.Dec.{T}
+use lib.Dec.{T, not-T}
 use lib.IntN.{ℤ}
+use mathlib.Core.Bool.{not}
 use mathlib.Core.List.{List}
-use mathlib.Core.Logic.{_↔_, _≢_, ⊎-elim}
+use mathlib.Core.Logic.{_↔_, _⊎_, _≢_, inr, ⊎-elim}
 use mathlib.Core.Path.{_≡_, ap, refl, subst, sym}
-use Rattle.integer.proofs.Tests.{decide}
-use Rattle.model.specs.Box.{at, emptyBox, isEmpty}
+use Rattle.model.specs.Box.{NonEmpty, at, emptyBox, isEmpty}
 use Rattle.model.specs.Model.{Model}
 use Rattle.model.specs.Point.{IntegerPoint}
-use Rattle.model.specs.Rows.{rowAt}
+use Rattle.model.specs.Rows.{Rows, rowAt}
 use Rattle.model.specs.State.{State, withBox, withRow}
+use Rattle.model.specs.Valid.{ValidBox}
 use Rattle.model.proofs.BoxLaws.{isEmpty-test, not-in-empty}
-use Rattle.row.specs.Outcome.{isChanged}
+use Rattle.row.specs.Outcome.{Outcome, changed, infeasible as infeasibleRow, isChanged, isInfeasible, isUnchanged, unchanged}
+use Rattle.row.specs.Propagation.{propagateRow}
+use Rattle.row.proofs.ImpliedBoxLaws.{valid-nonEmpty}
 use Rattle.row.proofs.PointBox.{boxAt, in→Inside, nonEmpty-at}
+use Rattle.row.proofs.PropagationLaws.{changed-feasible, propagate-row-feasible-ind, propagate-row-infeasible-moved, propagate-row-moved, propagate-row-moved-le, propagate-row-moved-some, propagate-row-still-moved}
 use Rattle.row.proofs.RedundancyLaws.{remove-redundant-row-infeasible, remove-redundant-row-unchanged}
 use Rattle.row.proofs.TighteningLaws.{tighten-coefficient-infeasible, tighten-coefficient-unchanged}
 use Rattle.semantics.specs.Call.{Call, Kind, hasBudget, hasRow, hasTable, hasVariable, isUnknown, kindOf, probing, propagation, removal, rowPropagation, tightening, unknown}
 use Rattle.semantics.specs.CallChecks.{callFault}
-use Rattle.semantics.specs.Demand2.{AnswersSame, Demand2, Demand2Runs, PassesWithin, Untouched, ones}
+use Rattle.semantics.specs.Demand2.{AnswersSame, Demand2, Demand2Runs, PassesWithin, RowMoved, SideMoved, SumMoved, Untouched, ones}
 use Rattle.semantics.specs.Perform.{Answer, Performed, act, perform, probed, propagated, propagatedRow, refused, removed, tightened}
-use Rattle.semantics.specs.Probe.{ProbeEnding, Probed, bothFeasible, fixed, infeasible, probe}
+use Rattle.semantics.specs.Probe.{ProbeEnding, Probed, bothFeasible, fix, fixed, infeasible, probe, sideOf}
+use Rattle.semantics.specs.Propagate.{isNone, propagate}
 use Rattle.semantics.specs.Run.{answersNone, step}
 use Rattle.semantics.proofs.Accepted.{Accepted, accepted}
 use Rattle.semantics.proofs.CallLaws.{perform-accepted, propagate-row-infeasible-iff, propagate-row-same}
 use Rattle.semantics.proofs.ImplicationLaws.{recordTo-added}
 use Rattle.semantics.proofs.Preserved.{run-preserves, step-preserves}
-use Rattle.semantics.proofs.ProbeLaws.{probe-empty, probe-ind, probe-infeasible-iff, probe-passes0, probe-passes1}
-use Rattle.semantics.proofs.PropagateLaws.{propagate-infeasible-iff, propagate-passes}
+use Rattle.semantics.proofs.ProbeLaws.{fix-nonEmpty, probe-empty, probe-ind, probe-infeasible-iff, probe-passes0, probe-passes1, probe-side0, probe-side1}
+use Rattle.semantics.proofs.PropagateLaws.{propagate-empty, propagate-infeasible-iff, propagate-moved-iff, propagate-moved-le, propagate-moved-passes, propagate-moved-width, propagate-passes}
 use Rattle.semantics.proofs.RowChange.{removal-untouched, tightening-untouched, withRow-same}
 
 -- ---- None exactly where the box is empty afterwards
@@ -47,48 +52,98 @@ act-none unknown s c a = absurd (a .kind)
 pub no-point : {M : Model} {x : List ℤ} → 0 < M .n → M .box ≡ emptyBox (M .n) → IntegerPoint M x → ⊥
 no-point {M} {x} h e p = not-in-empty (M .n) (boxAt (M .n) x) h (nonEmpty-at (M .n) x) (rw e at (in→Inside (p .inside)))
 
--- ---- the numbers of an answer; t is the table afterwards
+-- ---- how many bounds moved
+
+-- of a visit
+row-moved : (A : List ℤ) (b : ℤ) {n : ℕ} {B : List ℤ} → ValidBox n B → let r = propagateRow n A b B in RowMoved n B (r .box) (r .outcome) (r .moved)
+unfolding isUnchanged isInfeasible isChanged
+row-moved A b {n} {B} v = record {
+  narrowed = λ t. (propagate-row-moved-some A b (found (changed-feasible (propagateRow n A b B .outcome) t)) t, propagate-row-moved-le n A b B);
+  differing = propagate-row-moved n A b B;
+  none = propagate-row-infeasible-moved n A b B;
+  same = λ t. let f = unchanged-is (propagateRow n A b B .outcome) t in propagate-row-still-moved A b (found (f .0)) (f .0) (f .1);
+}
+  where
+    found : T (not (isInfeasible (propagateRow n A b B .outcome))) → NonEmpty n B
+    found f = valid-nonEmpty v (propagate-row-feasible-ind n A b B (λ _. T (not (isEmpty n B))) (λ t _. t) f)
+
+    unchanged-is : (o : Outcome) → T (isUnchanged o) → T (not (isInfeasible o)) × T (not (isChanged o))
+    unchanged-is infeasibleRow z = absurd z
+    unchanged-is changed z = absurd z
+    unchanged-is unchanged t = (tt, tt)
+
+-- of a settle
+sum-moved : (budget m : ℕ) (A : Rows) {n : ℕ} {B : List ℤ} → (B ≡ emptyBox n) ⊎ NonEmpty n B
+    → let r = propagate budget n m A B in SumMoved n B (r .box) (isNone (r .ending)) (r .passes) (r .moved)
+unfolding isNone
+sum-moved budget m A {n} {B} v = record {
+  eachPass = propagate-moved-passes n m A budget B;
+  atMost = propagate-moved-le m A budget;
+  lost = propagate-moved-width n m A budget B;
+  still = λ t. ⊎-elim
+      (λ (e : B ≡ emptyBox n). absurd (rw (e, propagate-empty budget n m A) at t)) (λ p. propagate-moved-iff m A budget p t) v;
+  onEmpty = λ e. rw (e, propagate-empty budget n m A);
+}
+
+-- ---- the numbers of an answer; P and t are the box and the table afterwards
 
 abbrev Added : List ℕ → List ℕ → ProbeEnding → Type 0
 Added before t infeasible = Unit {0}
 Added before t (fixed v) = Unit {0}
 Added before t (bothFeasible a) = ones t ≡ ones before + a
 
-abbrev Numbers : State → Call → List ℕ → Answer → Type 0
-Numbers s c t (refused number) = Unit {0}
-Numbers s c t (propagatedRow o) = Unit {0}
-Numbers s c t (propagated e p) = PassesWithin (c .budget) p
-Numbers s c t (probed e s0 s1) =
+abbrev Numbers : State → Call → List ℤ → List ℕ → Answer → Type 0
+Numbers s c P t (refused number) = Unit {0}
+Numbers s c P t (propagatedRow o k) = RowMoved (s .model .n) (s .model .box) P o k
+Numbers s c P t (propagated e p k) = PassesWithin (c .budget) p × SumMoved (s .model .n) (s .model .box) P (isNone e) p k
+Numbers s c P t (probed e s0 s1) =
     (s .model .box ≢ emptyBox (s .model .n) → PassesWithin (c .budget) (s0 .passes) × PassesWithin (c .budget) (s1 .passes))
     × (s .model .box ≡ emptyBox (s .model .n) → (s0 .passes ≡ 0) × (s1 .passes ≡ 0))
     × Added (s .table) t e
-Numbers s c t (tightened o) = Unit {0}
-Numbers s c t (removed o) = Unit {0}
+    × (s .model .box ≢ emptyBox (s .model .n) → SideMoved s c 0 s0 × SideMoved s c 1 s1)
+    × (s .model .box ≡ emptyBox (s .model .n) → (s0 .moved ≡ 0) × (s1 .moved ≡ 0))
+Numbers s c P t (tightened o) = Unit {0}
+Numbers s c P t (removed o) = Unit {0}
 
 module _ (s : State) (c : Call) (a : Accepted probing s c) where
   abbrev result : Probed
   result = probe (c .variable) (c .budget) (s .model .n) (s .model .m) (s .model .rows) (s .model .box) (s .table)
 
-  probe-numbers : Numbers s c (result .table) (probed (result .ending) (result .side0) (result .side1))
+  side-moved : NonEmpty (s .model .n) (s .model .box) → (v : ℕ)
+      → SideMoved s c v (sideOf (propagate (c .budget) (s .model .n) (s .model .m) (s .model .rows) (fix (s .model .n) (s .model .box) (c .variable) v)))
+  unfolding SideMoved sideOf
+  side-moved p v = (refl, sum-moved (c .budget) (s .model .m) (s .model .rows) (inr (fix-nonEmpty (c .variable) v p)))
+
+  probe-numbers : Numbers s c (result .box) (result .table) (probed (result .ending) (result .side0) (result .side1))
   unfolding hasBudget hasVariable hasTable
   probe-numbers = (
-    (λ ne. let h = a .budget tt .0 in
-        ⊎-elim (λ t. absurd (ne (isEmpty-test (s .model .n) (s .model .box) .0 t)))
-        (λ t. (
-          probe-passes0 (c .variable) (c .budget) (s .model .n) (s .model .m) (s .model .rows) (s .model .box) (s .table) t h,
-          probe-passes1 (c .variable) (c .budget) (s .model .n) (s .model .m) (s .model .rows) (s .model .box) (s .table) t h,
-        ))
-        (decide (isEmpty (s .model .n) (s .model .box)))),
+    (λ ne. let h = a .budget tt .0 in let t = found ne in (
+      probe-passes0 (c .variable) (c .budget) (s .model .n) (s .model .m) (s .model .rows) (s .model .box) (s .table) t h,
+      probe-passes1 (c .variable) (c .budget) (s .model .n) (s .model .m) (s .model .rows) (s .model .box) (s .table) t h,
+    )),
     (λ e. rw (e, probe-empty (c .variable) (c .budget) (s .model .n) (s .model .m) (s .model .rows) (s .table)) (refl, refl)),
     probe-ind (c .variable) (c .budget) (s .model .n) (s .model .m) (s .model .rows) (s .model .box) (s .table) (λ r. Added (s .table) (r .table) (r .ending))
         (λ _. tt) (λ _ _ _. tt) (λ _ _ _. tt) (λ _ _ _. tt)
         (λ _ _ _. recordTo-added (s .model .n) (c .variable) (s .model .box) _ _ (s .table) (a .variable tt) (a .table tt)),
+    (λ ne. let t = found ne in let p = valid-nonEmpty (a .model .box) t in (
+      subst (SideMoved s c 0) (sym (probe-side0 (c .variable) (c .budget) (s .model .n) (s .model .m) (s .model .rows) (s .model .box) (s .table) t)) (side-moved p 0),
+      subst (SideMoved s c 1) (sym (probe-side1 (c .variable) (c .budget) (s .model .n) (s .model .m) (s .model .rows) (s .model .box) (s .table) t)) (side-moved p 1),
+    )),
+    (λ e. rw (e, probe-empty (c .variable) (c .budget) (s .model .n) (s .model .m) (s .model .rows) (s .table)) (refl, refl)),
   )
+    where
+      found : s .model .box ≢ emptyBox (s .model .n) → T (not (isEmpty (s .model .n) (s .model .box)))
+      found ne = not-T (isEmpty (s .model .n) (s .model .box)) (λ t. ne (isEmpty-test (s .model .n) (s .model .box) .0 t))
 
-act-numbers : (k : Kind) (s : State) (c : Call) → Accepted k s c → Numbers s c (act k s c .state .table) (act k s c .answer)
+act-numbers : (k : Kind) (s : State) (c : Call) → Accepted k s c
+    → Numbers s c (act k s c .state .model .box) (act k s c .state .table) (act k s c .answer)
 unfolding act withBox withRow hasBudget
-act-numbers rowPropagation s c a = tt
-act-numbers propagation s c a = propagate-passes (s .model .n) (s .model .m) (s .model .rows) (c .budget) (s .model .box) (a .budget tt .0)
+act-numbers rowPropagation s c a =
+    row-moved (rowAt (s .model .n) (s .model .rows) (c .row) .coefs) (rowAt (s .model .n) (s .model .rows) (c .row) .rhs) (a .model .box)
+act-numbers propagation s c a = (
+  propagate-passes (s .model .n) (s .model .m) (s .model .rows) (c .budget) (s .model .box) (a .budget tt .0),
+  sum-moved (c .budget) (s .model .m) (s .model .rows) (a .model .box .shape),
+)
 act-numbers probing s c a = probe-numbers s c a
 act-numbers tightening s c a = tt
 act-numbers removal s c a = tt
@@ -132,17 +187,21 @@ demand-2 s c e =
     let a = accepted s c e in
     let p = step-preserves s c in
     let none = of-act s c e (λ r. T (answersNone (r .answer)) ↔ (r .state .model .box ≡ emptyBox (s .model .n))) (act-none k s c a) in
-    let numbers = of-act s c e (λ r. Numbers s c (r .state .table) (r .answer)) (act-numbers k s c a) in
-    let with : (b : Answer) → perform s c .answer ≡ b → Numbers s c (perform s c .state .table) b =
-    (λ b g. subst (Numbers s c (perform s c .state .table)) g numbers) in
+    let numbers = of-act s c e (λ r. Numbers s c (r .state .model .box) (r .state .table) (r .answer)) (act-numbers k s c a) in
+    let with : (b : Answer) → perform s c .answer ≡ b → Numbers s c (perform s c .state .model .box) (perform s c .state .table) b =
+    (λ b g. subst (Numbers s c (perform s c .state .model .box) (perform s c .state .table)) g numbers) in
     record {
       points = p .points;
       fractional = p .fractional;
       none = none;
       noPoint = λ t x z. no-point (rw (p .sizes .0) (a .model .some)) (rw (p .sizes .0) (none .0 t)) (p .points x .1 z);
-      passes = λ b q g. with (propagated b q) g;
+      passes = λ b q k g. with (propagated b q k) g .0;
       sidePasses = λ b s0 s1 g. with (probed b s0 s1) g .0;
       emptySides = λ b s0 s1 g. with (probed b s0 s1) g .1;
+      rowMoved = λ o k g. with (propagatedRow o k) g;
+      moved = λ b q k g. with (propagated b q k) g .1;
+      sidesMoved = λ b s0 s1 g. with (probed b s0 s1) g .3;
+      emptySidesMoved = λ b s0 s1 g. with (probed b s0 s1) g .4;
       added = λ b s0 s1 g. with (probed (bothFeasible b) s0 s1) g .2;
       same = of-act s c e (λ r. AnswersSame (r .answer) → r .state ≡ s) (act-same k s c a);
       sizes = p .sizes;

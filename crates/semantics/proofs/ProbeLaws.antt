@@ -102,8 +102,8 @@ module _ (k budget n m : ℕ) (A : Rows) (B : List ℤ) (t : List ℕ) where
   pub probe-ind : (P : Probed → Type 0)
       → (T (isEmpty n B) → P (record {
         ending = infeasible;
-        side0 = record { passes = 0; spent = false };
-        side1 = record { passes = 0; spent = false };
+        side0 = record { passes = 0; spent = false; moved = 0 };
+        side1 = record { passes = 0; spent = false; moved = 0 };
         box = B;
         table = t;
       }))
@@ -130,8 +130,8 @@ module _ (k budget n m : ℕ) (A : Rows) (B : List ℤ) (t : List ℕ) where
 
 pub probe-empty : (k budget n m : ℕ) (A : Rows) (t : List ℕ) → probe k budget n m A (emptyBox n) t ≡ record {
   ending = infeasible;
-  side0 = record { passes = 0; spent = false };
-  side1 = record { passes = 0; spent = false };
+  side0 = record { passes = 0; spent = false; moved = 0 };
+  side1 = record { passes = 0; spent = false; moved = 0 };
   box = emptyBox n;
   table = t;
 }

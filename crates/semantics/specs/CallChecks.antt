@@ -1,4 +1,4 @@
--- The checks of a call, in 01's order: those of the model (and table) that it is given, then its own.
+-- The checks of a call, in their order: those of the model (and table) that it is given, then its own.
 use Prim.Native.Nat.{ℕ}
 use lib.Dec.{eqb, leb, ltb}
 use mathlib.Core.Bool.{Bool, _&&_, _||_, cond, not}
@@ -9,7 +9,8 @@ use Rattle.model.specs.Model.{Model}
 use Rattle.model.specs.State.{State}
 use Rattle.semantics.specs.Call.{Call, Kind, hasBudget, hasRow, hasTable, hasVariable, isUnknown, kindOf, lengthsOf}
 
--- the largest budget: one more than the total width of any box, 128 × 65,535
+-- the largest budget, 01's: one more than 128 × 65,535, the most that bounds in range can be apart in all. "The largest budget
+-- remains" (02, C-22), though an accepted model is at most 128 × 4,096 wide (`LargestBudget`).
 abbrev pub maxBudget : ℕ
 maxBudget = 8_388_481
 
@@ -41,7 +42,7 @@ recordChecks k s c =
     ∷ must (not (hasBudget k) || (leb 1 (c .budget) && leb (c .budget) maxBudget)) 15
     ∷ []
 
--- 3, 5 to 9, 10 where a table is lent, and then the call's own
+-- those of the model, 10 where a table is lent, and then the call's own
 unfoldable pub callChecks : Kind → State → Call → List Check
 callChecks k s c = modelChecks (givenModel s c) (lentTable k s) (isLent k s c) ++ recordChecks k s c
 

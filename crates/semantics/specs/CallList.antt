@@ -31,7 +31,7 @@ recordsFrom (suc count) s xs i = recordAt s xs i ∷ recordsFrom count s xs (i +
 unfoldable pub recordsOf : State → List ℕ → List Call
 recordsOf s xs = recordsFrom (length xs / 4) s xs 0
 
--- "The model and table are checked before the first record": 3, 5 to 10; a list of numbers that are not four to a record has a wrong
+-- "The model and table are checked before the first record", 10 last; a list of numbers that are not four to a record has a wrong
 -- length, 5
 unfoldable pub listChecks : State → List ℕ → List Check
 listChecks s xs = modelChecks (s .model) (table (s .table)) (eqb (length xs % 4) 0)

@@ -1,6 +1,6 @@
 -- Convergence: a large enough budget is never spent, and then propagation ends in the greatest fixpoint; rest in the demand's own
 -- words; and rest can be reached.
-use Prim.Native.Nat.{_<_, ℕ}
+use Prim.Native.Nat.{_<_, _≤_, ℕ}
 use lib.Dec.{T}
 use lib.IntN.{pos, ℤ}
 use lib.Signed.{_<ℤ_, _≤ℤ_}
@@ -36,9 +36,14 @@ unfoldable pub EnoughPasses : Type 0
 EnoughPasses =
     (budget n m : ℕ) (A : Rows) (B : List ℤ) → 0 < n → NonEmpty n B → width n B <ℤ pos budget → Ends n m A B (propagate budget n m A B)
 
--- the total width of any accepted model is at most 8,388,480, so the largest budget is always enough (`width-limit`)
+-- the total width of any accepted model is at most 128 × 4,096, so the largest budget is always enough (`width-limit`)
 unfoldable pub LargestBudget : Type 0
-LargestBudget = (M : Model) → ValidModel M → (width (M .n) (M .box) ≤ℤ pos 8_388_480) × (width (M .n) (M .box) <ℤ pos maxBudget)
+LargestBudget = (M : Model) → ValidModel M → (width (M .n) (M .box) ≤ℤ pos 524_288) × (width (M .n) (M .box) <ℤ pos maxBudget)
+
+-- so is the sum of the bounds that a settle moves (02, C-11), which 32 bits hold (`propagate-moved-limit`)
+unfoldable pub MovedLimit : Type 0
+MovedLimit =
+    (M : Model) → ValidModel M → (budget : ℕ) → propagate budget (M .n) (M .m) (M .rows) (M .box) .moved ≤ 524_288
 
 -- "contains every other": there is at most one largest quiet box (`greatest-unique`)
 unfoldable pub UniqueGreatest : Type 0

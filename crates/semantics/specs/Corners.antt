@@ -1,4 +1,4 @@
--- Corner cases, as a table like that of the worked books (proved as `corners-hold`): what 01 says in half a sentence, computed.
+-- Corner cases, as a table like that of the worked books (proved as `corners-hold`): what 01 and 02 say in half a sentence, computed.
 use Prim.Native.Nat.{ℕ}
 use lib.IntN.{negsuc, negℤ, pos, ℤ}
 use lib.ListN.{replicate}
@@ -11,7 +11,7 @@ use Rattle.semantics.specs.Call.{Call, Lengths}
 use Rattle.semantics.specs.CallList.{callsMade, ran, refusedList, runList}
 use Rattle.semantics.specs.Perform.{perform, probed, propagated, propagatedRow, refused, removed, tightened}
 use Rattle.semantics.specs.Probe.{Side, bothFeasible, fixed, infeasible as bothInfeasible}
-use Rattle.semantics.specs.Propagate.{converged, infeasible as none}
+use Rattle.semantics.specs.Propagate.{budgetSpent, converged, infeasible as none}
 use Rattle.semantics.specs.RestTest.{isProbingFixpoint, restFault}
 use Rattle.semantics.specs.Run.{noCounts, tally}
 use Rattle.semantics.specs.WorkedBooks.{binary2, empty2, pair, single}
@@ -19,6 +19,10 @@ use Rattle.semantics.specs.WorkedBooks.{binary2, empty2, pair, single}
 -- x + y ≤ 1 on the empty box
 unfoldable pub emptied : State
 emptied = fresh 2 1 empty2 (pos 1 ∷ pos 1 ∷ []) (pos 1 ∷ [])
+
+-- x + y ≤ 1, y too wide by 1
+unfoldable pub wide : State
+wide = fresh 2 1 (pos 0 ∷ pos 1 ∷ pos 0 ∷ pos 4_097 ∷ []) (pos 1 ∷ pos 1 ∷ []) (pos 1 ∷ [])
 
 -- −y ≤ −1: both sides of x fix y at 1
 unfoldable pub alike : State
@@ -31,6 +35,20 @@ either = fresh 2 2 binary2 (negsuc 0 ∷ negsuc 0 ∷ pos 1 ∷ pos 1 ∷ []) (n
 -- x + y ≥ 2 and x + y ≤ 1: no side of x survives, the one by the first row, the other by the second
 unfoldable pub neither : State
 neither = fresh 2 2 binary2 (negsuc 0 ∷ negsuc 0 ∷ pos 1 ∷ pos 1 ∷ []) (negsuc 1 ∷ pos 1 ∷ [])
+
+-- 2 x ≤ 9 and x ≤ 3, x 0..5
+unfoldable pub twice : State
+twice = fresh 1 2 (pos 0 ∷ pos 5 ∷ []) (pos 2 ∷ pos 1 ∷ []) (pos 9 ∷ pos 3 ∷ [])
+
+-- y − x ≤ 0 and 2 x ≤ 5, both 0..5: the second row moves x, and the first y in the next pass
+unfoldable pub falling : State
+falling = fresh 2 2 (pos 0 ∷ pos 5 ∷ pos 0 ∷ pos 5 ∷ []) (negsuc 0 ∷ pos 1 ∷ pos 2 ∷ pos 0 ∷ []) (pos 0 ∷ pos 5 ∷ [])
+
+-- the same with y ≥ 3: the first pass moves x and y, and in the second the first row is infeasible
+unfoldable pub laterNone : State
+laterNone =
+    fresh 2 3 (pos 0 ∷ pos 5 ∷ pos 0 ∷ pos 5 ∷ []) (negsuc 0 ∷ pos 1 ∷ pos 2 ∷ pos 0 ∷ pos 0 ∷ negsuc 0 ∷ [])
+    (pos 0 ∷ pos 5 ∷ negsuc 2 ∷ [])
 
 -- 3 x + 10⁶ y + z, y = −1,000, z = w: Lmax − 3 is −10⁹ + w
 unfoldable pub deep : ℤ → ℤ → State
@@ -51,19 +69,20 @@ unlent c = withLengths c (record { box = c .lengths .box; coefs = c .lengths .co
 unfoldable pub withSizes : Call → ℕ → ℕ → Call
 withSizes c n m = record { kind = c .kind; row = c .row; variable = c .variable; budget = c .budget; n = n; m = m; lengths = c .lengths }
 
-unfoldable pub unspent : ℕ → Side
-unspent p = record { passes = p; spent = false }
+-- a side with p passes in which k bounds moved
+unfoldable pub unspent : (p k : ℕ) → Side
+unspent p k = record { passes = p; spent = false; moved = k }
 
-unfoldable pub spentSide : ℕ → Side
-spentSide p = record { passes = p; spent = true }
+unfoldable pub spentSide : (p k : ℕ) → Side
+spentSide p k = record { passes = p; spent = true; moved = k }
 
 -- 0 to 3 are the literals x = 0, x = 1, y = 0, y = 1; byte 4p + q says that p implies q
 unfoldable pub corners : List Line
 corners =
     -- the empty box: each call answers None and changes nothing, a settle with 1 pass, a probe with 0 for each side; rest says yes
-    is (perform emptied (propagateRowCall emptied 0)) (kept emptied (propagatedRow infeasible))
-    ∷ is (perform emptied (propagateCall emptied 7)) (kept emptied (propagated none 1))
-    ∷ is (perform emptied (probeCall emptied 1 7)) (kept emptied (probed bothInfeasible (unspent 0) (unspent 0)))
+    is (perform emptied (propagateRowCall emptied 0)) (kept emptied (propagatedRow infeasible 0))
+    ∷ is (perform emptied (propagateCall emptied 7)) (kept emptied (propagated none 1 0))
+    ∷ is (perform emptied (probeCall emptied 1 7)) (kept emptied (probed bothInfeasible (unspent 0 0) (unspent 0 0)))
     ∷ is (perform emptied (tightenCall emptied 0 1)) (kept emptied (tightened infeasible))
     ∷ is (perform emptied (removeCall emptied 0)) (kept emptied (removed infeasible))
     ∷ is (isProbingFixpoint 2 1 (emptied .model .rows) empty2) true
@@ -84,31 +103,53 @@ corners =
     ∷ is (perform emptied (withSizes (propagateRowCall emptied 1) 1 1)) (kept emptied (refused 5))
     ∷ is (perform emptied (withLengths (propagateRowCall emptied 1) (record { box = 3; coefs = 2; rhs = 1; table = 16 }))) (kept emptied (refused 5))
     ∷ is (perform emptied (withLengths (propagateRowCall emptied 0) (record { box = 4; coefs = 2; rhs = 1; table = 0 })))
-    (kept emptied (propagatedRow infeasible))
+    (kept emptied (propagatedRow infeasible 0))
     ∷ is (perform emptied (withLengths (probeCall emptied 0 1) (record { box = 4; coefs = 2; rhs = 1; table = 15 }))) (kept emptied (refused 5))
     -- 6 to 9: the number just outside each range refuses, the last one inside does not
     ∷ (let s = single (pos 2) (pos 5) (negℤ (pos 32_769)) (pos 5) in is (perform s (propagateRowCall s 0)) (kept s (refused 6)))
     ∷ (let s = single (pos 2) (pos 5) (pos 0) (pos 32_768) in is (perform s (propagateRowCall s 0)) (kept s (refused 6)))
-    ∷ (let s = single (pos 0) (pos 5) (negℤ (pos 32_768)) (pos 32_767) in is (perform s (propagateRowCall s 0)) (kept s (propagatedRow unchanged)))
-    ∷ (let s = single (pos 2) (pos 5) (pos 1) (pos 0) in is (perform s (propagateRowCall s 0)) (kept s (propagatedRow infeasible)))
+    ∷ (let s = single (pos 0) (pos 5) (negℤ (pos 32_768)) (negℤ (pos 28_672)) in is (perform s (propagateRowCall s 0)) (kept s (propagatedRow unchanged 0)))
+    ∷ (let s = single (pos 0) (pos 5) (pos 28_671) (pos 32_767) in is (perform s (propagateRowCall s 0)) (kept s (propagatedRow unchanged 0)))
+    ∷ (let s = single (pos 2) (pos 5) (pos 1) (pos 0) in is (perform s (propagateRowCall s 0)) (kept s (propagatedRow infeasible 0)))
     ∷ (let s = single (pos 2) (pos 5) (pos 2) (pos 1) in is (perform s (propagateRowCall s 0)) (kept s (refused 7)))
     ∷ (let s = fresh 2 1 (pos 1 ∷ pos 0 ∷ pos 0 ∷ pos 1 ∷ []) (pos 1 ∷ pos 1 ∷ []) (pos 1 ∷ []) in is (perform s (propagateRowCall s 0)) (kept s (refused 7)))
     ∷ (let s = single (negℤ (pos 1_000_001)) (pos 5) (pos 0) (pos 5) in is (perform s (propagateRowCall s 0)) (kept s (refused 8)))
     ∷ (let s = single (pos 1_000_001) (pos 5) (pos 0) (pos 5) in is (perform s (propagateRowCall s 0)) (kept s (refused 8)))
-    ∷ (let s = single (negℤ (pos 1_000_000)) (pos 0) (pos 0) (pos 5) in is (perform s (propagateRowCall s 0)) (kept s (propagatedRow unchanged)))
+    ∷ (let s = single (negℤ (pos 1_000_000)) (pos 0) (pos 0) (pos 5) in is (perform s (propagateRowCall s 0)) (kept s (propagatedRow unchanged 0)))
     ∷ (let s = single (pos 0) (negℤ (pos 1_000_000_001)) (pos 0) (pos 5) in is (perform s (propagateRowCall s 0)) (kept s (refused 9)))
     ∷ (let s = single (pos 0) (pos 1_000_000_001) (pos 0) (pos 5) in is (perform s (propagateRowCall s 0)) (kept s (refused 9)))
-    ∷ (let s = single (pos 1_000_000) (pos 1_000_000_000) (pos 0) (pos 5) in is (perform s (propagateRowCall s 0)) (kept s (propagatedRow unchanged)))
+    ∷ (let s = single (pos 1_000_000) (pos 1_000_000_000) (pos 0) (pos 5) in is (perform s (propagateRowCall s 0)) (kept s (propagatedRow unchanged 0)))
+    -- 23: a width of 4,096 is accepted and 4,097 refused, from 0, across 0 and at the ends of the range
+    ∷ (let s = single (pos 0) (pos 5) (pos 0) (pos 4_096) in is (perform s (propagateRowCall s 0)) (kept s (propagatedRow unchanged 0)))
+    ∷ (let s = single (pos 0) (pos 5) (pos 0) (pos 4_097) in is (perform s (propagateRowCall s 0)) (kept s (refused 23)))
+    ∷ (let s = single (pos 0) (pos 5) (negℤ (pos 2_048)) (pos 2_048) in is (perform s (propagateRowCall s 0)) (kept s (propagatedRow unchanged 0)))
+    ∷ (let s = single (pos 0) (pos 5) (negℤ (pos 2_048)) (pos 2_049) in is (perform s (propagateRowCall s 0)) (kept s (refused 23)))
+    ∷ (let s = single (pos 0) (pos 5) (pos 28_670) (pos 32_767) in is (perform s (propagateRowCall s 0)) (kept s (refused 23)))
+    ∷ (let s = single (pos 0) (pos 5) (negℤ (pos 32_768)) (pos 32_767) in is (perform s (propagateRowCall s 0)) (kept s (refused 23)))
+    ∷ is (perform wide (propagateRowCall wide 0)) (kept wide (refused 23))
+    -- "in every call"
+    ∷ is (perform wide (propagateCall wide 1)) (kept wide (refused 23))
+    ∷ is (perform wide (probeCall wide 0 1)) (kept wide (refused 23))
+    ∷ is (perform wide (tightenCall wide 0 0)) (kept wide (refused 23))
+    ∷ is (perform wide (removeCall wide 0)) (kept wide (refused 23))
+    ∷ is (perform wide (callOn wide 6 0 0 1)) (kept wide (refused 23))
+    ∷ is (restFault wide) 23
+    ∷ is (runList wide []) (record { answer = refusedList 23; state = wide })
+    -- 7 before 23, whichever variable is too wide; a box of which one variable has l = 1 and u = 0 is not the empty one
+    ∷ (let s = withBox wide (pos 0 ∷ pos 4_097 ∷ pos 3 ∷ pos 2 ∷ []) (wide .table) in is (perform s (propagateRowCall s 0)) (kept s (refused 7)))
+    ∷ (let s = withBox wide (pos 1 ∷ pos 0 ∷ pos 0 ∷ pos 4_097 ∷ []) (wide .table) in is (perform s (propagateRowCall s 0)) (kept s (refused 7)))
     -- 10: a table byte of 2 refuses a probe, and no call that is lent no table
     ∷ (let s = withBox emptied binary2 (0 ∷ 0 ∷ 0 ∷ 0 ∷ 0 ∷ 0 ∷ 0 ∷ 0 ∷ 0 ∷ 0 ∷ 0 ∷ 0 ∷ 0 ∷ 0 ∷ 0 ∷ 2 ∷ []) in
     is (perform s (probeCall s 0 7)) (kept s (refused 10)))
     ∷ (let s = withBox emptied binary2 (0 ∷ 0 ∷ 0 ∷ 0 ∷ 0 ∷ 0 ∷ 0 ∷ 0 ∷ 0 ∷ 0 ∷ 0 ∷ 0 ∷ 0 ∷ 0 ∷ 0 ∷ 2 ∷ []) in
-    is (perform s (propagateRowCall s 0)) (kept s (propagatedRow unchanged)))
-    -- in their order: 6 before 7 before 8 before 9 before 10, and 10 before the call's own checks
+    is (perform s (propagateRowCall s 0)) (kept s (propagatedRow unchanged 0)))
+    -- in their order: 6 before 7 before 23 before 8 before 9 before 10, and 10 before the call's own checks
     ∷ (let s = withBox (single (pos 1_000_001) (pos 1_000_000_001) (pos 0) (pos 0)) (pos 32_768 ∷ pos 0 ∷ []) (0 ∷ 0 ∷ 0 ∷ 2 ∷ []) in
     is (perform s (probeCall s 1 0)) (kept s (refused 6)))
     ∷ (let s = withBox (single (pos 1_000_001) (pos 1_000_000_001) (pos 0) (pos 0)) (pos 5 ∷ pos 0 ∷ []) (0 ∷ 0 ∷ 0 ∷ 2 ∷ []) in
     is (perform s (probeCall s 1 0)) (kept s (refused 7)))
+    ∷ (let s = withBox (single (pos 1_000_001) (pos 1_000_000_001) (pos 0) (pos 0)) (pos 0 ∷ pos 4_097 ∷ []) (0 ∷ 0 ∷ 0 ∷ 2 ∷ []) in
+    is (perform s (probeCall s 1 0)) (kept s (refused 23)))
     ∷ (let s = withBox (single (pos 1_000_001) (pos 1_000_000_001) (pos 0) (pos 0)) (pos 0 ∷ pos 1 ∷ []) (0 ∷ 0 ∷ 0 ∷ 2 ∷ []) in
     is (perform s (probeCall s 1 0)) (kept s (refused 8)))
     ∷ (let s = withBox (single (pos 1) (pos 1_000_000_001) (pos 0) (pos 0)) (pos 0 ∷ pos 1 ∷ []) (0 ∷ 0 ∷ 0 ∷ 2 ∷ []) in
@@ -121,13 +162,13 @@ corners =
     ∷ (let s = withBox (single (pos 1) (pos 1_000_000_001) (pos 0) (pos 0)) (pos 1 ∷ pos 0 ∷ []) (0 ∷ 0 ∷ 0 ∷ 0 ∷ []) in
     is (perform s (propagateRowCall s 0)) (kept s (refused 9)))
     -- "A field that its kind lacks is ignored", and so is the length of a table that is not lent
-    ∷ (let s = pair (pos 3) (pos 2) (pos 5) in is (perform s (unlent (callOn s 1 0 4_294_967_295 0))) (kept s (propagatedRow unchanged)))
+    ∷ (let s = pair (pos 3) (pos 2) (pos 5) in is (perform s (unlent (callOn s 1 0 4_294_967_295 0))) (kept s (propagatedRow unchanged 0)))
     ∷ (let s = pair (pos 3) (pos 2) (pos 5) in
-    is (perform s (unlent (callOn s 1 0 2 8_388_482))) (kept s (propagatedRow unchanged)))
+    is (perform s (unlent (callOn s 1 0 2 8_388_482))) (kept s (propagatedRow unchanged 0)))
     ∷ (let s = pair (pos 3) (pos 2) (pos 5) in
-    is (perform s (unlent (callOn s 2 4_294_967_295 4_294_967_295 3))) (kept s (propagated converged 1)))
+    is (perform s (unlent (callOn s 2 4_294_967_295 4_294_967_295 3))) (kept s (propagated converged 1 0)))
     ∷ (let s = pair (pos 3) (pos 2) (pos 5) in
-    is (perform s (callOn s 3 4_294_967_295 0 3)) (kept s (probed (bothFeasible 0) (unspent 1) (unspent 1))))
+    is (perform s (callOn s 3 4_294_967_295 0 3)) (kept s (probed (bothFeasible 0) (unspent 1 0) (unspent 1 0))))
     ∷ (let s = pair (pos 3) (pos 2) (pos 5) in is (perform s (unlent (callOn s 4 0 0 0))) (kept s (tightened unchanged)))
     ∷ (let s = pair (pos 3) (pos 2) (pos 5) in is (perform s (unlent (callOn s 4 0 0 8_388_482))) (kept s (tightened unchanged)))
     ∷ (let s = pair (pos 1) (pos 1) (pos 1) in is (perform s (unlent (callOn s 5 0 4_294_967_295 0))) (kept s (removed unchanged)))
@@ -142,21 +183,35 @@ corners =
     ∷ (let s = single (pos 2) (pos 5) (pos 0) (pos 1) in is (perform s (callOn s 2 9 9 0)) (kept s (refused 15)))
     -- the largest budget, and one more
     ∷ (let s = single (pos 2) (pos 5) (pos 0) (pos 5) in
-    is (perform s (propagateCall s 8_388_481)) (boxed s (propagated converged 2) (pos 0 ∷ pos 2 ∷ [])))
+    is (perform s (propagateCall s 8_388_481)) (boxed s (propagated converged 2 1) (pos 0 ∷ pos 2 ∷ [])))
     ∷ (let s = single (pos 2) (pos 5) (pos 0) (pos 5) in is (perform s (propagateCall s 8_388_482)) (kept s (refused 15)))
     ∷ (let s = single (pos 2) (pos 5) (pos 0) (pos 1) in is (perform s (probeCall s 0 8_388_482)) (kept s (refused 15)))
     -- a sharpen at a variable that is not free is refused by 14, also where its coefficient is 0
     ∷ (let s = single (pos 0) (pos 5) (pos 0) (pos 5) in is (perform s (tightenCall s 0 0)) (kept s (refused 14)))
     -- no rows: Settled after 1; a visit has no row to take; both sides of a probe are the box itself
-    ∷ (let s = fresh 1 0 (pos 0 ∷ pos 5 ∷ []) [] [] in is (perform s (propagateCall s 3)) (kept s (propagated converged 1)))
-    ∷ (let s = fresh 1 0 (pos 1 ∷ pos 0 ∷ []) [] [] in is (perform s (propagateCall s 3)) (kept s (propagated none 1)))
+    ∷ (let s = fresh 1 0 (pos 0 ∷ pos 5 ∷ []) [] [] in is (perform s (propagateCall s 3)) (kept s (propagated converged 1 0)))
+    ∷ (let s = fresh 1 0 (pos 1 ∷ pos 0 ∷ []) [] [] in is (perform s (propagateCall s 3)) (kept s (propagated none 1 0)))
     ∷ (let s = fresh 1 0 (pos 0 ∷ pos 1 ∷ []) [] [] in is (perform s (propagateRowCall s 0)) (kept s (refused 12)))
     ∷ (let s = fresh 1 0 (pos 0 ∷ pos 1 ∷ []) [] [] in
-    is (perform s (probeCall s 0 1)) (kept s (probed (bothFeasible 0) (unspent 1) (unspent 1))))
+    is (perform s (probeCall s 0 1)) (kept s (probed (bothFeasible 0) (unspent 1 0) (unspent 1 0))))
     -- one pass is enough where nothing moves; a pass that None breaks off counts as made
-    ∷ (let s = single (pos 2) (pos 5) (pos 0) (pos 2) in is (perform s (propagateCall s 1)) (kept s (propagated converged 1)))
+    ∷ (let s = single (pos 2) (pos 5) (pos 0) (pos 2) in is (perform s (propagateCall s 1)) (kept s (propagated converged 1 0)))
     ∷ (let s = single (pos 2) (negsuc 0) (pos 0) (pos 2) in
-    is (perform s (propagateCall s 9)) (boxed s (propagated none 1) (pos 1 ∷ pos 0 ∷ [])))
+    is (perform s (propagateCall s 9)) (boxed s (propagated none 1 0) (pos 1 ∷ pos 0 ∷ [])))
+    -- bounds moved: a pass that None breaks off keeps those of its rows before, and so does a pass before it
+    ∷ is (perform neither (propagateCall neither 9)) (boxed neither (propagated none 1 2) empty2)
+    ∷ is (perform laterNone (propagateCall laterNone 9)) (boxed laterNone (propagated none 2 2) empty2)
+    -- a bound that two rows move counts twice; the sum is over all passes, where the budget is spent and where it is not
+    ∷ is (perform twice (propagateCall twice 9)) (boxed twice (propagated converged 2 2) (pos 0 ∷ pos 3 ∷ []))
+    ∷ is (perform falling (propagateCall falling 1)) (boxed falling (propagated budgetSpent 1 1) (pos 0 ∷ pos 2 ∷ pos 0 ∷ pos 5 ∷ []))
+    ∷ is (perform falling (propagateCall falling 2)) (boxed falling (propagated budgetSpent 2 2) (pos 0 ∷ pos 2 ∷ pos 0 ∷ pos 2 ∷ []))
+    ∷ is (perform falling (propagateCall falling 3)) (boxed falling (propagated converged 3 2) (pos 0 ∷ pos 2 ∷ pos 0 ∷ pos 2 ∷ []))
+    -- each side of a probe has its own: y ≤ x moves y at x = 0 only
+    ∷ (let s = pair (negsuc 0) (pos 1) (pos 0) in
+    is (perform s (probeCall s 0 5)) (record {
+      answer = probed (bothFeasible 2) (unspent 2 1) (unspent 1 0);
+      state = withBox s binary2 (0 ∷ 0 ∷ 1 ∷ 0 ∷ 0 ∷ 0 ∷ 0 ∷ 0 ∷ 0 ∷ 0 ∷ 0 ∷ 0 ∷ 0 ∷ 1 ∷ 0 ∷ 0 ∷ []);
+    }))
     -- zero rows: b above 0 is dropped to 0, b = 0 is Same, b below 0 is not redundant; nothing to sharpen
     ∷ (let s = pair (pos 0) (pos 0) (pos 4) in is (perform s (removeCall s 0)) (rowed s (removed changed) (pos 0 ∷ pos 0 ∷ []) (pos 0)))
     ∷ (let s = pair (pos 0) (pos 0) (pos 0) in is (perform s (removeCall s 0)) (kept s (removed unchanged)))
@@ -165,24 +220,24 @@ corners =
     -- both sides fix y alike: both are recorded, 4 bytes; again, none is new
     ∷ is (perform alike (probeCall alike 0 5))
     (record {
-      answer = probed (bothFeasible 4) (unspent 2) (unspent 2);
+      answer = probed (bothFeasible 4) (unspent 2 1) (unspent 2 1);
       state = withBox alike (pos 0 ∷ pos 1 ∷ pos 1 ∷ pos 1 ∷ []) (0 ∷ 0 ∷ 0 ∷ 1 ∷ 0 ∷ 0 ∷ 0 ∷ 1 ∷ 1 ∷ 1 ∷ 0 ∷ 0 ∷ 0 ∷ 0 ∷ 0 ∷ 0 ∷ []);
     })
     ∷ (let s = withBox alike binary2 (0 ∷ 0 ∷ 0 ∷ 1 ∷ 0 ∷ 0 ∷ 0 ∷ 1 ∷ 1 ∷ 1 ∷ 0 ∷ 0 ∷ 0 ∷ 0 ∷ 0 ∷ 0 ∷ []) in
-    is (perform s (probeCall s 0 5)) (boxed s (probed (bothFeasible 0) (unspent 2) (unspent 2)) (pos 0 ∷ pos 1 ∷ pos 1 ∷ pos 1 ∷ [])))
+    is (perform s (probeCall s 0 5)) (boxed s (probed (bothFeasible 0) (unspent 2 1) (unspent 2 1)) (pos 0 ∷ pos 1 ∷ pos 1 ∷ pos 1 ∷ [])))
     -- a variable that was not free before the call is not recorded, though both sides fix it at 1
     ∷ (let s = fresh 2 1 (pos 0 ∷ pos 1 ∷ pos 1 ∷ pos 2 ∷ []) (pos 0 ∷ pos 1 ∷ []) (pos 1 ∷ []) in
-    is (perform s (probeCall s 0 5)) (boxed s (probed (bothFeasible 0) (unspent 2) (unspent 2)) (pos 0 ∷ pos 1 ∷ pos 1 ∷ pos 1 ∷ [])))
+    is (perform s (probeCall s 0 5)) (boxed s (probed (bothFeasible 0) (unspent 2 1) (unspent 2 1)) (pos 0 ∷ pos 1 ∷ pos 1 ∷ pos 1 ∷ [])))
     -- Spent sides are used with the box they reached, and record
     ∷ is (perform either (probeCall either 0 1))
     (record {
-      answer = probed (bothFeasible 4) (spentSide 1) (spentSide 1);
+      answer = probed (bothFeasible 4) (spentSide 1 1) (spentSide 1 1);
       state = withBox either binary2 (0 ∷ 0 ∷ 0 ∷ 1 ∷ 0 ∷ 0 ∷ 1 ∷ 0 ∷ 0 ∷ 1 ∷ 0 ∷ 0 ∷ 1 ∷ 0 ∷ 0 ∷ 0 ∷ []);
     })
     -- both sides None: the sides' own passes, not Spent; one side None: its passes are told too, and it is not Spent
-    ∷ is (perform neither (probeCall neither 0 1)) (boxed neither (probed bothInfeasible (unspent 1) (unspent 1)) empty2)
+    ∷ is (perform neither (probeCall neither 0 1)) (boxed neither (probed bothInfeasible (unspent 1 0) (unspent 1 1)) empty2)
     ∷ (let s = pair (negsuc 0) (negsuc 0) (negsuc 1) in
-    is (perform s (probeCall s 0 1)) (boxed s (probed (fixed 1) (unspent 1) (spentSide 1)) (pos 1 ∷ pos 1 ∷ pos 1 ∷ pos 1 ∷ [])))
+    is (perform s (probeCall s 0 1)) (boxed s (probed (fixed 1) (unspent 1 0) (spentSide 1 1)) (pos 1 ∷ pos 1 ∷ pos 1 ∷ pos 1 ∷ [])))
     -- a new right side of exactly −1,000,000,000 is made; one less is not
     ∷ (let s = deep (pos 0) (negℤ (pos 999_999_999)) in
     is (perform s (tightenCall s 0 0)) (rowed s (tightened changed) (pos 2 ∷ pos 1_000_000 ∷ pos 1 ∷ []) (negℤ (pos 1_000_000_000))))

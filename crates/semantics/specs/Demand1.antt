@@ -1,13 +1,15 @@
 -- Demand 1: a call is refused by the number of the first check that applies to it and fails; a refusal changes nothing;
--- everything else is accepted.
+-- everything else is accepted. "What a new number refuses .. joins demand 1's list" (02).
 use Prim.Native.Nat.{_*_, _+_, _<_, _≤_, ℕ}
 use lib.Dec.{T}
+use lib.IntN.{_-ℤ_}
 use lib.ListN.{getD, length}
 use lib.Signed.{_≤ℤ_}
 use mathlib.Core.Logic.{_↔_, _⊎_}
 use mathlib.Core.Path.{_≡_}
 use Rattle.model.specs.Box.{at, emptyBox, isFree, lower, upper}
-use Rattle.model.specs.Limits.{maxBound, maxCoef, maxRhs, maxRows, maxVariables, minBound, minCoef, minRhs}
+use Rattle.model.specs.Limits.{maxBound, maxCoef, maxRhs, maxRows, maxVariables, maxWidth, minBound, minCoef, minRhs}
+use Rattle.model.specs.Places.{place}
 use Rattle.model.specs.State.{State}
 use Rattle.model.specs.Valid.{Between}
 use Rattle.semantics.specs.Call.{Call, hasBudget, hasRow, hasTable, hasVariable, kindOf}
@@ -24,12 +26,14 @@ pub record LengthsFit (s : State) (c : Call) : Type 0 where
   pub rhs : (c .lengths .rhs ≡ length (s .model .rows .rhs)) × (length (s .model .rows .rhs) ≡ c .m)
   pub table : T (hasTable (kindOf (c .kind))) → (c .lengths .table ≡ length (s .table)) × (length (s .table) ≡ 4 * (c .n * c .n))
 
--- Check number N passes, or does not apply. Numbers that are no check of a call (1, 2 and 4 are a book's) pass.
+-- Check number N passes, or does not apply; they stand in the order in which they are made. Numbers that are no check of a call
+-- (1, 2 and 4 are a book's) pass.
 pub record Passes (N : ℕ) (s : State) (c : Call) : Type 0 where
   pub check3 : N ≡ 3 → (1 ≤ c .n) × (c .n ≤ maxVariables) × (c .m ≤ maxRows)
   pub check5 : N ≡ 5 → LengthsFit s c
   pub check6 : N ≡ 6 → (i : ℕ) → i < length (s .model .box) → Between minBound maxBound (at (s .model .box) i)
   pub check7 : N ≡ 7 → (s .model .box ≡ emptyBox (c .n)) ⊎ ((j : ℕ) → 2 * j + 1 < length (s .model .box) → lower (s .model .box) j ≤ℤ upper (s .model .box) j)
+  pub check23 : N ≡ 23 → (j : ℕ) → 2 * j + 1 < length (s .model .box) → (upper (s .model .box) j -ℤ lower (s .model .box) j) ≤ℤ maxWidth
   pub check8 : N ≡ 8 → (i : ℕ) → i < length (s .model .rows .coefs) → Between minCoef maxCoef (at (s .model .rows .coefs) i)
   pub check9 : N ≡ 9 → (i : ℕ) → i < length (s .model .rows .rhs) → Between minRhs maxRhs (at (s .model .rows .rhs) i)
   pub check10 : N ≡ 10 → T (hasTable (kindOf (c .kind))) → (i : ℕ) → i < length (s .table) → getD (s .table) i 0 < 2
@@ -40,8 +44,8 @@ pub record Passes (N : ℕ) (s : State) (c : Call) : Type 0 where
   pub check15 : N ≡ 15 → T (hasBudget (kindOf (c .kind))) → (1 ≤ c .budget) × (c .budget ≤ maxBudget)
 
 pub record Refusals (s : State) (c : Call) : Type 0 where
-  -- refused by N: check N fails, and every earlier one passes
-  pub first : (N : ℕ) → (perform s c .answer ≡ refused N) ↔ ((Passes N s c → ⊥) × ((M : ℕ) → M < N → Passes M s c))
+  -- refused by N: check N fails, and every one with an earlier place passes
+  pub first : (N : ℕ) → (perform s c .answer ≡ refused N) ↔ ((Passes N s c → ⊥) × ((M : ℕ) → place M < place N → Passes M s c))
   -- accepted: every check passes
   pub accepted : (callFault s c ≡ 0) ↔ ((N : ℕ) → Passes N s c)
   pub answered : (callFault s c ≡ 0) ↔ (T (isRefused (perform s c .answer)) → ⊥)

@@ -1,21 +1,23 @@
 -- Demand 2, of the definitions: what an accepted call means for the points, its answer's numbers, and what it leaves alone.
 use Prim.Native.Nat.{_*_, _+_, _<_, _≤_, suc, ℕ}
 use lib.Dec.{T, eqb}
-use lib.IntN.{ℤ}
-use mathlib.Core.Bool.{cond}
+use lib.IntN.{_+ℤ_, pos, ℤ}
+use lib.Signed.{_≤ℤ_}
+use mathlib.Core.Bool.{Bool, cond, not}
 use mathlib.Core.List.{List, [], _∷_}
 use mathlib.Core.Logic.{_↔_, _≢_}
 use mathlib.Core.Path.{_≡_}
-use Rattle.model.specs.Box.{at, emptyBox}
+use Rattle.model.specs.Box.{NonEmpty, at, emptyBox, width}
 use Rattle.model.specs.State.{State}
 use Rattle.model.specs.Valid.{ValidState}
-use Rattle.row.specs.Outcome.{unchanged}
+use Rattle.row.specs.Moved.{movedBounds}
+use Rattle.row.specs.Outcome.{Outcome, isChanged, isInfeasible, isUnchanged, unchanged}
 use Rattle.semantics.specs.Call.{Call, Kind, kindOf, probing, propagation, removal, rowPropagation, tightening, unknown}
 use Rattle.semantics.specs.CallChecks.{callFault}
 use Rattle.semantics.specs.Perform.{Answer, perform, probed, propagated, propagatedRow, refused, removed, tightened}
 use Rattle.semantics.specs.Points.{FractionalPointOf, PointOf}
-use Rattle.semantics.specs.Probe.{ProbeEnding, Side, bothFeasible}
-use Rattle.semantics.specs.Propagate.{Ending}
+use Rattle.semantics.specs.Probe.{ProbeEnding, Side, bothFeasible, fix}
+use Rattle.semantics.specs.Propagate.{Ending, isNone, propagate}
 use Rattle.semantics.specs.Run.{answersNone, run}
 
 -- how many bytes of a table are 1
@@ -26,6 +28,36 @@ ones (x ∷ xs) = cond (eqb x 1) (suc (ones xs)) (ones xs)
 -- "passes made, 1 to the pass budget"
 abbrev pub PassesWithin : ℕ → ℕ → Type 0
 PassesWithin budget passes = (1 ≤ passes) × (passes ≤ budget)
+
+-- 02 (C-11), of a visit that answered o, with the boxes B before it and P after it
+pub record RowMoved (n : ℕ) (B P : List ℤ) (o : Outcome) (k : ℕ) : Type 0 where
+  -- "A visit answers Narrowed with the number of bounds that it moved, from 1 to n."
+  pub narrowed : T (isChanged o) → (1 ≤ k) × (k ≤ n)
+  -- "The number is that of bounds differing before and after each visit; a visit that answers None adds nothing."
+  pub differing : T (not (isInfeasible o)) → k ≡ movedBounds n B P
+  pub none : T (isInfeasible o) → k ≡ 0
+  pub same : T (isUnchanged o) → k ≡ 0
+
+-- of a settle of p passes that moved k bounds, with the boxes B before it and P after it: "A settle carries the sum over its visits,
+-- including those of a pass that ended in None."
+pub record SumMoved (n : ℕ) (B P : List ℤ) (none : Bool) (p k : ℕ) : Type 0 where
+  -- each pass but the last moved a bound
+  pub eachPass : p ≤ k + 1
+  -- each bound that moved made the box narrower: the sum is at most the width of the box, and where the answer is not None, at most
+  -- the width that it lost
+  pub atMost : NonEmpty n B → pos k ≤ℤ width n B
+  pub lost : T (not none) → (pos k +ℤ width n P) ≤ℤ width n B
+  -- none moved exactly if the box is the same; on the empty box none does
+  pub still : T (not none) → (k ≡ 0) ↔ (P ≡ B)
+  pub onEmpty : B ≡ emptyBox n → k ≡ 0
+
+-- "A probe carries that sum for each side.": of side v of a probe, which is a settle of the box with the variable set to v
+unfoldable pub SideMoved : State → Call → ℕ → Side → Type 0
+SideMoved s c v side =
+    let M = s .model in
+    let B = fix (M .n) (M .box) (c .variable) v in
+    let r = propagate (c .budget) (M .n) (M .m) (M .rows) B in
+    (side .moved ≡ r .moved) × SumMoved (M .n) B (r .box) (isNone (r .ending)) (side .passes) (side .moved)
 
 -- Same: a visit, a sharpen or a drop that changed nothing
 unfoldable pub AnswersSame : Answer → Type 0
@@ -69,6 +101,15 @@ pub record CallMeans (s : State) (c : Call) : Type 0 where
       → PassesWithin (c .budget) (s0 .passes) × PassesWithin (c .budget) (s1 .passes)
   pub emptySides : (e : ProbeEnding) (s0 s1 : Side) → perform s c .answer ≡ probed e s0 s1 → s .model .box ≡ emptyBox (s .model .n)
       → (s0 .passes ≡ 0) × (s1 .passes ≡ 0)
+  -- how many bounds moved (02, C-11): of a visit, of a settle, of the two sides of a probe
+  pub rowMoved : (o : Outcome) (k : ℕ) → perform s c .answer ≡ propagatedRow o k
+      → RowMoved (s .model .n) (s .model .box) (perform s c .state .model .box) o k
+  pub moved : (e : Ending) (p k : ℕ) → perform s c .answer ≡ propagated e p k
+      → SumMoved (s .model .n) (s .model .box) (perform s c .state .model .box) (isNone e) p k
+  pub sidesMoved : (e : ProbeEnding) (s0 s1 : Side) → perform s c .answer ≡ probed e s0 s1 → s .model .box ≢ emptyBox (s .model .n)
+      → SideMoved s c 0 s0 × SideMoved s c 1 s1
+  pub emptySidesMoved : (e : ProbeEnding) (s0 s1 : Side) → perform s c .answer ≡ probed e s0 s1 → s .model .box ≡ emptyBox (s .model .n)
+      → (s0 .moved ≡ 0) × (s1 .moved ≡ 0)
   -- "The answer Both has the number of bytes that went from 0 to 1."
   pub added : (a : ℕ) (s0 s1 : Side) → perform s c .answer ≡ probed (bothFeasible a) s0 s1
       → ones (perform s c .state .table) ≡ ones (s .table) + a

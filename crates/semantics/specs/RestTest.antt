@@ -29,6 +29,6 @@ unfoldable pub isProbingFixpoint : ℕ → ℕ → Rows → List ℤ → Bool
 isProbingFixpoint n m A B =
     isEmpty n B || (isFixpoint n m A B && all n (λ k. not (isFree B k) || sidesSpan n m A B k))
 
--- the rest call is lent no table: checks 3 and 5 to 9
+-- the rest call is lent no table: the checks of the model alone
 unfoldable pub restFault : State → ℕ
 restFault s = modelFault (s .model) none true

@@ -1,4 +1,5 @@
--- The starred worked books of 01, all of them, through `perform` with buffers of the right lengths (proved as `worked-books-hold`).
+-- The starred worked books of 01, all of them, through `perform` with buffers of the right lengths (proved as `worked-books-hold`),
+-- with the number of bounds moved that 02 (C-11) adds.
 use Prim.Native.Nat.{ℕ}
 use lib.IntN.{negsuc, pos, ℤ}
 use mathlib.Core.Bool.{Bool, false, true}
@@ -54,21 +55,21 @@ unfoldable pub workedBooks : List Line
 workedBooks =
     -- 2x ≤ 5, x 0..5: visit gives 0..2; again, Same
     (let s = single (pos 2) (pos 5) (pos 0) (pos 5) in
-    is (perform s (propagateRowCall s 0)) (boxed s (propagatedRow changed) (pos 0 ∷ pos 2 ∷ [])))
-    ∷ (let s = single (pos 2) (pos 5) (pos 0) (pos 2) in is (perform s (propagateRowCall s 0)) (kept s (propagatedRow unchanged)))
+    is (perform s (propagateRowCall s 0)) (boxed s (propagatedRow changed 1) (pos 0 ∷ pos 2 ∷ [])))
+    ∷ (let s = single (pos 2) (pos 5) (pos 0) (pos 2) in is (perform s (propagateRowCall s 0)) (kept s (propagatedRow unchanged 0)))
     -- −2x ≤ −3, x 0..5: 2..5
     ∷ (let s = single (negsuc 1) (negsuc 2) (pos 0) (pos 5) in
-    is (perform s (propagateRowCall s 0)) (boxed s (propagatedRow changed) (pos 2 ∷ pos 5 ∷ [])))
+    is (perform s (propagateRowCall s 0)) (boxed s (propagatedRow changed 1) (pos 2 ∷ pos 5 ∷ [])))
     -- 2x ≤ −3, x −5..5: −5..−2
     ∷ (let s = single (pos 2) (negsuc 2) (negsuc 4) (pos 5) in
-    is (perform s (propagateRowCall s 0)) (boxed s (propagatedRow changed) (negsuc 4 ∷ negsuc 1 ∷ [])))
+    is (perform s (propagateRowCall s 0)) (boxed s (propagatedRow changed 1) (negsuc 4 ∷ negsuc 1 ∷ [])))
     -- All zero: b = −1 None; b = 0 Same
-    ∷ (let s = pair (pos 0) (pos 0) (negsuc 0) in is (perform s (propagateRowCall s 0)) (boxed s (propagatedRow infeasible) empty2))
-    ∷ (let s = pair (pos 0) (pos 0) (pos 0) in is (perform s (propagateRowCall s 0)) (kept s (propagatedRow unchanged)))
+    ∷ (let s = pair (pos 0) (pos 0) (negsuc 0) in is (perform s (propagateRowCall s 0)) (boxed s (propagatedRow infeasible 0) empty2))
+    ∷ (let s = pair (pos 0) (pos 0) (pos 0) in is (perform s (propagateRowCall s 0)) (kept s (propagatedRow unchanged 0)))
     -- −x−y ≤ −2: both 1; ≤ −3: None
     ∷ (let s = pair (negsuc 0) (negsuc 0) (negsuc 1) in
-    is (perform s (propagateRowCall s 0)) (boxed s (propagatedRow changed) (pos 1 ∷ pos 1 ∷ pos 1 ∷ pos 1 ∷ [])))
-    ∷ (let s = pair (negsuc 0) (negsuc 0) (negsuc 2) in is (perform s (propagateRowCall s 0)) (boxed s (propagatedRow infeasible) empty2))
+    is (perform s (propagateRowCall s 0)) (boxed s (propagatedRow changed 2) (pos 1 ∷ pos 1 ∷ pos 1 ∷ pos 1 ∷ [])))
+    ∷ (let s = pair (negsuc 0) (negsuc 0) (negsuc 2) in is (perform s (propagateRowCall s 0)) (boxed s (propagatedRow infeasible 0) empty2))
     -- 3x+2y ≤ 4 sharpened at x: x+2y ≤ 2
     ∷ (let s = pair (pos 3) (pos 2) (pos 4) in is (perform s (tightenCall s 0 0)) (rowed s (tightened changed) (pos 1 ∷ pos 2 ∷ []) (pos 2)))
     -- 2y−5x ≤ 1 at x: 2y−x ≤ 1
@@ -82,15 +83,15 @@ workedBooks =
     ∷ (let s = pair (pos 1) (pos 1) (pos 1) in is (perform s (removeCall s 0)) (kept s (removed unchanged)))
     -- 2x ≤ 5, x 0..5: settle, budget 1, Spent; budget 2, Settled(2)
     ∷ (let s = single (pos 2) (pos 5) (pos 0) (pos 5) in
-    is (perform s (propagateCall s 1)) (boxed s (propagated budgetSpent 1) (pos 0 ∷ pos 2 ∷ [])))
+    is (perform s (propagateCall s 1)) (boxed s (propagated budgetSpent 1 1) (pos 0 ∷ pos 2 ∷ [])))
     ∷ (let s = single (pos 2) (pos 5) (pos 0) (pos 5) in
-    is (perform s (propagateCall s 2)) (boxed s (propagated converged 2) (pos 0 ∷ pos 2 ∷ [])))
+    is (perform s (propagateCall s 2)) (boxed s (propagated converged 2 1) (pos 0 ∷ pos 2 ∷ [])))
     -- x−y ≤ 0, x+y ≤ 1: visits Same, rest no, probe of x Fixed 0
-    ∷ is (perform crossed (propagateRowCall crossed 0)) (kept crossed (propagatedRow unchanged))
-    ∷ is (perform crossed (propagateRowCall crossed 1)) (kept crossed (propagatedRow unchanged))
+    ∷ is (perform crossed (propagateRowCall crossed 0)) (kept crossed (propagatedRow unchanged 0))
+    ∷ is (perform crossed (propagateRowCall crossed 1)) (kept crossed (propagatedRow unchanged 0))
     ∷ is (atRest crossed (crossed .model .box)) false
     ∷ is (perform crossed (probeCall crossed 0 1000))
-    (boxed crossed (probed (fixed 0) (record { passes = 1; spent = false }) (record { passes = 1; spent = false })) (pos 0 ∷ pos 0 ∷ pos 0 ∷ pos 1 ∷ []))
+    (boxed crossed (probed (fixed 0) (record { passes = 1; spent = false; moved = 0 }) (record { passes = 1; spent = false; moved = 1 })) (pos 0 ∷ pos 0 ∷ pos 0 ∷ pos 1 ∷ []))
     -- A: 2x ≤ 5, B: y−x ≤ 0, both 0..5: A B and B A B end at x, y 0..2; B A leaves y 0..5, not at rest
     ∷ is (boxAfter chained (0 ∷ 1 ∷ [])) (pos 0 ∷ pos 2 ∷ pos 0 ∷ pos 2 ∷ [])
     ∷ is (boxAfter chained (1 ∷ 0 ∷ 1 ∷ [])) (pos 0 ∷ pos 2 ∷ pos 0 ∷ pos 2 ∷ [])

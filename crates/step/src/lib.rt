@@ -14,9 +14,10 @@ use row::tightening::CoefficientTightening;
 use row_view::changes::remove_redundant_row_at;
 use row_view::changes::tighten_coefficient_at;
 use row_view::propagate_row_at;
+ghost use mathlib.Core.List.{[]};
 ghost use mathlib.Core.Path.{_≡_};
 ghost use Prim.Native.Nat.{_+_, _<_, _^_};
-ghost use Rattle.row.specs.Answers.{propagationOutcome, removalOutcome, tighteningOutcome};
+ghost use Rattle.row.specs.Answers.{propagatedRowOf, removalOutcome, tighteningOutcome};
 ghost use Rattle.probing.specs.Marked.{Marked};
 ghost use Rattle.semantics.specs.CallChecks.{callFault};
 ghost use Rattle.model.specs.Valid.{ValidState};
@@ -45,7 +46,7 @@ pub enum CallClass {
 }
 
 fn class_of_row(p: RowPropagation) -> CallClass
-    ensures { λ r. ⌜ classIs r ≡ outcomeClass (propagationOutcome p) ⌝ }
+    ensures { λ r. ⌜ classIs r ≡ outcomeClass (propagatedRowOf p [] .outcome) ⌝ }
 {
     match p {
         RowPropagation::Infeasible => CallClass::Infeasible,

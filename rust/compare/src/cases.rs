@@ -2,7 +2,7 @@
 
 use crate::damage;
 use crate::lent::{Lent, Operation};
-use crate::models::{self, Family, MAX_BUDGET};
+use crate::models::{self, Family, MAX_BUDGET, MAX_WIDTH};
 use crate::rng::Rng;
 
 /// Buffers and the calls made on them, one after another.
@@ -10,8 +10,8 @@ use crate::rng::Rng;
 pub struct Case {
     pub lent: Lent,
     pub steps: Vec<Step>,
-    /// The check that was made to fail, in a damaged case.
-    pub refused_by: Option<u32>,
+    /// What the call must return where the case was made for it: the check that fails, or 0.
+    pub returns: Option<u32>,
 }
 
 /// A call on what the call before it left, or afresh on what the case began with: after a few calls a
@@ -24,7 +24,7 @@ pub struct Step {
 
 /// A case of one accepted call.
 fn single(lent: Lent, operation: Operation) -> Case {
-    Case { lent, steps: vec![Step { afresh: false, operation }], refused_by: None }
+    Case { lent, steps: vec![Step { afresh: false, operation }], returns: None }
 }
 
 /// Case `number` of a seed.
@@ -33,6 +33,7 @@ pub fn case(seed: u64, number: u64) -> Case {
     match number % 10 {
         0..5 => session(&mut rng),
         5 => book(&mut rng),
+        6 => around_the_widest(&mut rng),
         _ => damaged(&mut rng),
     }
 }
@@ -55,7 +56,7 @@ fn session(rng: &mut Rng) -> Case {
     let steps = (0..count)
         .map(|_| Step { afresh: rng.chance(50), operation: operation(rng, &lent) })
         .collect();
-    Case { lent, steps, refused_by: None }
+    Case { lent, steps, returns: None }
 }
 
 /// The work of carrying propagation to its end where every pass moves one bound by one.
@@ -165,6 +166,26 @@ fn trailer_only(lent: &mut Lent) {
     lent.book.drain(..lent.book.len() - reference::book::TRAILER);
 }
 
+/// One call on a model whose variables are about as wide as they may be, alone or with another fault of
+/// its numbers: 6 and 7 come before 23, and 8 after it.
+fn around_the_widest(rng: &mut Rng) -> Case {
+    let mut lent = models::around_the_widest(rng);
+    let row = rng.index(lent.m) as u32;
+    let [on_a_model @ .., _, read, write] = Operation::each(row, 0, rng.pick(&[1, MAX_BUDGET]), 1);
+    let operation = rng.pick(&[&on_a_model[..], &[read, write]].concat());
+    let too_wide = lent.bounds.chunks(2).any(|pair| pair[1] - pair[0] > MAX_WIDTH);
+    let fault = rng.pick(&[0, 0, 0, 6, 7, 8]);
+    if fault > 0 {
+        damage::wrong_number(rng, &mut lent, fault);
+    }
+    damage::write_book(&mut lent);
+    if operation == Operation::BookRead {
+        scramble(&mut lent);
+    }
+    let returns = if too_wide && !matches!(fault, 6 | 7) { 23 } else { fault };
+    Case { returns: Some(returns), ..single(lent, operation) }
+}
+
 /// One call that fails a check, each check of each call as often as the others.
 fn damaged(rng: &mut Rng) -> Case {
     let mut lent = loop {
@@ -186,5 +207,5 @@ fn damaged(rng: &mut Rng) -> Case {
     if operation == Operation::BookRead {
         scramble(&mut lent);
     }
-    Case { refused_by: Some(check), ..single(lent, operation) }
+    Case { returns: Some(check), ..single(lent, operation) }
 }

@@ -1,6 +1,6 @@
 //! What the cases of a run met.
 
-use std::collections::BTreeMap;
+use std::collections::{BTreeMap, BTreeSet};
 use std::fmt;
 
 use crate::damage;
@@ -13,10 +13,23 @@ pub struct Coverage {
     pub answered: BTreeMap<(&'static str, u64), u64>,
     pub calls: u64,
     pub most_passes: u64,
+    /// The most bounds that one propagation moved.
+    pub most_moved: u64,
+    /// Which of [`MOVES`] were met.
+    pub moves: BTreeSet<&'static str>,
 }
 
+/// What a long enough run must have met of the numbers of bounds moved, beside each case of each answer.
+const MOVES: [&str; 4] = [
+    "a row that moved several bounds",
+    "a propagation that moved a bound more than once",
+    "a propagation that moved bounds before it was infeasible",
+    "a side that moved bounds before it was infeasible",
+];
+
 impl Coverage {
-    pub fn note(&mut self, operation: Operation, said: u32, answer: &[u64]) {
+    /// Notes what a call on n variables returned and answered.
+    pub fn note(&mut self, operation: Operation, n: usize, said: u32, answer: &[u64]) {
         self.calls += 1;
         if said != 0 {
             *self.refused.entry((operation.name(), said)).or_default() += 1;
@@ -31,17 +44,43 @@ impl Coverage {
             _ => answer[0],
         };
         *self.answered.entry((operation.name(), case)).or_default() += 1;
-        match operation {
-            Operation::Propagate { .. } => self.most_passes = self.most_passes.max(answer[1]),
-            Operation::Probe { .. } => {
-                self.most_passes = self.most_passes.max(answer[2]).max(answer[4]);
+        let [several, again, before_infeasible, side_before_infeasible] = MOVES;
+        match *answer {
+            [1, moved, ..] if matches!(operation, Operation::PropagateRow { .. }) => {
+                self.met(several, moved > 1);
+            }
+            [case, passes, moved, ..] if matches!(operation, Operation::Propagate { .. }) => {
+                self.propagated(passes, moved);
+                self.met(before_infeasible, case == 0 && moved > 0);
+                self.met(again, case != 0 && moved > 2 * n as u64);
+            }
+            [case, value, passes0, _, moved0, passes1, _, moved1, ..]
+                if matches!(operation, Operation::Probe { .. }) =>
+            {
+                self.propagated(passes0, moved0);
+                self.propagated(passes1, moved1);
+                let infeasible =
+                    [case == 0 || case == 1 && value == 1, case == 0 || case == 1 && value == 0];
+                let met = infeasible[0] && moved0 > 0 || infeasible[1] && moved1 > 0;
+                self.met(side_before_infeasible, met);
             }
             _ => {}
         }
     }
 
-    /// What a long enough run must have met and has not: each check of each call, and each case of
-    /// each answer.
+    fn propagated(&mut self, passes: u64, moved: u64) {
+        self.most_passes = self.most_passes.max(passes);
+        self.most_moved = self.most_moved.max(moved);
+    }
+
+    fn met(&mut self, what: &'static str, met: bool) {
+        if met {
+            self.moves.insert(what);
+        }
+    }
+
+    /// What a long enough run must have met and has not: each check of each call, each case of each
+    /// answer, and each of [`MOVES`].
     pub fn missing(&self) -> Vec<String> {
         let (row, variable, budget, limit) = (0, 0, 0, 0);
         let all = [
@@ -57,7 +96,11 @@ impl Coverage {
             (Operation::BookRead, 1),
             (Operation::BookWrite, 1),
         ];
-        let mut missing = vec![];
+        let mut missing: Vec<String> = MOVES
+            .into_iter()
+            .filter(|what| !self.moves.contains(what))
+            .map(str::to_string)
+            .collect();
         for (operation, cases) in all {
             let name = operation.name();
             for &check in damage::checks(operation) {
@@ -77,7 +120,11 @@ impl Coverage {
 
 impl fmt::Display for Coverage {
     fn fmt(&self, f: &mut fmt::Formatter) -> fmt::Result {
-        writeln!(f, "{} calls, at most {} passes in one", self.calls, self.most_passes)?;
+        let Coverage { calls, most_passes, most_moved, .. } = self;
+        writeln!(
+            f,
+            "{calls} calls, at most {most_passes} passes and {most_moved} bounds moved in one"
+        )?;
         let mut names: Vec<_> = self.answered.keys().map(|key| key.0).collect();
         names.dedup();
         for name in names {

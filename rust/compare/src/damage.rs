@@ -1,7 +1,7 @@
 //! Makes a call fail a chosen check, at its boundary where it has one.
 
 use crate::lent::{Lent, Operation};
-use crate::models::{MAX_BOUND, MAX_BUDGET, MAX_COEF, MAX_RHS, MIN_BOUND};
+use crate::models::{MAX_BOUND, MAX_BUDGET, MAX_COEF, MAX_RHS, MAX_WIDTH, MIN_BOUND};
 use crate::rng::Rng;
 
 /// The checks that a call makes, in the order in which it makes them. In `run`, checks 11 to 15 are
@@ -9,15 +9,15 @@ use crate::rng::Rng;
 pub fn checks(operation: Operation) -> &'static [u32] {
     match operation {
         Operation::PropagateRow { .. } | Operation::RemoveRedundantRow { .. } => {
-            &[3, 5, 6, 7, 8, 9, 12]
+            &[3, 5, 6, 7, 23, 8, 9, 12]
         }
-        Operation::Propagate { .. } => &[3, 5, 6, 7, 8, 9, 15],
-        Operation::Probe { .. } => &[3, 5, 6, 7, 8, 9, 10, 13, 14, 15],
-        Operation::TightenCoefficient { .. } => &[3, 5, 6, 7, 8, 9, 12, 13, 14],
-        Operation::IsProbingFixpoint | Operation::BookWrite => &[3, 5, 6, 7, 8, 9],
-        Operation::Run | Operation::Rounds { .. } => &[3, 5, 6, 7, 8, 9, 10],
+        Operation::Propagate { .. } => &[3, 5, 6, 7, 23, 8, 9, 15],
+        Operation::Probe { .. } => &[3, 5, 6, 7, 23, 8, 9, 10, 13, 14, 15],
+        Operation::TightenCoefficient { .. } => &[3, 5, 6, 7, 23, 8, 9, 12, 13, 14],
+        Operation::IsProbingFixpoint | Operation::BookWrite => &[3, 5, 6, 7, 23, 8, 9],
+        Operation::Run | Operation::Rounds { .. } => &[3, 5, 6, 7, 23, 8, 9, 10],
         Operation::BookTrailer => &[1, 5, 3, 4],
-        Operation::BookRead => &[1, 2, 3, 4, 5, 6, 7, 8, 9],
+        Operation::BookRead => &[1, 2, 3, 4, 5, 6, 7, 23, 8, 9],
     }
 }
 
@@ -43,7 +43,7 @@ fn damage_one(rng: &mut Rng, operation: &mut Operation, lent: &mut Lent, check: 
         3 => wrong_size(rng, *operation, lent),
         4 => wrong_layout(rng, *operation, lent),
         5 => wrong_length(rng, *operation, lent),
-        6..=9 => {
+        6..=9 | 23 => {
             wrong_number(rng, lent, check);
             if *operation == Operation::BookRead {
                 write_book(lent);
@@ -157,6 +157,7 @@ fn wrong_length(rng: &mut Rng, operation: Operation, lent: &mut Lent) {
         "coefs" => resize(rng, &mut lent.coefs),
         "rhs" => resize(rng, &mut lent.rhs),
         "table" => resize(rng, &mut lent.table),
+        "answer" if rng.chance(20) => lent.answer.truncate(6), // its length before C-11
         "answer" => resize(rng, &mut lent.answer),
         "book" => resize(rng, &mut lent.book),
         "calls" => lent.calls.extend(vec![1; rng.pick(&[1, 2, 3])]),
@@ -173,14 +174,15 @@ fn resize<T: Copy + Default>(rng: &mut Rng, buffer: &mut Vec<T>) {
     }
 }
 
-/// Checks 6 to 9, of the model's numbers.
-fn wrong_number(rng: &mut Rng, lent: &mut Lent, check: u32) {
+/// Checks 6, 7, 23, 8 and 9, of the model's numbers.
+pub fn wrong_number(rng: &mut Rng, lent: &mut Lent, check: u32) {
     match check {
         6 => {
             let beyond = [MIN_BOUND - 1, MAX_BOUND + 1, i32::MIN, i32::MAX];
             *any(rng, &mut lent.bounds) = rng.pick(&beyond);
         }
         7 => cross_a_pair(rng, &mut lent.bounds),
+        23 => widen_a_pair(rng, &mut lent.bounds),
         8 => {
             let beyond = [-MAX_COEF - 1, MAX_COEF + 1, i32::MIN, i32::MAX];
             *any(rng, &mut lent.coefs) = rng.pick(&beyond);
@@ -206,6 +208,14 @@ fn cross_a_pair(rng: &mut Rng, bounds: &mut [i32]) {
     }
 }
 
+/// A variable over 4,096 wide, mostly by one.
+fn widen_a_pair(rng: &mut Rng, bounds: &mut [i32]) {
+    let width = rng.pick(&[4_097, 4_097, 4_098, 30_000, 65_535]);
+    let l = rng.pick(&[MIN_BOUND, MAX_BOUND - width, 0]);
+    let at = 2 * rng.index(bounds.len() / 2);
+    bounds[at..at + 2].copy_from_slice(&[l, (l + width).min(MAX_BOUND)]);
+}
+
 /// Checks 12 to 15, of the call's own numbers.
 fn wrong_argument(rng: &mut Rng, operation: &mut Operation, lent: &mut Lent, check: u32) {
     let (n, m) = (lent.n as u32, lent.m as u32);
@@ -227,7 +237,7 @@ fn wrong_argument(rng: &mut Rng, operation: &mut Operation, lent: &mut Lent, che
             Operation::Probe { variable, .. } | Operation::TightenCoefficient { variable, .. },
         ) => {
             let k = 2 * *variable as usize;
-            let pairs = [[0, 0], [1, 1], [0, 2], [-1, 1], [-1, 0], [1, 2], [MIN_BOUND, MAX_BOUND]];
+            let pairs = [[0, 0], [1, 1], [0, 2], [-1, 1], [-1, 0], [1, 2], [0, MAX_WIDTH]];
             lent.bounds[k..k + 2].copy_from_slice(&rng.pick(&pairs));
         }
         (15, Operation::Propagate { budget } | Operation::Probe { budget, .. }) => {

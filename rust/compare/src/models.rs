@@ -1,5 +1,7 @@
 //! Families of accepted models.
 
+use reference::calls::ANSWER;
+
 use crate::lent::Lent;
 use crate::rng::Rng;
 
@@ -7,6 +9,7 @@ pub const MAX_VARIABLES: usize = 128;
 pub const MAX_ROWS: usize = 120;
 pub const MIN_BOUND: i32 = -32_768;
 pub const MAX_BOUND: i32 = 32_767;
+pub const MAX_WIDTH: i32 = 4_096;
 pub const MAX_COEF: i32 = 1_000_000;
 pub const MAX_RHS: i32 = 1_000_000_000;
 pub const MAX_BUDGET: u32 = 8_388_481;
@@ -71,7 +74,7 @@ pub fn model(rng: &mut Rng, family: Family) -> Lent {
         }
     };
     lent.table = table(rng, lent.n);
-    lent.answer = vec![0; 6];
+    lent.answer = vec![0; ANSWER];
     lent
 }
 
@@ -83,7 +86,7 @@ fn table(rng: &mut Rng, n: usize) -> Vec<u8> {
 
 /// Bounds of n variables, `binary` per cent of them 0 and 1, some fixed, the others of any width.
 fn mixed_box(rng: &mut Rng, n: usize, binary: i64) -> Vec<i32> {
-    let width = rng.pick(&[2, 5, 60, 4_000, 65_535]);
+    let width = rng.pick(&[2, 5, 60, 1_000, MAX_WIDTH.into()]);
     (0..n)
         .flat_map(|_| {
             if rng.chance(binary) {
@@ -95,12 +98,39 @@ fn mixed_box(rng: &mut Rng, n: usize, binary: i64) -> Vec<i32> {
         .collect()
 }
 
-/// Bounds at most `width` apart, around 0 where they are narrow.
+/// Bounds at most `width` apart: around 0 where they are narrow, else anywhere.
 fn pair_of_width(rng: &mut Rng, width: i64) -> [i32; 2] {
     let (low, high) = (i64::from(MIN_BOUND), i64::from(MAX_BOUND));
-    let l = rng.between(-width, width).clamp(low, high);
+    let reach = if width < 1_000 { width } else { 16 * width };
+    let l = rng.between(-reach, reach).clamp(low, high);
     let u = (l + rng.between(0, width)).min(high);
     [l as i32, u as i32]
+}
+
+/// Few variables, the first free binary and one or more of the others 4,095 to 4,098 wide, with a row at
+/// least: accepted where none is wider than 4,096, else refused.
+pub fn around_the_widest(rng: &mut Rng) -> Lent {
+    let (n, m) = (rng.between(2, 4) as usize, rng.between(1, 4) as usize);
+    let mut bounds = [vec![0, 1], mixed_box(rng, n - 1, 40)].concat();
+    let sure = 1 + rng.index(n - 1);
+    for j in 1..n {
+        if j == sure || rng.chance(30) {
+            bounds[2 * j..][..2].copy_from_slice(&pair_around_the_widest(rng));
+        }
+    }
+    let mut lent = rows(rng, bounds, m, 75, 4);
+    lent.table = table(rng, n);
+    lent.answer = vec![0; ANSWER];
+    lent
+}
+
+/// Bounds 4,095 to 4,098 apart, at an end of their range, at 0 or anywhere.
+fn pair_around_the_widest(rng: &mut Rng) -> [i32; 2] {
+    let width = MAX_WIDTH + rng.between(-1, 2) as i32;
+    let highest = MAX_BOUND - width;
+    let anywhere = rng.between(MIN_BOUND.into(), highest.into()) as i32;
+    let l = rng.pick(&[MIN_BOUND, highest, 0, -width / 2, anywhere, anywhere]);
+    [l, l + width]
 }
 
 /// The model of a box and m generated rows of `density` per cent nonzero coefficients up to `coef`.
@@ -152,13 +182,14 @@ fn limits(rng: &mut Rng) -> Lent {
     let n = rng.pick(&[1, 2, 3, 8, MAX_VARIABLES]);
     let m = rng.pick(&[1, 2, 5]);
     let pairs = [
-        [MIN_BOUND, MAX_BOUND],
+        [MIN_BOUND, MIN_BOUND + MAX_WIDTH],
+        [MAX_BOUND - MAX_WIDTH, MAX_BOUND],
         [MIN_BOUND, MIN_BOUND],
         [MAX_BOUND, MAX_BOUND],
         [MAX_BOUND - 1, MAX_BOUND],
         [MIN_BOUND, MIN_BOUND + 1],
-        [0, MAX_BOUND],
-        [MIN_BOUND, 0],
+        [0, MAX_WIDTH],
+        [-MAX_WIDTH, 0],
         [0, 1],
         [0, 1],
     ];
@@ -183,7 +214,7 @@ fn limits(rng: &mut Rng) -> Lent {
 fn least_rhs(rng: &mut Rng) -> Lent {
     let a = rng.between(2, MAX_COEF.into()) as i32;
     let z = rng.between(-1, 1) as i32;
-    let lowest_y = rng.pick(&[-1_000, -1_001, MIN_BOUND]);
+    let lowest_y = rng.pick(&[-1_000, -1_001, -1_000 - MAX_WIDTH]);
     Lent {
         n: 3,
         m: 1,
@@ -197,15 +228,14 @@ fn least_rhs(rng: &mut Rng) -> Lent {
 /// How far most crawls go, in passes: more would only repeat the same step.
 const CRAWL: i64 = 1_500;
 
-/// A crawling model of a few variables; rarely over the whole range of bounds.
+/// A crawling model of a few variables; sometimes as wide as a variable may be.
 fn crawling(rng: &mut Rng) -> Lent {
-    let width = if rng.chance(2) { 65_535 } else { rng.between(1, CRAWL) };
+    let width = if rng.chance(30) { MAX_WIDTH.into() } else { rng.between(1, CRAWL) };
     let ends_at_zero = rng.chance(40);
     let low = if ends_at_zero { 0 } else { rng.between(-32_768, 32_767 - width) };
-    let high = (low + width).min(MAX_BOUND.into());
     Ring {
-        variables: rng.between(2, 4) as usize,
-        bounds: [low as i32, high as i32],
+        variables: rng.between(2, 6) as usize,
+        bounds: [low as i32, (low + width) as i32],
         ends_at_zero,
         switched: rng.chance(50),
         reversed: rng.chance(50),
@@ -284,7 +314,7 @@ impl Lent {
     /// The same model with a table all 0 and room for an answer.
     pub fn with_table(mut self) -> Self {
         self.table = vec![0; 4 * self.n * self.n];
-        self.answer = vec![0; 6];
+        self.answer = vec![0; ANSWER];
         self
     }
 }

@@ -66,13 +66,50 @@ pub fn play(
         }
         // No answer looks like this: what a call leaves unwritten is seen.
         lent.answer.fill(0x5a5a_5a5a_5a5a_5a5a);
+        let before = lent.bounds.clone();
         let said = compare(operation, &mut lent, expected, actual)?;
-        if let Some(check) = case.refused_by {
-            assert_eq!(said, check, "{operation:?} was made to fail check {check}: {lent:?}");
+        if let Some(number) = case.returns {
+            assert_eq!(said, number, "{operation:?} was made to return {number}: {lent:?}");
         }
-        coverage.note(operation, said, &lent.answer);
+        if said == 0 {
+            check_moved(operation, &before, &lent);
+        }
+        coverage.note(operation, lent.n, said, &lent.answer);
     }
     Ok(())
+}
+
+/// What the number of bounds moved says of itself (02, C-11), whatever the two sides agree on: a row moved
+/// the bounds that differ, and each pass but the last moved one; without an infeasible row none moved
+/// without a step of the total width.
+fn check_moved(operation: Operation, before: &[i32], after: &Lent) {
+    let width = |bounds: &[i32]| -> u64 {
+        bounds.chunks(2).map(|pair| u64::from(pair[1].abs_diff(pair[0]))).sum()
+    };
+    let ends = |passes: u64, moved: u64| {
+        assert!(passes <= moved + 1, "{operation:?}: {passes} passes, {moved} moved");
+    };
+    match (operation, &after.answer[..]) {
+        (Operation::PropagateRow { .. }, &[case, moved, ..]) => {
+            let differing =
+                before.iter().zip(&after.bounds).filter(|(old, new)| old != new).count();
+            assert_eq!(moved, if case == 0 { 0 } else { differing as u64 }, "{operation:?}");
+        }
+        (Operation::Propagate { .. }, &[case, passes, moved, ..]) => {
+            ends(passes, moved);
+            if case != 0 {
+                assert!(
+                    moved <= width(before) - width(&after.bounds),
+                    "{operation:?}: {moved} moved"
+                );
+            }
+        }
+        (Operation::Probe { .. }, &[_, _, passes0, _, moved0, passes1, _, moved1, ..]) => {
+            ends(passes0, moved0);
+            ends(passes1, moved1);
+        }
+        _ => {}
+    }
 }
 
 /// Makes one call on both sides and compares the number returned and every buffer. The buffers are

@@ -1,19 +1,20 @@
 //! The eleven calls as the C interface has them.
 //!
-//! Each returns 0 or the number of the failed check, and writes its answer into six places. On a
-//! refusal nothing is written. The length of `answer` is check 5, with the other lengths.
+//! Each returns 0 or the number of the failed check, and writes its answer into twelve places, 0 into
+//! those that it does not use. On a refusal nothing is written. The length of `answer` is check 5, with
+//! the other lengths.
 #![allow(clippy::too_many_arguments)] // the interface is what it is
 
 use crate::checks::{self, Check};
 use crate::list;
 use crate::probing::{self, Verdict};
-use crate::propagation::{self, Propagation};
+use crate::propagation::{self, Ending};
 use crate::rounds::{self, Rounds};
-use crate::row::{self, Outcome, Rows};
+use crate::row::{self, Outcome, RowPropagation, Rows};
 use crate::{State, book, bounds as boxes};
 
 /// The places of an answer.
-pub const ANSWER: usize = 6;
+pub const ANSWER: usize = 12;
 
 type Answer = Result<[u64; ANSWER], u32>;
 
@@ -36,7 +37,7 @@ fn reply(answer: &mut [u64], call: impl FnOnce(usize) -> Answer) -> u32 {
     }
 }
 
-/// Checks 3 and 5 to 10 of a model, with its table where the call is lent one; `others` are the lengths
+/// Checks 3, 5, 6, 7, 23, 8, 9 and 10 of a model, with its table where the call is lent one; `others` are the lengths
 /// of further lent buffers, with the lengths that they need.
 fn check_model(
     n: usize,
@@ -79,10 +80,14 @@ pub fn propagate_row(
         check_model(n, m, bounds, coefs, rhs, None, &[(places_lent, ANSWER)])?;
         checks::row(row, m)?;
         if boxes::is_empty(bounds) {
-            return Ok(outcome(Outcome::Infeasible));
+            return Ok(places([0, 0]));
         }
         let r = row as usize;
-        Ok(outcome(row::propagate_row(bounds, &coefs[r * n..][..n], rhs[r])))
+        Ok(match row::propagate_row(bounds, &coefs[r * n..][..n], rhs[r]) {
+            RowPropagation::Infeasible => places([0, 0]),
+            RowPropagation::Tightened(moved) => places([1, moved.into()]),
+            RowPropagation::Unchanged => places([2, 0]),
+        })
     })
 }
 
@@ -100,11 +105,13 @@ pub fn propagate(
         check_model(n, m, bounds, coefs, rhs, None, &[(places_lent, ANSWER)])?;
         checks::budget(budget)?;
         let rows = Rows::new(n, coefs, rhs);
-        Ok(match propagation::propagate(bounds, rows, budget) {
-            Propagation::Infeasible(passes) => places([0, passes.into()]),
-            Propagation::Converged(passes) => places([1, passes.into()]),
-            Propagation::BudgetSpent(passes) => places([2, passes.into()]),
-        })
+        let propagation = propagation::propagate(bounds, rows, budget);
+        let case = match propagation.ending {
+            Ending::Infeasible => 0,
+            Ending::Converged => 1,
+            Ending::BudgetSpent => 2,
+        };
+        Ok(places([case, propagation.passes.into(), propagation.moved.into()]))
     })
 }
 
@@ -132,14 +139,16 @@ pub fn probe(
             Verdict::Fixed(v) => (1, v as u64),
             Verdict::BothFeasible(new) => (2, new),
         };
-        Ok([
+        Ok(places([
             case,
             value,
             side0.passes.into(),
             side0.spent.into(),
+            side0.moved.into(),
             side1.passes.into(),
             side1.spent.into(),
-        ])
+            side1.moved.into(),
+        ]))
     })
 }
 

@@ -1,4 +1,5 @@
-//! The checks, in 01's order: each runs over everything that the call is lent before the next begins.
+//! The checks, in 01's order with 02's new ones in their places: each runs over everything that the call
+//! is lent before the next begins.
 
 use crate::bounds;
 use crate::propagation::MAX_BUDGET;
@@ -21,12 +22,13 @@ pub fn lengths(pairs: &[(usize, usize)]) -> Check {
     ensure(5, pairs.iter().all(|(len, needed)| len == needed))
 }
 
-/// Checks 6 to 9.
+/// Checks 6, 7, 23, 8 and 9 (02, C-22: 23 comes "straight after check 7").
 pub fn numbers(bounds: &[i32], coefs: &[i32], rhs: &[i32]) -> Check {
     let within = |xs: &[i32], low, high| xs.iter().all(|x| (low..=high).contains(x));
     let ordered = || bounds.chunks_exact(2).all(|pair| pair[0] <= pair[1]);
     ensure(6, within(bounds, -32_768, 32_767))?;
     ensure(7, ordered() || bounds::is_empty(bounds))?;
+    ensure(23, bounds.chunks_exact(2).all(|pair| pair[1] - pair[0] <= 4_096))?; // the empty box: −1
     ensure(8, within(coefs, -1_000_000, 1_000_000))?;
     ensure(9, within(rhs, -1_000_000_000, 1_000_000_000))
 }

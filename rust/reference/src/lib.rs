@@ -1,8 +1,8 @@
 //! The reducer once more, in plain Rust.
 //!
-//! Written from the specification (document 01) alone, without a look at the proved code, so that a
-//! misreading would have to be made twice to stay unseen. Nothing here is clever: every call checks
-//! what it is lent, in 01's order, and then follows the text. Sums are `i64`: an activity is at most
+//! Written from the specification (document 01, and 02 where it changes 01) alone, without a look at the
+//! proved code, so that a misreading would have to be made twice to stay unseen. Nothing here is clever:
+//! every call checks what it is lent, in the papers' order, and then follows the text. Sums are `i64`: an activity is at most
 //! 128 · 1,000,000 · 32,768 < 2⁴³.
 //!
 //! | module | 01's section |
@@ -14,8 +14,8 @@
 //! | [`list`] | Run sheet |
 //! | [`rounds`] | the rounds of the program `reduce` |
 //! | [`book`] | Book |
-//! | [`checks`] | Checks in their order |
-//! | [`calls`] | the eleven calls as the C interface has them: a refusal number and six places of answer |
+//! | [`checks`] | Checks in their order; 02's new numbers in their places |
+//! | [`calls`] | the eleven calls as the C interface has them: a refusal number and twelve places of answer |
 //! | [`report`] | what `reduce` prints |
 
 pub mod book;

@@ -4,8 +4,8 @@ use crate::State;
 use crate::bounds;
 use crate::checks::{self, Check};
 use crate::probing::Verdict;
-use crate::propagation::Propagation;
-use crate::row::{self, Outcome};
+use crate::propagation::Ending;
+use crate::row::{self, Outcome, RowPropagation};
 
 /// A call record: kind, row, variable, budget. A field that its kind lacks is ignored.
 pub type Call = [u32; 4];
@@ -43,8 +43,8 @@ fn apply(state: &mut State, call: Call) -> Result<Feasible, u32> {
     let [kind, row, variable, budget] = call;
     let (r, k) = (row as usize, variable as usize);
     Ok(Feasible(match kind {
-        1 => propagate_row(state, r) != Outcome::Infeasible,
-        2 => !matches!(state.propagate(budget), Propagation::Infeasible(_)),
+        1 => propagate_row(state, r) != RowPropagation::Infeasible,
+        2 => state.propagate(budget).ending != Ending::Infeasible,
         3 => state.probe(k, budget).verdict != Verdict::Infeasible,
         4 => state.tighten_coefficient(r, k) != Outcome::Infeasible,
         _ => state.remove_redundant_row(r) != Outcome::Infeasible,
@@ -65,9 +65,9 @@ fn check(state: &State, [kind, row, variable, budget]: Call) -> Check {
     Ok(())
 }
 
-fn propagate_row(state: &mut State, r: usize) -> Outcome {
+fn propagate_row(state: &mut State, r: usize) -> RowPropagation {
     if bounds::is_empty(state.bounds) {
-        return Outcome::Infeasible;
+        return RowPropagation::Infeasible;
     }
     let coefs = &state.coefs[r * state.n..][..state.n];
     row::propagate_row(state.bounds, coefs, state.rhs[r])

@@ -1,14 +1,16 @@
 //! Probing of one free binary variable, and the probing fixpoint (01's rest).
 
 use crate::bounds;
-use crate::propagation::{MAX_BUDGET, Propagation, propagate};
-use crate::row::{Outcome, Rows, propagate_row};
+use crate::propagation::{Ending, MAX_BUDGET, propagate};
+use crate::row::{RowPropagation, Rows, propagate_row};
 
 /// What a probe tells of one side.
 #[derive(Clone, Copy, Debug, Default, PartialEq, Eq)]
 pub struct Side {
     pub passes: u32,
     pub spent: bool,
+    /// The bounds that its propagation moved (02, C-11); setting the variable itself is not counted.
+    pub moved: u32,
 }
 
 #[derive(Clone, Copy, Debug, PartialEq, Eq)]
@@ -31,12 +33,14 @@ pub struct Probe {
 fn side(bounds: &[i32], rows: Rows, k: usize, v: usize, budget: u32) -> (Option<Vec<i32>>, Side) {
     let mut reached = bounds.to_vec();
     reached[2 * k..2 * k + 2].fill(v as i32);
-    let (feasible, passes, spent) = match propagate(&mut reached, rows, budget) {
-        Propagation::Infeasible(passes) => (false, passes, false),
-        Propagation::Converged(passes) => (true, passes, false),
-        Propagation::BudgetSpent(passes) => (true, passes, true),
+    let propagation = propagate(&mut reached, rows, budget);
+    let side = Side {
+        passes: propagation.passes,
+        spent: propagation.ending == Ending::BudgetSpent,
+        moved: propagation.moved,
     };
-    (feasible.then_some(reached), Side { passes, spent })
+    let feasible = propagation.ending != Ending::Infeasible;
+    (feasible.then_some(reached), side)
 }
 
 /// Probes the free binary variable `k`. Both sides start from the box given, whatever the first gives.
@@ -107,8 +111,8 @@ pub fn is_probing_fixpoint(bounds: &[i32], rows: Rows) -> bool {
 
 /// Whether no row changes the box (01's quiet).
 pub fn is_fixpoint(bounds: &[i32], rows: Rows) -> bool {
-    rows.iter()
-        .all(|(coefs, rhs)| propagate_row(&mut bounds.to_vec(), coefs, rhs) == Outcome::Unchanged)
+    let on_a_copy = |coefs, rhs| propagate_row(&mut bounds.to_vec(), coefs, rhs);
+    rows.iter().all(|(coefs, rhs)| on_a_copy(coefs, rhs) == RowPropagation::Unchanged)
 }
 
 /// Whether both sides of `k` are feasible and their hull is the box itself. The largest budget is

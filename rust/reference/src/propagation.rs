@@ -1,46 +1,68 @@
 //! Propagation of all rows, pass after pass (01's settle).
 
 use crate::bounds;
-use crate::row::{self, Outcome, Rows};
+use crate::row::{self, RowPropagation, Rows};
 
-/// The largest budget: 128 variables of width 65,535, and one pass that moves nothing.
+/// The largest budget: 128 variables of width 65,535, and one pass that moves nothing. Since C-22 no
+/// accepted variable is wider than 4,096; "The largest budget remains".
 pub const MAX_BUDGET: u32 = 8_388_481;
 
-/// How a propagation ended, with the passes made.
+/// How a propagation ended.
 #[derive(Clone, Copy, Debug, PartialEq, Eq)]
-pub enum Propagation {
+pub enum Ending {
     /// 01's None.
-    Infeasible(u32),
+    Infeasible,
     /// 01's Settled: the last pass moved nothing.
-    Converged(u32),
+    Converged,
     /// 01's Spent: the budget's passes are made and the last one moved a bound.
-    BudgetSpent(u32),
+    BudgetSpent,
+}
+
+/// What a propagation says.
+#[derive(Clone, Copy, Debug, PartialEq, Eq)]
+pub struct Propagation {
+    pub ending: Ending,
+    /// The passes made; one that is broken off counts.
+    pub passes: u32,
+    /// The bounds moved, summed over all rows' propagations (02, C-11): those of a pass that ended in None
+    /// too, but for the row that is infeasible.
+    pub moved: u32,
 }
 
 /// Makes passes until one moves nothing, a row is infeasible or the budget is spent.
 pub fn propagate(bounds: &mut [i32], rows: Rows, budget: u32) -> Propagation {
     if bounds::is_empty(bounds) {
-        return Propagation::Infeasible(1);
+        return Propagation { ending: Ending::Infeasible, passes: 1, moved: 0 };
     }
+    let mut moved = 0;
     for passes in 1..=budget {
-        match pass(bounds, rows) {
-            Outcome::Infeasible => return Propagation::Infeasible(passes),
-            Outcome::Unchanged => return Propagation::Converged(passes),
-            Outcome::Changed => {}
+        let pass = pass(bounds, rows);
+        moved += pass.moved;
+        if !pass.feasible {
+            return Propagation { ending: Ending::Infeasible, passes, moved };
+        }
+        if pass.moved == 0 {
+            return Propagation { ending: Ending::Converged, passes, moved };
         }
     }
-    Propagation::BudgetSpent(budget)
+    Propagation { ending: Ending::BudgetSpent, passes: budget, moved }
+}
+
+/// What one pass comes to.
+struct Pass {
+    feasible: bool,
+    moved: u32,
 }
 
 /// Propagates each row once, upwards; an infeasible one ends the pass.
-fn pass(bounds: &mut [i32], rows: Rows) -> Outcome {
-    let mut outcome = Outcome::Unchanged;
+fn pass(bounds: &mut [i32], rows: Rows) -> Pass {
+    let mut moved = 0;
     for (coefs, rhs) in rows.iter() {
         match row::propagate_row(bounds, coefs, rhs) {
-            Outcome::Infeasible => return Outcome::Infeasible,
-            Outcome::Changed => outcome = Outcome::Changed,
-            Outcome::Unchanged => {}
+            RowPropagation::Infeasible => return Pass { feasible: false, moved },
+            RowPropagation::Tightened(more) => moved += more,
+            RowPropagation::Unchanged => {}
         }
     }
-    outcome
+    Pass { feasible: true, moved }
 }

@@ -3,7 +3,7 @@
 use crate::State;
 use crate::bounds;
 use crate::probing::Verdict;
-use crate::propagation::Propagation;
+use crate::propagation::Ending;
 
 /// The budget of each propagation in a round, and of each side of a probe.
 const BUDGET: u32 = 1_000;
@@ -36,7 +36,7 @@ pub fn rounds(state: &mut State, limit: u32) -> Rounds {
 /// One round. Whether a variable is free is judged at its own turn. False at None.
 fn round(state: &mut State) -> bool {
     let (n, m) = (state.n, state.rhs.len());
-    if matches!(state.propagate(BUDGET), Propagation::Infeasible(_)) {
+    if state.propagate(BUDGET).ending == Ending::Infeasible {
         return false;
     }
     for r in 0..m {

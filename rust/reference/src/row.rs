@@ -24,12 +24,23 @@ impl<'a> Rows<'a> {
     }
 }
 
-/// What a call on one row says.
+/// What the propagation of one row says.
+#[derive(Clone, Copy, Debug, PartialEq, Eq)]
+pub enum RowPropagation {
+    /// 01's None: the box is empty.
+    Infeasible,
+    /// 01's Narrowed, with the number of bounds that moved (02, C-11).
+    Tightened(u32),
+    /// 01's Same.
+    Unchanged,
+}
+
+/// What the tightening or the removal of one row says.
 #[derive(Clone, Copy, Debug, PartialEq, Eq)]
 pub enum Outcome {
     /// 01's None: the box is empty.
     Infeasible,
-    /// 01's Narrowed, Sharpened or Dropped.
+    /// 01's Sharpened or Dropped.
     Changed,
     /// 01's Same.
     Unchanged,
@@ -69,15 +80,16 @@ fn ceil_div(x: i64, d: i64) -> i64 {
     -floor_div(-x, d)
 }
 
-/// Propagates one row over the box (01's visit). The box is not empty, or the caller has seen to it.
-pub fn propagate_row(bounds: &mut [i32], coefs: &[i32], rhs: i32) -> Outcome {
+/// Propagates one row over the box (01's visit). The box is not empty, or the caller has seen to it. Of
+/// each variable it moves one bound at most, and counts it where it differs from the old one.
+pub fn propagate_row(bounds: &mut [i32], coefs: &[i32], rhs: i32) -> RowPropagation {
     let b = i64::from(rhs);
     let min = min_activity(bounds, coefs);
     if min > b {
         bounds::make_empty(bounds);
-        return Outcome::Infeasible;
+        return RowPropagation::Infeasible;
     }
-    let mut moved = false;
+    let mut moved = 0;
     for (pair, &a) in bounds.chunks_exact_mut(2).zip(coefs) {
         let (a, l, u) = (i64::from(a), i64::from(pair[0]), i64::from(pair[1]));
         // The new bound lies between l and u, so it fits an i32.
@@ -85,18 +97,18 @@ pub fn propagate_row(bounds: &mut [i32], coefs: &[i32], rhs: i32) -> Outcome {
             let limit = floor_div(b - min + a * l, a);
             if limit < u {
                 pair[1] = limit as i32;
-                moved = true;
+                moved += 1;
             }
         } else if a < 0 {
             let g = -a;
             let limit = ceil_div(min + g * u - b, g);
             if limit > l {
                 pair[0] = limit as i32;
-                moved = true;
+                moved += 1;
             }
         }
     }
-    Outcome::changed(moved)
+    if moved > 0 { RowPropagation::Tightened(moved) } else { RowPropagation::Unchanged }
 }
 
 /// Tightens the coefficient of the free binary variable `k` (01's sharpen).

@@ -5,6 +5,7 @@
 
 mod common;
 use common::Model;
+use reference::calls::ANSWER;
 
 const MAX_BUDGET: u32 = 8_388_481;
 
@@ -155,6 +156,75 @@ fn no_call_adds_a_fractional_point() {
     }
 }
 
+/// The bounds that differ between two boxes.
+fn differing(before: &[i32], after: &[i32]) -> u64 {
+    before.iter().zip(after).filter(|(old, new)| old != new).count() as u64
+}
+
+fn width(bounds: &[i32]) -> u64 {
+    bounds.chunks(2).map(|pair| pair[1].abs_diff(pair[0])).sum::<u32>().into()
+}
+
+#[test]
+fn moved_bounds_are_those_that_differ() {
+    // C-11, row by row: a propagation is its rows' propagations, one after another, and adds them up.
+    let mut rng = Rng(8);
+    let mut seen = [0; 3];
+    for _ in 0..3_000 {
+        let model = small_model(&mut rng, 5);
+        let budget = rng.between(1, 4) as u32;
+        let (mut all, mut one) = (model.clone(), model.clone());
+        let [case, passes, moved, ..] = all.propagate(budget).unwrap();
+        let mut sum = 0;
+        'passes: for _ in 0..passes {
+            for row in 0..model.m as u32 {
+                let before = one.bounds.clone();
+                match one.propagate_row(row).unwrap() {
+                    [0, 0, ..] => break 'passes,
+                    [1, more, ..] => {
+                        assert_eq!(more, differing(&before, &one.bounds));
+                        assert!(1 <= more && more <= model.n as u64);
+                        sum += more;
+                    }
+                    answer => assert_eq!(
+                        (answer, before),
+                        (common::ok(&[2]).unwrap(), one.bounds.clone())
+                    ),
+                }
+            }
+        }
+        assert_eq!((moved, &all.bounds), (sum, &one.bounds), "{model:?}");
+        // Each pass but the last moved a bound, and each bound moved is a step of the total width.
+        assert!(passes - 1 <= moved);
+        assert!(case == 0 || moved <= width(&model.bounds) - width(&all.bounds));
+        seen[case as usize] += u64::from(moved > 0);
+    }
+    assert!(seen.iter().all(|&cases| cases > 100), "{seen:?}");
+}
+
+#[test]
+fn a_side_moves_what_a_propagation_of_its_box_does() {
+    let mut rng = Rng(9);
+    for _ in 0..3_000 {
+        let mut model = small_model(&mut rng, 5);
+        let (variable, budget) = (rng.between(0, model.n as i32 - 1), rng.between(1, 4) as u32);
+        let before = model.clone();
+        let Ok([_, _, passes0, spent0, moved0, passes1, spent1, moved1, ..]) =
+            model.probe(variable as u32, budget)
+        else {
+            continue;
+        };
+        let side = |v: i32| {
+            let mut side = before.clone();
+            side.bounds[2 * variable as usize..][..2].fill(v);
+            let [case, passes, moved, ..] = side.propagate(budget).unwrap();
+            (passes, u64::from(case == 2), moved)
+        };
+        assert_eq!((passes0, spent0, moved0), side(0));
+        assert_eq!((passes1, spent1, moved1), side(1));
+    }
+}
+
 #[test]
 fn a_call_list_does_what_its_calls_do() {
     let mut rng = Rng(3);
@@ -163,7 +233,7 @@ fn a_call_list_does_what_its_calls_do() {
         let calls: Vec<[u32; 4]> =
             (0..rng.between(0, 10)).map(|_| any_call(&mut rng, &model)).collect();
         let (mut one, mut all) = (model.clone(), model);
-        let mut counts = [0; 6];
+        let mut counts = [0; ANSWER];
         for &call in &calls {
             let before = one.clone();
             let place = match direct(&mut one, call) {
@@ -303,10 +373,10 @@ fn books_come_back() {
             rhs: vec![0; model.m],
             ..model.clone()
         };
-        let mut answer = [0; 6];
+        let mut answer = [0; ANSWER];
         let (bounds, coefs, rhs) = (&mut read.bounds, &mut read.coefs, &mut read.rhs);
         assert_eq!(reference::calls::book_read(&book, bounds, coefs, rhs, &mut answer), 0);
-        assert_eq!(answer, [model.n as u64, model.m as u64, 0, 0, 0, 0]);
+        assert_eq!(Ok(answer), common::ok(&[model.n as u64, model.m as u64]));
         assert_eq!(read, model);
         assert_eq!(read.book(), book);
     }

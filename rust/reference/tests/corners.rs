@@ -1,9 +1,9 @@
-//! Corner cases: what docs/DECISIONS.md decides where 01 leaves a point open (D-1 and following), and
-//! what the issue fixes for the C interface.
+//! Corner cases: what docs/DECISIONS.md decides where 01 leaves a point open (D-1 and following), what
+//! 02's requests change, and what the issue fixes for the C interface.
 
 mod common;
 use common::{Model, ok};
-use reference::calls;
+use reference::calls::{self, ANSWER};
 
 const MAX_BUDGET: u32 = 8_388_481;
 
@@ -13,14 +13,16 @@ fn empty_box() -> Model {
 }
 
 #[test]
-fn checks_run_strictly_by_number() {
-    // D-1: everything is wrong; repairing one check after another shows the next number.
+fn checks_run_strictly_in_their_order() {
+    // D-1: everything is wrong; repairing one check after another shows the next number, 23 after 7.
     let mut model = Model::new(&[(0, 40_000), (1, 0)], &[(&[1_000_001, 0], 1_000_000_001)]);
     model.table[0] = 2;
     assert_eq!(model.probe(9, 0), Err(6));
     model.bounds[1] = 1;
     assert_eq!(model.probe(9, 0), Err(7));
-    model.bounds[3] = 2;
+    model.bounds[3] = 4_098;
+    assert_eq!(model.probe(9, 0), Err(23));
+    model.bounds[3] = 4_097;
     assert_eq!(model.probe(9, 0), Err(8));
     model.coefs[0] = 1_000_000;
     assert_eq!(model.probe(9, 0), Err(9));
@@ -31,12 +33,12 @@ fn checks_run_strictly_by_number() {
     assert_eq!(model.probe(1, 0), Err(14));
     assert_eq!(model.probe(0, 0), Err(15));
     assert_eq!(model.probe(0, MAX_BUDGET + 1), Err(15));
-    assert_eq!(model.probe(0, MAX_BUDGET), ok(&[2, 0, 1, 0, 1, 0]));
+    assert_eq!(model.probe(0, MAX_BUDGET), ok(&[2, 0, 1, 0, 0, 1, 0, 0]));
 }
 
 #[test]
 fn lengths_come_after_the_size_and_before_the_numbers() {
-    let mut answer = [7; 6];
+    let mut answer = [7; ANSWER];
     let mut bounds = [0, 40_000, 0];
     let said = |n, m, bounds: &mut [i32], answer: &mut [u64]| {
         calls::propagate_row(n, m, bounds, &[1], &[1], 0, answer)
@@ -46,9 +48,10 @@ fn lengths_come_after_the_size_and_before_the_numbers() {
     assert_eq!(said(usize::MAX, usize::MAX, &mut bounds, &mut answer), 3);
     assert_eq!(said(1, 121, &mut bounds, &mut answer), 3);
     assert_eq!(said(1, 1, &mut bounds, &mut answer), 5);
-    assert_eq!(said(1, 1, &mut bounds[..2], &mut answer[..5]), 5);
+    assert_eq!(said(1, 1, &mut bounds[..2], &mut answer[..ANSWER - 1]), 5);
+    assert_eq!(said(1, 1, &mut bounds[..2], &mut answer[..6]), 5); // as long as it was before C-11
     assert_eq!(said(1, 1, &mut bounds[..2], &mut answer), 6);
-    assert_eq!(answer, [7; 6]);
+    assert_eq!(answer, [7; ANSWER]);
 }
 
 #[test]
@@ -62,16 +65,80 @@ fn a_box_that_is_nearly_empty_is_refused() {
     assert_eq!(model.propagate(1), Err(7));
 }
 
+/// C-22: "A variable whose u − l is over 4,096 is refused, in books and in memory, in every call".
+#[test]
+fn a_variable_is_at_most_4_096_wide() {
+    // Wherever it stands in its range, and whichever of the variables it is.
+    for low in [-32_768, -4_097, -2_048, 0, 1, 32_767 - 4_097] {
+        for place in 0..3 {
+            let mut model = Model::new(&[(0, 1); 3], &[(&[1, 1, 1], 40_000)]);
+            model.bounds[2 * place..][..2].copy_from_slice(&[low, low + 4_096]);
+            assert_eq!(every_call(&mut model), [0; 10]);
+            model.bounds[2 * place + 1] += 1;
+            assert_eq!(every_call(&mut model), [23; 10]);
+        }
+    }
+    // The whole range, and a box with the empty box's first pair: that one is crossed, and 7 comes first.
+    assert_eq!(every_call(&mut Model::new(&[(-32_768, 32_767)], &[(&[0], 0)])), [23; 10]);
+    assert_eq!(every_call(&mut Model::new(&[(1, 0), (0, 4_097)], &[(&[0, 0], 0)])), [7; 10]);
+}
+
+/// What each of the ten calls that are lent bounds or a book of the model returns, each on its own copy;
+/// 0 also where only the variable is refused (by 14, after every check of the model).
+fn every_call(model: &mut Model) -> [u32; 10] {
+    let calls: [fn(&mut Model) -> common::Said; 8] = [
+        |model| model.propagate_row(0),
+        |model| model.propagate(1),
+        |model| model.probe(0, 1),
+        |model| model.tighten(0, 0),
+        |model| model.remove(0),
+        |model| model.at_rest(),
+        |model| model.run(&[]),
+        |model| model.rounds(0),
+    ];
+    let mut numbers = [0; 10];
+    for (number, call) in numbers.iter_mut().zip(calls) {
+        *number = call(&mut model.clone()).err().filter(|&check| check != 14).unwrap_or(0);
+    }
+    let (n, m) = (model.n, model.m);
+    let mut book = reference::book::write(n, m, &model.bounds, &model.coefs, &model.rhs);
+    let (mut bounds, mut coefs, mut rhs) = (vec![9; 2 * n], vec![9; m * n], vec![9; m]);
+    numbers[8] = calls::book_read(&book, &mut bounds, &mut coefs, &mut rhs, &mut [0; ANSWER]);
+    assert_eq!(numbers[8] == 0, bounds != vec![9; 2 * n], "a refusal writes nothing");
+    numbers[9] = calls::book_write(n, m, &model.bounds, &model.coefs, &model.rhs, &mut book);
+    numbers
+}
+
+#[test]
+fn the_width_comes_straight_after_7_and_before_8() {
+    let wide = (0, 4_097);
+    let said = |first, second, a, b| Model::new(&[first, second], &[(&[0, a], b)]).propagate(0);
+    let (big_a, big_b) = (1_000_001, 1_000_000_001);
+    assert_eq!(said(wide, (0, 32_768), big_a, big_b), Err(6));
+    assert_eq!(said((0, 32_768), wide, big_a, big_b), Err(6));
+    assert_eq!(said(wide, (1, 0), big_a, big_b), Err(7));
+    assert_eq!(said((2, 1), wide, big_a, big_b), Err(7));
+    assert_eq!(said(wide, (0, 1), big_a, big_b), Err(23));
+    assert_eq!(said((0, 1), wide, 0, big_b), Err(23));
+    assert_eq!(said((0, 1), wide, 0, 0), Err(23));
+    assert_eq!(said((0, 1), (0, 4_096), big_a, big_b), Err(8));
+    assert_eq!(said((0, 1), (0, 4_096), 0, 0), Err(15));
+    // A bound out of its range by far: the width is looked at only after 6.
+    assert_eq!(said((i32::MIN, i32::MAX), wide, 0, 0), Err(6));
+    // The empty box has no width, and with it every other check applies as before.
+    assert_eq!(empty_box().propagate(0), Err(15));
+}
+
 #[test]
 fn the_trailer_call_has_its_own_order() {
     // D-3: 1, then 5, then 3, then 4.
     let book = Model::binary(2, &[(&[3, 2], 4)]).book();
     let trailer = &book[28..];
-    let mut answer = [7; 6];
+    let mut answer = [7; ANSWER];
     assert_eq!(calls::book_trailer(trailer, &mut answer), 0);
-    assert_eq!(answer, [2, 1, 0, 0, 0, 0]);
-    assert_eq!(calls::book_trailer(&trailer[..15], &mut answer[..5]), 1);
-    assert_eq!(calls::book_trailer(trailer, &mut answer[..5]), 5);
+    assert_eq!(Ok(answer), ok(&[2, 1]));
+    assert_eq!(calls::book_trailer(&trailer[..15], &mut answer[..ANSWER - 1]), 1);
+    assert_eq!(calls::book_trailer(trailer, &mut answer[..ANSWER - 1]), 5);
     assert_eq!(calls::book_trailer(&book[27..], &mut answer), 5);
     let mut bad = trailer.to_vec();
     bad[12] += 1;
@@ -88,9 +155,10 @@ fn a_book_is_checked_in_order() {
     let good = model.book();
     let read = |book: &[u8], lent: usize| {
         let (mut bounds, mut coefs, mut rhs) = (vec![9; lent], vec![9; 2], vec![9; 1]);
-        let mut answer = [7; 6];
+        let mut answer = [7; ANSWER];
         let said = calls::book_read(book, &mut bounds, &mut coefs, &mut rhs, &mut answer);
-        let written = bounds != vec![9; lent] || coefs != [9; 2] || rhs != [9] || answer != [7; 6];
+        let written =
+            bounds != vec![9; lent] || coefs != [9; 2] || rhs != [9] || answer != [7; ANSWER];
         assert_eq!(said == 0, written, "a refusal writes nothing");
         said
     };
@@ -112,6 +180,7 @@ fn a_book_is_checked_in_order() {
     assert_eq!(read(&good, 3), 5);
     assert_eq!(read(&with(6, 1), 4), 6);
     assert_eq!(read(&with(0, 2), 4), 7);
+    assert_eq!(read(&with(5, 0x10), 4), 23); // u = 4,097
     assert_eq!(read(&with(23, 1), 4), 8);
     assert_eq!(read(&with(19, 0x7f), 4), 9);
 }
@@ -150,14 +219,14 @@ fn without_rows_a_box_converges_after_one_pass() {
 fn both_sides_are_propagated_and_reported() {
     // D-7: side 0 is infeasible in its first pass, and side 1's passes are told all the same.
     let mut model = Model::new(&[(0, 1), (0, 5)], &[(&[-1, 0], -1), (&[0, 2], 5)]);
-    assert_eq!(model.probe(0, 9), ok(&[1, 1, 1, 0, 2, 0]));
+    assert_eq!(model.probe(0, 9), ok(&[1, 1, 1, 0, 0, 2, 0, 1]));
     assert_eq!(model.bounds, [1, 1, 0, 2]);
     // Both infeasible: the passes are the real ones. With x = 0 rows 1 and 2 put y and z at 1, which
     // row 0 finds in the second pass; with x = 1 row 3 is infeasible in the first.
     let rows: &[(&[i32], i32)] =
         &[(&[0, 1, 1], 1), (&[-1, -1, 0], -1), (&[-1, 0, -1], -1), (&[1, 0, 0], 0)];
     let mut model = Model::binary(3, rows);
-    assert_eq!(model.probe(0, 9), ok(&[0, 0, 2, 0, 1, 0]));
+    assert_eq!(model.probe(0, 9), ok(&[0, 0, 2, 0, 2, 1, 0, 0]));
     assert!(model.is_empty());
     assert!(model.table.iter().all(|&byte| byte == 0));
 }
@@ -166,12 +235,46 @@ fn both_sides_are_propagated_and_reported() {
 fn a_spent_side_is_used_and_told() {
     // Side 1 is spent at budget 1: it fixes nothing yet it narrows.
     let mut model = Model::new(&[(0, 1), (0, 5)], &[(&[5, 2], 10)]);
-    assert_eq!(model.probe(0, 1), ok(&[2, 0, 1, 0, 1, 1]));
+    assert_eq!(model.probe(0, 1), ok(&[2, 0, 1, 0, 0, 1, 1, 1]));
     assert_eq!(model.bounds, [0, 1, 0, 5]);
     // Both sides spent, and both narrow: the hull does too.
     let mut model = Model::new(&[(0, 1), (0, 5)], &[(&[1, 2], 5)]);
-    assert_eq!(model.probe(0, 1), ok(&[2, 0, 1, 1, 1, 1]));
+    assert_eq!(model.probe(0, 1), ok(&[2, 0, 1, 1, 1, 1, 1, 1]));
     assert_eq!(model.bounds, [0, 1, 0, 2]);
+}
+
+#[test]
+fn bounds_moved_before_none_are_counted() {
+    // C-11: "including those of a pass that ended in None"; "a visit that answers None adds nothing".
+    // Row 0 puts both at 1, row 1 finds 2 > 1 in the same pass.
+    let mut model = Model::binary(2, &[(&[-1, -1], -2), (&[1, 1], 1)]);
+    assert_eq!(model.propagate(9), ok(&[0, 1, 2]));
+    assert!(model.is_empty());
+    // The same on the side x = 1 of a third variable, which loosens row 0 when it is 0.
+    let mut model = Model::binary(3, &[(&[2, -1, -1], 0), (&[0, 1, 1], 1)]);
+    assert_eq!(model.probe(0, 9), ok(&[1, 0, 1, 0, 0, 1, 0, 2]));
+    // x + y ≥ 6, 2x ≤ 5, y ≤ x over 0..5. Pass 1: both lower bounds go to 1, then x ≤ 2, then y ≤ 2; in
+    // pass 2 the first row finds that 4 < 6.
+    let rows: &[(&[i32], i32)] = &[(&[-1, -1], -6), (&[2, 0], 5), (&[-1, 1], 0)];
+    let mut model = Model::new(&[(0, 5), (0, 5)], rows);
+    assert_eq!(model.clone().propagate(1), ok(&[2, 1, 4]));
+    assert_eq!(model.propagate(9), ok(&[0, 2, 4]));
+    // The empty box: no row is propagated.
+    assert_eq!(model.propagate(9), ok(&[0, 1, 0]));
+    assert_eq!(model.propagate_row(0), ok(&[0, 0]));
+}
+
+#[test]
+fn a_bound_that_moves_in_each_pass_is_counted_in_each() {
+    // x ≤ y and 1,000,000 y ≤ 999,999 x over 0..3: y, then x, one down in each pass until both are 0; the
+    // sum is the width lost, 6, and not the number of bounds that differ in the end, 2.
+    let rows: &[(&[i32], i32)] = &[(&[1, -1], 0), (&[-999_999, 1_000_000], 0)];
+    let mut model = Model::new(&[(0, 3), (0, 3)], rows);
+    assert_eq!(model.propagate(9), ok(&[1, 5, 6]));
+    assert_eq!(model.bounds, [0, 0, 0, 0]);
+    let mut model = Model::new(&[(0, 3), (0, 3)], rows);
+    assert_eq!(model.propagate(2), ok(&[2, 2, 3]));
+    assert_eq!(model.bounds, [0, 2, 0, 1]);
 }
 
 #[test]
@@ -179,16 +282,16 @@ fn implications_are_of_variables_free_before_the_call() {
     // D-8 and D-9: y is fixed at 0 by both sides; both implications are recorded, z (0..2) none.
     let rows: &[(&[i32], i32)] = &[(&[0, 1, 0], 0), (&[0, 0, 1], 0)];
     let mut model = Model::new(&[(0, 1), (0, 1), (0, 2)], rows);
-    assert_eq!(model.probe(0, 9), ok(&[2, 4, 2, 0, 2, 0]));
+    assert_eq!(model.probe(0, 9), ok(&[2, 4, 2, 0, 2, 2, 0, 2]));
     let at: Vec<usize> = (0..36).filter(|&at| model.table[at] == 1).collect();
     assert_eq!(at, [2, 6 + 2, 3 * 6, 3 * 6 + 1]);
     assert_eq!(model.bounds, [0, 1, 0, 0, 0, 0]);
     // The same again counts nothing: y is no longer free.
-    assert_eq!(model.probe(0, 9), ok(&[2, 0, 1, 0, 1, 0]));
+    assert_eq!(model.probe(0, 9), ok(&[2, 0, 1, 0, 0, 1, 0, 0]));
     // A byte that is 1 already does not count.
     let mut model = Model::new(&[(0, 1), (0, 1), (0, 2)], rows);
     model.table[2] = 1;
-    assert_eq!(model.probe(0, 9), ok(&[2, 3, 2, 0, 2, 0]));
+    assert_eq!(model.probe(0, 9), ok(&[2, 3, 2, 0, 2, 2, 0, 2]));
 }
 
 #[test]
@@ -281,5 +384,9 @@ fn reduce_prints_none_and_refusals() {
     assert_eq!(reduce(&[0; 16]), "refused 2\n");
     assert_eq!(reduce(&Model::binary(1, &[(&[1], -1)]).book()), "none\n");
     assert_eq!(reduce(&empty_box().book()), "none\n");
+    let wide = reference::book::write(1, 0, &[0, 4_097], &[], &[]);
+    assert_eq!(reduce(&wide), "refused 23\n");
+    let widest = reference::book::write(1, 0, &[-2_048, 2_048], &[], &[]);
+    assert_eq!(reduce(&widest), "reduced 1 0 1\nv 0 -2048 2048\n");
     assert_eq!(reduce(&Model::new(&[(-2, 7)], &[(&[0], 5)]).book()), "reduced 1 1 2\nv 0 -2 7\n");
 }

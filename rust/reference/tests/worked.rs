@@ -1,4 +1,4 @@
-//! 01's worked books, line by line, and 000's clique example.
+//! 01's worked books, line by line, 000's clique example, and what 02's requests tell.
 
 mod common;
 use common::{Model, ok};
@@ -13,7 +13,7 @@ const SPENT: u64 = 2;
 #[test]
 fn two_x_at_most_five() {
     let mut model = Model::new(&[(0, 5)], &[(&[2], 5)]);
-    assert_eq!(model.propagate_row(0), ok(&[CHANGED]));
+    assert_eq!(model.propagate_row(0), ok(&[CHANGED, 1]));
     assert_eq!(model.bounds, [0, 2]);
     assert_eq!(model.propagate_row(0), ok(&[SAME]));
 }
@@ -21,14 +21,14 @@ fn two_x_at_most_five() {
 #[test]
 fn a_negative_coefficient_raises_the_lower_bound() {
     let mut model = Model::new(&[(0, 5)], &[(&[-2], -3)]);
-    assert_eq!(model.propagate_row(0), ok(&[CHANGED]));
+    assert_eq!(model.propagate_row(0), ok(&[CHANGED, 1]));
     assert_eq!(model.bounds, [2, 5]);
 }
 
 #[test]
 fn floor_goes_towards_minus_infinity() {
     let mut model = Model::new(&[(-5, 5)], &[(&[2], -3)]);
-    assert_eq!(model.propagate_row(0), ok(&[CHANGED]));
+    assert_eq!(model.propagate_row(0), ok(&[CHANGED, 1]));
     assert_eq!(model.bounds, [-5, -2]);
 }
 
@@ -44,7 +44,7 @@ fn all_zero_rows() {
 #[test]
 fn both_must_be_one() {
     let mut model = Model::binary(2, &[(&[-1, -1], -2)]);
-    assert_eq!(model.propagate_row(0), ok(&[CHANGED]));
+    assert_eq!(model.propagate_row(0), ok(&[CHANGED, 2]));
     assert_eq!(model.bounds, [1, 1, 1, 1]);
     let mut model = Model::binary(2, &[(&[-1, -1], -3)]);
     assert_eq!(model.propagate_row(0), ok(&[NONE]));
@@ -81,8 +81,8 @@ fn a_redundant_row_is_removed_and_not_tightened() {
 #[test]
 fn passes_and_budget() {
     let model = Model::new(&[(0, 5)], &[(&[2], 5)]);
-    assert_eq!(model.clone().propagate(1), ok(&[SPENT, 1]));
-    assert_eq!(model.clone().propagate(2), ok(&[SETTLED, 2]));
+    assert_eq!(model.clone().propagate(1), ok(&[SPENT, 1, 1]));
+    assert_eq!(model.clone().propagate(2), ok(&[SETTLED, 2, 1]));
 }
 
 #[test]
@@ -92,7 +92,7 @@ fn a_propagation_fixpoint_need_not_be_at_rest() {
     assert_eq!(model.propagate_row(1), ok(&[SAME]));
     assert_eq!(model.at_rest(), ok(&[0]));
     // Side 0 moves nothing. Side 1: row 0 puts y at 1, row 1 finds 2 > 1 in the same pass.
-    assert_eq!(model.probe(0, 1_000), ok(&[1, 0, 1, 0, 1, 0]));
+    assert_eq!(model.probe(0, 1_000), ok(&[1, 0, 1, 0, 0, 1, 0, 1]));
     assert_eq!(model.bounds, [0, 0, 0, 1]);
     assert_eq!(model.at_rest(), ok(&[1]));
 }
@@ -118,14 +118,11 @@ fn the_clique_example_gives_eight_table_bytes() {
         4,
         &[(&[4, 1, 0, -3], 2), (&[2, 3, 0, 3], 7), (&[1, 4, 2, 0], 5), (&[3, 1, 5, 0], 6)],
     );
-    let new: u64 = (0..4)
-        .map(|k| {
-            let answer = model.probe(k, 1_000).unwrap();
-            assert_eq!(answer[0], 2);
-            answer[1]
-        })
-        .sum();
-    assert_eq!(new, 8);
+    // Both; new bytes; passes, Spent and bounds moved of each side. docs/WORKED.md has them by hand.
+    assert_eq!(model.probe(0, 1_000), ok(&[2, 6, 1, 0, 0, 2, 0, 3]));
+    assert_eq!(model.probe(1, 1_000), ok(&[2, 2, 1, 0, 0, 2, 0, 1]));
+    assert_eq!(model.probe(2, 1_000), ok(&[2, 0, 1, 0, 0, 2, 0, 2]));
+    assert_eq!(model.probe(3, 1_000), ok(&[2, 0, 2, 0, 1, 1, 0, 0]));
     assert_eq!(model.table.iter().filter(|&&byte| byte == 1).count(), 8);
     let implies = |k: usize, v: usize, j: usize, w: usize| {
         model.table[reference::probing::literal(k, v) * 8 + reference::probing::literal(j, w)] == 1
@@ -138,6 +135,27 @@ fn the_clique_example_gives_eight_table_bytes() {
 }
 
 #[test]
+fn a_lower_bound_that_two_rows_raise_is_counted_twice() {
+    // 000, 2.2.1: x1 x2 x3 y1 y2 y3, y without an upper bound (4,096 here).
+    let rows: &[(&[i32], i32)] = &[
+        (&[0, 0, 0, -1, -3, 0], -15),
+        (&[0, 0, 0, -1, 0, -2], -10),
+        (&[0, 0, 0, -2, -1, 0], -20),
+        (&[-15, 0, 0, 1, 0, 0], 0),
+        (&[0, -20, 0, 0, 1, 0], 0),
+        (&[0, 0, -5, 0, 0, 1], 0),
+    ];
+    let bounds = [(0, 1), (0, 1), (0, 1), (0, 4_096), (0, 4_096), (0, 4_096)];
+    let mut model = Model::new(&bounds, rows);
+    assert_eq!(model.propagate(1_000), ok(&[SETTLED, 2, 3]));
+    assert_eq!(model.bounds[6..], [0, 15, 0, 20, 0, 5]);
+    // With x1 = 0 row 0 raises y2 to 5 and row 2 to 20.
+    assert_eq!(model.probe(0, 1_000), ok(&[2, 4, 3, 0, 6, 1, 0, 0]));
+    assert_eq!(model.probe(1, 1_000), ok(&[2, 0, 3, 0, 3, 1, 0, 0]));
+    assert_eq!(model.probe(2, 1_000), ok(&[2, 0, 3, 0, 3, 1, 0, 0]));
+}
+
+#[test]
 fn the_book_of_44_bytes() {
     let model = Model::binary(2, &[(&[3, 2], 4)]);
     let book = model.book();
@@ -145,4 +163,18 @@ fn the_book_of_44_bytes() {
     assert_eq!(book[28..], [0, 0, 0, 0, 16, 0, 0, 0, 2, 0, 1, 0, 44, 0, 0, 0]);
     let expected = "reduced 2 1 2\nv 0 0 1\nv 1 0 1\nr 0 1 1 1\ni 0 1 1 0\ni 1 1 0 0\n";
     assert_eq!(reference::report::reduce(&book), expected);
+}
+
+#[test]
+fn thirty_lots_typed_as_thirty_thousand() {
+    // C-22: x lots of 10 tons, of which at most 305 go. The bound as typed is refused, retyped it is not.
+    let mut model = Model::new(&[(0, 30_000)], &[(&[10], 305)]);
+    assert_eq!(model.propagate(1_000), Err(23));
+    model.bounds = vec![0, 4_097];
+    assert_eq!(model.propagate(1_000), Err(23));
+    model.bounds = vec![0, 4_096];
+    assert_eq!(model.propagate(1_000), ok(&[SETTLED, 2, 1]));
+    assert_eq!(model.bounds, [0, 30]);
+    model.bounds = vec![0, 30];
+    assert_eq!(model.propagate(1_000), ok(&[SETTLED, 1, 0]));
 }

@@ -11,7 +11,6 @@ use mir.Syntax.{w32}
 use mir.Val.{SFits}
 use native.Mathlib.Omega.{arith}
 use Rattle.integer.specs.Index.{all}
-use Rattle.integer.specs.Range.{Within}
 use Rattle.integer.proofs.Parts.{sub-parts, zarith}
 use Rattle.integer.proofs.RangeLaws.{within!, within-fits}
 use Rattle.integer.proofs.Tests.{true→T}

@@ -1,51 +1,55 @@
--- `propagation::propagate_marked` is the definition: rows 0 to r − 1 came to what `passTo` says, and the passes that are left from here
--- give what the whole gives. The two ways out of the passes meet in `met`. Assumes nothing.
+-- `propagation::propagate_marked` is the definition: rows 0 to r − 1 came to what `passTo` says, and the passes that are left from here,
+-- with the tally so far, give what the whole gives. The two ways out of the passes meet in `met`. Assumes nothing.
 use Prim.Native.Nat.{_+_, _-_, _≤_, ℕ}
 use borrow.Author.Needs.{needs}
-use borrow.Author.Tests.{not-false, not-true}
-use lib.IntN.{ℤ}
+use lib.Dec.{T}
+use lib.IntN.{_+ℤ_, pos, ℤ}
 use lib.ListN.{length}
-use mathlib.Core.Bool.{Bool, cond, false}
+use lib.Signed.{_≤ℤ_}
+use mathlib.Core.Bool.{Bool, cond, false, not}
 use mathlib.Core.List.{List}
-use mathlib.Core.Logic.{inl, inr, ⊎-elim}
+use mathlib.Core.Logic.{_⊎_, inl, inr, ⊎-elim}
 use mathlib.Core.Path.{_∙_, _≡_, ap, refl, sym}
 use native.Mathlib.Nat.{sub-zero}
 use native.Mathlib.Omega.{arith}
+use Rattle.integer.proofs.Parts.{zarith, zify}
 use Rattle.integer.proofs.Tests.{false→T}
-use Rattle.model.specs.Box.{at, isEmpty}
+use Rattle.model.specs.Box.{at, isEmpty, width}
 use Rattle.model.specs.Rows.{rowOf, rowsOf}
-use Rattle.row.specs.Answers.{propagationOutcome}
+use Rattle.row.specs.Answers.{propagatedRowOf}
+use Rattle.row.specs.Outcome.{isInfeasible}
 use Rattle.row.specs.Propagation.{propagateRow}
-use Rattle.row.specs.declared.propagation.RowPropagation.the-variants.{Infeasible}
-use Rattle.semantics.specs.Propagate.{Propagated, passTo, propagate, propagateFrom}
+use Rattle.row.specs.declared.propagation.RowPropagation.the-variants.{Tightened, Unchanged}
+use Rattle.semantics.specs.Propagate.{Propagated, propagate, propagateFrom}
 use Rattle.propagation.specs.Results.{propagationOf}
 use Rattle.propagation.specs.declared.Propagation.the-variants as code
-use Rattle.propagation.proofs.PropagationLoops.{budget-spent, pass-converged, pass-infeasible, pass-moved, pass-over, row-feasible, row-infeasible}
+use Rattle.propagation.proofs.PropagationLoops.{PassIs, budget-spent, pass-begins, pass-converged, pass-infeasible, pass-moved, pass-over, pass-width, row-feasible, row-infeasible, sum-fits}
 use Rattle.row.proofs.ImpliedBoxLaws.{valid-nonEmpty}
 use Rattle.propagation.specs.Marks.{Watched}
-use Rattle.propagation.proofs.MarkLaws.{Ready, model-at, ready, ready-trans, ready-visit, tightened, unmoved}
+use Rattle.propagation.proofs.MarkLaws.{Ready, left-by, model-at, ready, ready-trans, ready-visit, tightened, unmoved}
 use Rattle.propagation.proofs.propagate_marked.Statement.{statement}
 use Rattle.propagation.proofs.propagate_marked.Tie as tie
 
 abbrev Inv-rows : tie.InvT-rows
-Inv-rows n m bounds₀ coefs rhs budget across₀ signs₀ seen₀ marks₀ passes infeasible₀ moved₀ r₀ bounds across signs seen marks infeasible moved r =
+Inv-rows n m bounds₀ coefs rhs budget across₀ signs₀ seen₀ marks₀ passes tally₀ infeasible₀ before r₀ bounds across signs seen marks tally infeasible r =
     (r ≤ m)
-    × (passTo n r (rowsOf coefs rhs) bounds₀ ≡ record { ended = false; moved = moved; box = bounds })
+    × PassIs n r coefs rhs bounds₀ before false (tally .moved) bounds
     × Ready n m coefs rhs bounds₀ across₀ signs₀ seen₀ marks₀ bounds across signs seen marks
     × (infeasible ≡ false)
 
 abbrev μ-rows : tie.MeasureT-rows
-μ-rows n m bounds₀ coefs rhs budget across₀ signs₀ seen₀ marks₀ passes infeasible₀ moved₀ r₀ bounds across signs seen marks infeasible moved r = m - r
+μ-rows n m bounds₀ coefs rhs budget across₀ signs₀ seen₀ marks₀ passes tally₀ infeasible₀ before r₀ bounds across signs seen marks tally infeasible r = m - r
 
 abbrev Inv-passes : tie.InvT-passes
-Inv-passes n m bounds₀ coefs rhs budget across₀ signs₀ seen₀ marks₀ passes₀ infeasible₀ bounds across signs seen marks passes infeasible =
+Inv-passes n m bounds₀ coefs rhs budget across₀ signs₀ seen₀ marks₀ passes₀ tally₀ infeasible₀ bounds across signs seen marks passes tally infeasible =
     (passes ≤ budget)
-    × (propagateFrom (budget - passes) passes n m (rowsOf coefs rhs) bounds ≡ propagateFrom budget 0 n m (rowsOf coefs rhs) bounds₀)
+    × (propagateFrom (budget - passes) passes (tally .moved) n m (rowsOf coefs rhs) bounds ≡ propagateFrom budget 0 0 n m (rowsOf coefs rhs) bounds₀)
     × Ready n m coefs rhs bounds₀ across₀ signs₀ seen₀ marks₀ bounds across signs seen marks
     × (infeasible ≡ false)
+    × ((pos (tally .moved) +ℤ width n bounds) ≤ℤ width n bounds₀)
 
 abbrev μ-passes : tie.MeasureT-passes
-μ-passes n m bounds₀ coefs rhs budget across₀ signs₀ seen₀ marks₀ passes₀ infeasible₀ bounds across signs seen marks passes infeasible = budget - passes
+μ-passes n m bounds₀ coefs rhs budget across₀ signs₀ seen₀ marks₀ passes₀ tally₀ infeasible₀ bounds across signs seen marks passes tally infeasible = budget - passes
 
 is-empty-requires : tie.Need-is-empty-requires Inv-rows μ-rows Inv-passes μ-passes
 is-empty-requires c κs = let p = c .before .before .before .before .pre .0 in omega (arith, p .some, p .box .len)
@@ -65,7 +69,7 @@ passes-holds c =
     let s = c .before .before .before .before .before .before in
     let p = s .pre .0 in
     let e = sym (c .before .is-empty .ensures _ (p .some) (p .box)) ∙ c .if1 .left in
-    (omega arith, rw sub-zero, ready (p .box) (valid-nonEmpty (p .box) (false→T (isEmpty (s .args .n) (s .args .bounds .now)) e)) (s .pre .1 .0), refl)
+    (omega arith, rw sub-zero, ready (p .box) (valid-nonEmpty (p .box) (false→T (isEmpty (s .args .n) (s .args .bounds .now)) e)) (s .pre .1 .0), refl, simp zify (omega zarith))
 
 add-passes : tie.Need-add-passes Inv-rows μ-rows Inv-passes μ-passes
 add-passes c = omega arith
@@ -76,11 +80,10 @@ next-row-requires c κs =
     (omega arith, omega (arith, q .before .before .before .before .before .before .before .pre .1 .1, q .passes .inv .2 .marksLen))
 
 rows-holds : tie.Need-rows-holds Inv-rows μ-rows Inv-passes μ-passes
-unfolding passTo
 rows-holds c =
     let i = c .before .before .before .passes .inv in
     let t = c .next-row .ensures in
-    (t .1, pass-over _ 0 _ refl (i .2 .nonEmpty) (i .2 .watched .clean) (t .0) (t .1) (t .2), ready (i .2 .box) (i .2 .nonEmpty) (i .2 .watched), i .3)
+    (t .1, pass-over _ 0 _ (pass-begins _ _ _ _ _) (i .2 .nonEmpty) (i .2 .watched .clean) (t .0) (t .1) (t .2), ready (i .2 .box) (i .2 .nonEmpty) (i .2 .watched), i .3)
 
 -- the call, where it comes to a pass
 module _ (h : tie.At-passes Inv-rows μ-rows Inv-passes μ-passes) where
@@ -111,7 +114,10 @@ module _ (h : tie.At-passes Inv-rows μ-rows Inv-passes μ-passes) where
   abbrev B : List ℤ
   B = h .passes .bounds
 
-  whole : propagate budget n m (rowsOf C R) B₀ ≡ propagateFrom budget 0 n m (rowsOf C R) B₀
+  abbrev before : ℕ
+  before = h .passes .tally .moved
+
+  whole : propagate budget n m (rowsOf C R) B₀ ≡ propagateFrom budget 0 0 n m (rowsOf C R) B₀
   unfolding propagate
   whole = rw (sym (h .before .before .is-empty .ensures _ (s .pre .0 .some) (s .pre .0 .box)) ∙ h .before .if1 .left)
 
@@ -158,22 +164,43 @@ module _ (c : tie.After-propagate-row-marked Inv-rows μ-rows Inv-passes μ-pass
   abbrev b : ℤ
   b = at (R h) (r row)
 
-  answered : propagationOutcome (c .propagate-row-marked .result) ≡ propagateRow (n h) A b (P row) .outcome
-  answered = c .propagate-row-marked .ensures .0
+  heard : propagatedRowOf (c .propagate-row-marked .result) Q ≡ propagateRow (n h) A b (P row)
+  heard = c .propagate-row-marked .ensures .0
 
   left : Q ≡ propagateRow (n h) A b (P row) .box
-  left = c .propagate-row-marked .ensures .1 .0
+  left = left-by _ Q heard
+
+  -- one that is feasible leaves all ready for the next
+  row-ready : T (not (isInfeasible (propagateRow (n h) A b (P row) .outcome))) →
+      let q = c .propagate-row-marked .last .1 .1 .1 .1 .1 .1 in
+      Ready (n h) (m h) (C h) (R h) (B h) (h .passes .across) (h .passes .signs) (h .passes .seen) (h .passes .marks) Q (q .0) (q .1 .0) (q .1 .1 .0) (q .1 .1 .1 .0)
+  row-ready f =
+      let l = c .propagate-row-marked .kept .1 .1 in
+      ready-visit A b (row .before .rows .inv .2) left f (c .propagate-row-marked .ensures .1)
+      (l .0) (l .1 .1 .1 .1 .0) (l .1 .1 .1 .1 .1 .0) (l .1 .1 .1 .1 .1 .1 .0) (l .1 .1 .1 .1 .1 .1 .1 .0)
+
+  -- and the pass so far, with it
+  one-row : {k now : ℕ} → ((c .propagate-row-marked .result ≡ Tightened k) × (now ≡ row .before .rows .tally .moved + k))
+      ⊎ ((c .propagate-row-marked .result ≡ Unchanged) × (now ≡ row .before .rows .tally .moved))
+      → PassIs (n h) (r row + 1) (C h) (R h) (B h) (before h) false now Q
+  one-row = row-feasible (n h) (r row) (C h) (R h) (B h) (before h) _ Q (row .before .rows .inv .1) heard
 
 enum-told : tie.Need-enum-told Inv-rows μ-rows Inv-passes μ-passes
 enum-told c = search needs
 
+enum-known-moved : tie.Need-enum-known-moved Inv-rows μ-rows Inv-passes μ-passes
+enum-known-moved c = search needs
+
+add-requires : tie.Need-add-requires Inv-rows μ-rows Inv-passes μ-passes
+add-requires c κs =
+    let d = c .before .before .before .before .before .before .before .before .before .before .before in
+    let told = c .before .moved .given .1 in
+    sum-fits (one-row d (inl (told, refl))) (B₀ (h d)) (h d .passes .inv .4) (s (h d) .pre .0) (row-ready d (tightened _ (Q d) (heard d) told) .nonEmpty)
+
 enum-told-2 : tie.Need-enum-told-2 Inv-rows μ-rows Inv-passes μ-passes
 enum-told-2 c = search needs
 
-enum-told-3 : tie.Need-enum-told-3 Inv-rows μ-rows Inv-passes μ-passes
-enum-told-3 c = search needs
-
--- and the pass so far, with it
+-- where the row moved bounds or did not
 module _ (c : tie.At-match-came Inv-rows μ-rows Inv-passes μ-passes) where
   abbrev d : tie.After-propagate-row-marked Inv-rows μ-rows Inv-passes μ-passes
   d = c .before .before .before .before .before .before .before .before .before
@@ -181,10 +208,15 @@ module _ (c : tie.At-match-came Inv-rows μ-rows Inv-passes μ-passes) where
   abbrev k : tie.At-rows Inv-rows μ-rows Inv-passes μ-passes
   k = row d .before
 
-  one-row : passTo (n (h d)) (r (row d) + 1) (rowsOf (C (h d)) (R (h d))) (B (h d)) ≡ record { ended = false; moved = c .match .moved; box = Q d }
-  one-row =
-      row-feasible (n (h d)) (r (row d)) (C (h d)) (R (h d)) (B (h d)) _ (k .rows .inv .1) (answered d) (left d)
-      (⊎-elim (λ w. inl (w .1 .given .1, w .2)) (λ w. inr (w .1 .given .1, w .2)) (c .match .came))
+  feasible : T (not (isInfeasible (propagateRow (n (h d)) (A d) (b d) (P (row d)) .outcome)))
+  feasible = ⊎-elim (λ w. tightened _ (Q d) (heard d) (w .1 .given .1)) (λ w. unmoved _ (Q d) (heard d) (w .1 .given .1) .0) (c .match .came)
+
+  counted : PassIs (n (h d)) (r (row d) + 1) (C (h d)) (R (h d)) (B (h d)) (before (h d)) false (c .match .tally .moved) (Q d)
+  counted =
+      ⊎-elim
+      (λ w. one-row d (inl (w .1 .given .1, ap (λ t. t .moved) (w .4) ∙ w .3 .ensures)))
+      (λ w. one-row d {k = 0} (inr (w .1 .given .1, ap (λ t. t .moved) (w .2))))
+      (c .match .came)
 
 add-next-row : tie.Need-add-next-row Inv-rows μ-rows Inv-passes μ-passes
 add-next-row c = let e = d (c .before) in omega (arith, row e .rows-test .taken, s (h e) .pre .0 .fewRows)
@@ -202,18 +234,14 @@ rows-less c = let t = c .next-row2 .ensures in omega (arith, t .0, t .1, row (d 
 rows-again : tie.Need-rows-again Inv-rows μ-rows Inv-passes μ-passes
 rows-again c =
     let a = c .before .before in
-    let e = d a in
     let t = c .next-row2 .ensures in
-    let f = ⊎-elim (λ w. tightened _ (answered e) (w .1 .given .1)) (λ w. unmoved _ (answered e) (w .1 .given .1) .0) (a .match .came) in
-    let l = e .propagate-row-marked .kept .1 .1 in
-    let y = ready-visit (A e) (b e) (k a .rows .inv .2) (left e) f (e .propagate-row-marked .ensures .1 .1)
-    (l .0) (l .1 .1 .1 .1 .0) (l .1 .1 .1 .1 .1 .0) (l .1 .1 .1 .1 .1 .1 .0) (l .1 .1 .1 .1 .1 .1 .1 .0) in
-    (t .1, pass-over _ _ _ (one-row a) (y .nonEmpty) (y .watched .clean) (t .0) (t .1) (t .2), y, k a .rows .inv .3)
+    let y = row-ready (d a) (feasible a) in
+    (t .1, pass-over _ _ _ (counted a) (y .nonEmpty) (y .watched .clean) (t .0) (t .1) (t .2), y, k a .rows .inv .3)
 
 -- a pass over all rows
 passed : (c : tie.After-rows Inv-rows μ-rows Inv-passes μ-passes) →
     let q = c .before .before .before .before .before in
-    passTo (n q) (m q) (rowsOf (C q) (R q)) (B q) ≡ record { ended = false; moved = c .before .rows .moved; box = c .before .rows .bounds }
+    PassIs (n q) (m q) (C q) (R q) (B q) (before q) false (c .before .rows .tally .moved) (c .before .rows .bounds)
 passed c =
     let q = c .before .before .before .before .before in
     let k : c .before .rows .r ≡ m q = omega arith in
@@ -227,27 +255,28 @@ pass-ready : (c : tie.After-rows Inv-rows μ-rows Inv-passes μ-passes) →
 pass-ready c = ready-trans (c .before .before .before .before .before .passes .inv .2) (c .before .rows .inv .2)
 
 same-length-2 : tie.Need-same-length-2 Inv-rows μ-rows Inv-passes μ-passes
-same-length-2 c = pass-ready (c .before) .boxLen
+same-length-2 c = pass-ready (c .before .before) .boxLen
 
 same-length-3 : tie.Need-same-length-3 Inv-rows μ-rows Inv-passes μ-passes
-same-length-3 c = pass-ready (c .before) .acrossLen
+same-length-3 c = pass-ready (c .before .before) .acrossLen
 
 same-length-4 : tie.Need-same-length-4 Inv-rows μ-rows Inv-passes μ-passes
-same-length-4 c = pass-ready (c .before) .signsLen
+same-length-4 c = pass-ready (c .before .before) .signsLen
 
 same-length-5 : tie.Need-same-length-5 Inv-rows μ-rows Inv-passes μ-passes
-same-length-5 c = pass-ready (c .before) .seenLen
+same-length-5 c = pass-ready (c .before .before) .seenLen
 
 same-length-6 : tie.Need-same-length-6 Inv-rows μ-rows Inv-passes μ-passes
-same-length-6 c = pass-ready (c .before) .marksLen
+same-length-6 c = pass-ready (c .before .before) .marksLen
 
 returns-2 : tie.Need-returns-2 Inv-rows μ-rows Inv-passes μ-passes
 unfolding propagationOf
 returns-2 c =
-    let q = c .before .before .before .before .before .before in
-    let e = rw (not-true (c .before .before .rows .moved) (c .if2 .taken)) at (passed (c .before)) in (
-      sym (whole q ∙ pass-converged (budget q) (made q) (n q) (m q) (C q) (R q) (B q) (c .before .before .before .before .before .passes-test .taken) (q .passes .inv .1) e),
-      c .before .before .rows .inv .2 .watched,
+    let e = c .before .before in
+    let q = e .before .before .before .before .before in
+    let i = rw (c .if2 .taken) at (passed e) in (
+      sym (whole q ∙ pass-converged (budget q) (made q) (before q) (n q) (m q) (C q) (R q) (B q) (e .before .before .before .before .passes-test .taken) (q .passes .inv .1) i),
+      e .before .rows .inv .2 .watched,
     )
 
 passes-less : tie.Need-passes-less Inv-rows μ-rows Inv-passes μ-passes
@@ -255,20 +284,21 @@ passes-less c = omega arith
 
 passes-again : tie.Need-passes-again Inv-rows μ-rows Inv-passes μ-passes
 passes-again c =
-    let q = c .before .before .before .before .before .before in
-    let e = rw (not-false (c .before .before .rows .moved) (c .if2 .left)) at (passed (c .before)) in (
+    let e = c .before .before in
+    let q = e .before .before .before .before .before in (
       omega arith,
-      pass-moved (budget q) (made q) (n q) (m q) (C q) (R q) (B q) (c .before .before .before .before .before .passes-test .taken) (q .passes .inv .1) e,
-      pass-ready (c .before),
-      c .before .before .rows .inv .3,
+      pass-moved (budget q) (made q) (before q) (n q) (m q) (C q) (R q) (B q) (e .before .before .before .before .passes-test .taken) (q .passes .inv .1) (passed e) (c .if2 .left),
+      pass-ready e,
+      e .before .rows .inv .3,
+      pass-width (passed e) (B₀ q) (q .passes .inv .4),
     )
 
 -- where the two ways out of the passes meet
-abbrev after : Bool → ℕ → List ℤ → Propagated
-after i p B = propagationOf (cond i (code.Infeasible p) (code.BudgetSpent p)) B
+abbrev after : Bool → ℕ → ℕ → List ℤ → Propagated
+after i p k B = propagationOf (cond i (code.Infeasible p k) (code.BudgetSpent p k)) B
 
-after-is : {i j : Bool} {p q : ℕ} {B P : List ℤ} → i ≡ j → p ≡ q → B ≡ P → after i p B ≡ after j q P
-after-is d e f = rw (d, e, f)
+after-is : {i j : Bool} {p q k l : ℕ} {B P : List ℤ} → i ≡ j → p ≡ q → k ≡ l → B ≡ P → after i p k B ≡ after j q l P
+after-is d e t f = rw (d, e, t, f)
 
 watched-is : {n m : ℕ} {C R B P : List ℤ} {a a′ s s′ : List ℕ} {e e′ : List ℤ} {k k′ : List ℕ} → B ≡ P → a ≡ a′ → s ≡ s′ → e ≡ e′ → k ≡ k′
     → Watched n m C R P a′ s′ e′ k′ → Watched n m C R B a s e k
@@ -286,15 +316,15 @@ record Left (q : tie.At-passes Inv-rows μ-rows Inv-passes μ-passes) (bounds : 
 met : (c : tie.Left-passes Inv-rows μ-rows Inv-passes μ-passes) →
     let q = c .before in
     let o = c .passes-test in
-    (after (o .infeasible) (o .passes) (o .bounds) ≡ propagate (budget q) (n q) (m q) (rowsOf (C q) (R q)) (B₀ q)) × Left q (o .bounds) (o .across) (o .signs) (o .seen) (o .marks)
+    (after (o .infeasible) (o .passes) (o .tally .moved) (o .bounds) ≡ propagate (budget q) (n q) (m q) (rowsOf (C q) (R q)) (B₀ q)) × Left q (o .bounds) (o .across) (o .signs) (o .seen) (o .marks)
 unfolding propagationOf
 met c =
     let q = c .before in
     let y = q .passes .inv .2 in
     ⊎-elim
     (λ w. (
-      after-is (w .7 ∙ q .passes .inv .3) (w .6) (w .1)
-          ∙ sym (whole q ∙ budget-spent (budget q) (made q) (n q) (m q) (C q) (R q) (B q) (w .0 .left) (q .passes .inv .1)),
+      after-is (w .8 ∙ q .passes .inv .3) (w .6) (ap (λ t. t .moved) (w .7)) (w .1)
+          ∙ sym (whole q ∙ budget-spent (budget q) (made q) (before q) (n q) (m q) (C q) (R q) (B q) (w .0 .left) (q .passes .inv .1)),
       record {
         boxLen = ap length (w .1) ∙ y .boxLen;
         acrossLen = ap length (w .2) ∙ y .acrossLen;
@@ -318,16 +348,16 @@ met c =
     } in
     let z = ready-trans y (w .3 .inv .2) in
     let k = w .10 .kept in
-    let e = row-infeasible (n q) (r (row d)) (C q) (R q) (B q) _ (w .3 .inv .1) (answered d) (left d) (m q) (w .4 .taken) (w .20 .given .1) in (
-      after-is (w .27) (w .26) (w .21)
-          ∙ sym (whole q ∙ pass-infeasible (budget q) (made q) (n q) (m q) (C q) (R q) (B q) (w .0 .taken) (q .passes .inv .1) e),
+    let e = row-infeasible (n q) (r (row d)) (C q) (R q) (B q) (before q) _ (Q d) (w .3 .inv .1) (heard d) (m q) (w .4 .taken) (w .20 .given .1) in (
+      after-is (w .28) (w .26) (ap (λ t. t .moved) (w .27)) (w .21)
+          ∙ sym (whole q ∙ pass-infeasible (budget q) (made q) (before q) (n q) (m q) (C q) (R q) (B q) (w .0 .taken) (q .passes .inv .1) e),
       record {
         boxLen = ap length (w .21) ∙ k .1 .1 .0 ∙ z .boxLen;
         acrossLen = ap length (w .22) ∙ k .1 .1 .1 .1 .1 .1 .0 ∙ z .acrossLen;
         signsLen = ap length (w .23) ∙ k .1 .1 .1 .1 .1 .1 .1 .0 ∙ z .signsLen;
         seenLen = ap length (w .24) ∙ k .1 .1 .1 .1 .1 .1 .1 .1 .0 ∙ z .seenLen;
         marksLen = ap length (w .25) ∙ k .1 .1 .1 .1 .1 .1 .1 .1 .1 .0 ∙ z .marksLen;
-        watched = watched-is (w .21) (w .22) (w .23) (w .24) (w .25) (w .10 .ensures .1 .1);
+        watched = watched-is (w .21) (w .22) (w .23) (w .24) (w .25) (w .10 .ensures .1);
       },
     ))
     (c .passes-test .came)
@@ -385,8 +415,9 @@ propagate-marked-spec =
     rows-holds
     propagate-row-marked-requires
     enum-told
+    enum-known-moved
+    add-requires
     enum-told-2
-    enum-told-3
     add-next-row
     next-row-requires-2
     rows-less

@@ -41,7 +41,7 @@ use denote.Exit.{yes}
 use denote.Triple.Clauses.{ensured, lasts}
 use Rattle.model.specs.Box.{at}
 use Rattle.model.specs.Rows.{rowOf}
-use Rattle.row.specs.Answers.{propagationOutcome}
+use Rattle.row.specs.Answers.{propagatedRowOf}
 use Rattle.row.specs.Propagation.{propagateRow}
 use Rattle.row.specs.ValidRow.{ValidRow}
 use Rattle.sweep.specs.Steps.{Steps}
@@ -50,7 +50,6 @@ use Rattle.row.specs.declared.propagation.RowPropagation.{RowPropagation}
 use Rattle.row_view.specs.declared.Row.{Row}
 use Rattle.row.proofs.propagation.RowPropagation as S
 use Rattle.row.proofs.propagation.RowPropagation.Laws as S′
-use Rattle.row_view.proofs.Clauses.{tells}
 use Rattle.row_view.proofs.ViewLaws.{view-steps, view-told, view-valid}
 use Rattle.row_view.proofs.Row as T
 use Rattle.row_view.proofs.Row.Laws as T′
@@ -169,17 +168,14 @@ module _ {M : Type 1} (𝓤 : URA M) (H : Heap 𝓤) (A : Atoms 𝓤) (W : Given
       move ! (2 ∷ []) $ split3 ! $ move ! (2 ∷ []) $ split ! $ nothing ! $ move ! (2 ∷ 0 ∷ []) $ join ! $ move ! (1 ∷ 0 ∷ []) $ join ! $ move ! (3 ∷ 0 ∷ []) $ join ! $ frame ! $
       nothing ! $ move ! (2 ∷ 0 ∷ []) $ fjoin ! $ move ! (1 ∷ 0 ∷ []) $ fjoin ! $ move ! (1 ∷ 0 ∷ []) $ fjoin ! $ done !
 
-  abbrev Answered : Row → RowPropagation → Type 0
-  Answered d a = propagationOutcome a ≡ propagateRow (length (now (d .coefs))) (now (d .coefs)) (d .b) (now x) .outcome
+  abbrev Answered : Row → RowPropagation → List ℤ → Type 0
+  Answered d a zs = propagatedRowOf a zs ≡ propagateRow (length (now (d .coefs))) (now (d .coefs)) (d .b) (now x)
 
-  abbrev Left : Row → List ℤ → Type 0
-  Left d zs = zs ≡ propagateRow (length (now (d .coefs))) (now (d .coefs)) (d .b) (now x) .box
-
-  exits : (d : Row) → Seen d → (a : RowPropagation) (u : Val) (zs : List ℤ) → Answered d a × Left d zs → length zs ≡ length (now x)
+  exits : (d : Row) → Seen d → (a : RowPropagation) (u : Val) (zs : List ℤ) → Answered d a zs → length zs ≡ length (now x)
       → ent 𝓤 (⋆ 𝓤 H A ((‵ (flft κ q) ⊛ ‵ (flft κ″ q″) ⊛ ‵ (flft κ‴ q‴) ⊛ ‵ ftrue) ∷ ‵ (flft κ′ q′) ∷ (‵ Coefs ⊛ ‵ Sides ⊛ ‵ Stepped) ∷ ‵ (finally i32 (x .name) zs) ∷ ‵ (S.the-row .own a (u ∷ [])) ∷ [])) (Post u)
   exits d e a u zs k l =
       qed W ((‵ (flft κ q) ⊛ ‵ (flft κ″ q″) ⊛ ‵ (flft κ‴ q‴) ⊛ ‵ ftrue) ∷ ‵ (flft κ′ q′) ∷ (‵ Coefs ⊛ ‵ Sides ⊛ ‵ Stepped) ∷ ‵ (finally i32 (x .name) zs) ∷ ‵ (S.the-row .own a (u ∷ [])) ∷ []) ∵
-      suffices ! _ (ends-at 𝓤 H A plain-row.ended stayed (plain-row.clauses 𝓤 H A mem run) W ((κs, qs, tt, (n, (s, (t, (r, (p, (x, tt)))))), vals), tt) u a (tt, (tt, (tt, (tt, (tt, (zs, tt)))))) (tt, (tt, (tt, (tt, (tt, (l, tt))))))) $ tells ! (view-told valid d e a k .0) (view-told valid d e a k .1) $
+      suffices ! _ (ends-at 𝓤 H A plain-row.ended stayed (plain-row.clauses 𝓤 H A mem run) W ((κs, qs, tt, (n, (s, (t, (r, (p, (x, tt)))))), vals), tt) u a (tt, (tt, (tt, (tt, (tt, (zs, tt)))))) (tt, (tt, (tt, (tt, (tt, (l, tt))))))) $ says ! (view-told valid d e a zs k) $
       split ! $ move ! (2 ∷ 1 ∷ []) $ join ! $ move ! (1 ∷ 0 ∷ []) $ join ! $ frame ! $ split3 ! $
       nothing ! $ move ! (4 ∷ 0 ∷ []) $ fjoin ! $ move ! (3 ∷ 0 ∷ []) $ fjoin ! $ owned ! usize (Is usize) (uint-makes 𝓤 H A W w64) r _ (refl, r-fits) $ fjoin ! $ move ! (2 ∷ 0 ∷ []) $ fjoin ! $ move ! (1 ∷ 0 ∷ []) $ fjoin ! $ owned ! usize (Is usize) (uint-makes 𝓤 H A W w64) n _ (refl, n-fits) $ fjoin ! $ frame ! $ done !
 
@@ -207,15 +203,15 @@ module _ {M : Type 1} (𝓤 : URA M) (H : Heap 𝓤) (A : Atoms 𝓤) (W : Given
         -- [what `propagate_by` asks; κ′'s token; true; what is kept; _9; …; _8; …; _7; …; _0; …]
         calls-at ! fm (View 𝓤 H A mem run) known-view (to-view d u) (and-then ! (load ! (from ! (stop !)) (look ! 8 refl)) (and-then ! (load ! (from ! (stop !)) (look ! 12 refl)) (and-then ! (load ! (from ! (stop !)) (look ! 4 refl)) (no-more !)))) (λ u′.
         use1 W (later (some (λ (a : RowPropagation). ((‵ (flft κ q) ⊛ ‵ (flft κ″ q″) ⊛ ‵ (flft κ‴ q‴) ⊛ ‵ ftrue) ⊛ ‵ (S.the-row .own a (u′ ∷ []))) ⊛ raw (ensured 𝓤 H A view.ended (view.clauses 𝓤 H A mem run) (κ, (κ″, (κ‴, tt))) (d, (p, (x, tt))) tt a)))) (id⊢ 𝓤 _) $ await ! tt $ pick ! (λ a.
-        split ! $ move ! (1 ∷ []) $ use1 W (some (λ (zs : Unit {0} × (Unit {0} × (List ℤ × Unit {0}))). ‵ (lasts view.ended (κ, (κ″, (κ‴, tt))) (d, (p, (x, tt))) zs) ⊛ raw (fact 𝓤 (Answered d a)) ⊛ raw (fact 𝓤 (Left d (zs .1 .1 .0))))) (id⊢ 𝓤 _) $ pick ! (λ zs.
-        split ! $ move ! (1 ∷ []) $ split ! $ heard ! (Answered d a) (λ k. heard ! (Left d (zs .1 .1 .0)) (λ j. fsplit ! $ drop ! $ fsplit ! $ drop ! $ fsplit ! $ fsplit ! $ move ! (1 ∷ []) $ feqL ! (λ l.
+        split ! $ move ! (1 ∷ []) $ use1 W (some (λ (zs : Unit {0} × (Unit {0} × (List ℤ × Unit {0}))). ‵ (lasts view.ended (κ, (κ″, (κ‴, tt))) (d, (p, (x, tt))) zs) ⊛ raw (fact 𝓤 (Answered d a (zs .1 .1 .0))))) (id⊢ 𝓤 _) $ pick ! (λ zs.
+        split ! $ move ! (1 ∷ []) $ heard ! (Answered d a (zs .1 .1 .0)) (λ k. fsplit ! $ drop ! $ fsplit ! $ drop ! $ fsplit ! $ fsplit ! $ move ! (1 ∷ []) $ feqL ! (λ l.
         -- [what says the last list; true; the tokens and the result; κ′'s token; true; what is kept; …]
         move ! (2 ∷ []) $ split ! $ move ! (1 ∷ []) $ peeks ! S.the-row (Is S.the-row) (shows 𝓤 H A S.the-row) a (u′ ∷ []) (λ is′.
         -- [the result; the tokens; what says the last list; true; κ′'s token; true; what is kept; _9; …; room for _0; …]
         land ! (from ! (stop !)) (init ! 25 refl (EL.lawful S.the-type S′.the-laws 𝓤 H A W tt .typed a _ is′ .0)) $
         returns ! (look ! 25 refl) $ forget ! 7 refl $ forget ! 9 refl $ forget ! 11 refl $ forget ! 13 refl $ forget ! 15 refl $ forget ! 17 refl $ forget ! 19 refl $ forget ! 21 refl $ forget ! 23 refl $ forget ! 25 refl $
         move ! (25 ∷ 26 ∷ []) $ free1 ! $ move ! (23 ∷ 24 ∷ []) $ free1 ! $ move ! (21 ∷ 22 ∷ []) $ free1 ! $ move ! (19 ∷ 20 ∷ []) $ free1 ! $ move ! (17 ∷ 18 ∷ []) $ free1 ! $ move ! (15 ∷ 16 ∷ []) $ free1 ! $ move ! (13 ∷ 14 ∷ []) $ free1 ! $ move ! (11 ∷ 12 ∷ []) $ free1 ! $ move ! (9 ∷ 10 ∷ []) $ free1 ! $ move ! (7 ∷ 8 ∷ []) $ free1 ! $ free0 ! $
-        keep ! (1 ∷ 4 ∷ 6 ∷ 2 ∷ 0 ∷ []) $ by ! (exits d e a u′ (zs .1 .1 .0) (k, j) l))))))))))))))))))))))
+        keep ! (1 ∷ 4 ∷ 6 ∷ 2 ∷ 0 ∷ []) $ by ! (exits d e a u′ (zs .1 .1 .0) k l)))))))))))))))))))))
 
 module _ {M : Type 1} (𝓤 : URA M) (H : Heap 𝓤) (A : Atoms 𝓤) (W : Given 𝓤 H A) (mem : Memory → SProp 𝓤) (run : Routine → Fun 𝓤) where
   plain-walks : (C : Calls 𝓤 H) (Λ : Loops 𝓤 H) → FmC 𝓤 H (W .laws) C → Triple 𝓤 (C #row-view·row-at) (Made 𝓤 H A mem run) → Triple 𝓤 (C #row-view·Row·propagate-by) (View 𝓤 H A mem run)

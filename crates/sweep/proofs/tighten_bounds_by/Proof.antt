@@ -1,7 +1,7 @@
 -- `sweep::tighten_bounds_by`: the invariant says that the bounds of the variables so far are the implied ones (`writeTo`), and
 -- that `moved` tells how many of them differ (`moved-more`, `step-moved`). A variable not yet visited has its old bounds
 -- (`writeTo-late`). Assumes nothing.
-use Prim.Native.Nat.{_*_, _+_, _-_, _<_, _≤_, ℕ}
+use Prim.Native.Nat.{_+_, _-_, _<_, _≤_, ℕ}
 use lib.IntN.{ℤ}
 use lib.ListN.{getD, length}
 use mathlib.Core.List.{List}
@@ -16,9 +16,8 @@ use Rattle.model.specs.Box.{at, lower, upper}
 use Rattle.model.proofs.BoxLoops.{writeTo}
 use Rattle.row.specs.Moved.{movedBounds}
 use Rattle.row.specs.Propagation.{impliedBox}
-use Rattle.row.specs.ValidRow.{ImpliesBounds}
 use Rattle.row.proofs.MovedLaws.{moved-le}
-use Rattle.row.proofs.RowLoops.{lower-there, moved-more, movedTo, tighten-all, tighten-more, tightenTo, upper-there}
+use Rattle.row.proofs.RowLoops.{implies-at, lower-there, moved-more, movedTo, tighten-all, tighten-more, tightenTo, upper-there}
 use Rattle.sweep.proofs.StepLaws.{step-box, step-moved}
 use Rattle.sweep.proofs.tighten_bounds_by.Statement.{statement}
 use Rattle.sweep.proofs.tighten_bounds_by.Tie as tie
@@ -79,16 +78,6 @@ module _ (h : tie.At-loop Inv-loop μ-loop) where
   u-is : upper (h .loop .bounds) j ≡ upper B j
   u-is = ap (λ (P : List ℤ). upper P j) (h .loop .inv .2) ∙ upper-there A b L B j
 
-  implies : ImpliesBounds (at A j) (s .args .b) (s .args .least) (lower B j) (upper B j)
-  implies = record {
-    coef = s .pre .0 .coefs j;
-    rhs = s .pre .0 .rhs;
-    activity = s .pre .0 .activity;
-    met = s .pre .0 .met;
-    low = s .pre .0 .bounds (2 * j);
-    high = s .pre .0 .bounds (2 * j + 1);
-  }
-
   step-in : j < length A → j + getD (s .args .steps .now) j 0 ≤ length A
   step-in k = s .pre .1 .within j k
 
@@ -98,7 +87,7 @@ module _ (h : tie.At-loop Inv-loop μ-loop) where
 tighten-bounds-at-requires : tie.Need-tighten-bounds-at-requires Inv-loop μ-loop
 tighten-bounds-at-requires c κs =
     let h = c .before .before .before in
-    (rw (a-is h, b-is h, least-is h, l-is h, u-is h) (implies h), omega (arith, s h .pre .0 .len, s h .pre .0 .boxLen))
+    (rw (a-is h, b-is h, least-is h, l-is h, u-is h) (implies-at (A h) (s h .args .b) (s h .args .least) (B h) (s h .pre .0) (j h)), omega (arith, s h .pre .0 .len, s h .pre .0 .boxLen))
 
 add-moved : tie.Need-add-moved Inv-loop μ-loop
 add-moved c =

@@ -1,10 +1,10 @@
 //! A model in owned buffers, so that a test reads like a line of 01.
 #![allow(dead_code)] // each test file uses its own part
 
-use reference::calls;
+use reference::calls::{self, ANSWER};
 
-/// A refusal's number, or the six places of the answer.
-pub type Said = Result<[u64; 6], u32>;
+/// A refusal's number, or the places of the answer.
+pub type Said = Result<[u64; ANSWER], u32>;
 
 #[derive(Clone, Debug, PartialEq)]
 pub struct Model {
@@ -18,7 +18,7 @@ pub struct Model {
 
 /// The answer of an accepted call, its unused places filled with 0.
 pub fn ok(values: &[u64]) -> Said {
-    let mut all = [0; 6];
+    let mut all = [0; ANSWER];
     all[..values.len()].copy_from_slice(values);
     Ok(all)
 }
@@ -52,11 +52,11 @@ impl Model {
     /// Makes a call with a full answer, and sees that a refusal changes nothing.
     fn call(&mut self, call: impl FnOnce(&mut Model, &mut [u64]) -> u32) -> Said {
         let before = self.clone();
-        let mut answer = [77; 6];
+        let mut answer = [77; ANSWER];
         match call(self, &mut answer) {
             0 => Ok(answer),
             check => {
-                assert_eq!((&*self, answer), (&before, [77; 6]), "a refusal writes nothing");
+                assert_eq!((&*self, answer), (&before, [77; ANSWER]), "a refusal writes nothing");
                 Err(check)
             }
         }

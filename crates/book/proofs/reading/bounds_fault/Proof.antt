@@ -4,11 +4,10 @@ use borrow.Author.Needs.{needs}
 use lib.IntN.{pos, ℤ}
 use lib.ListN.{drop, length, length-append, length-replicate, replicate, take}
 use lib.Seq.{length-take-le, take-at}
-use mathlib.Core.List.{List, [], _++_}
+use mathlib.Core.List.{List, _++_}
 use mathlib.Core.Path.{_∙_, _≡_, ap, sym}
 use native.Mathlib.Omega.{arith}
-use Rattle.model.specs.Checks.{first, numberChecks}
-use Rattle.model.specs.Rows.{rowsOf}
+use Rattle.model.specs.Checks.{boxChecks, first}
 use Rattle.book.specs.Book.{boundsOf}
 use Rattle.book.specs.Bytes.{integersAt}
 use Rattle.book.proofs.reading.bounds_fault.Statement.{statement}
@@ -58,7 +57,7 @@ returns c =
     let d = c .before .before .before in
     let a = d .before .before .before .args in
     c .box-fault .ensures
-    ∙ ap (λ (B : List ℤ). first (numberChecks (a .n) B (rowsOf [] [])))
+    ∙ ap (λ (B : List ℤ). first (boxChecks (a .n) B))
     (held d ∙ d .read-integers .ensures ∙ ap (λ (k : ℕ). integersAt 0 4 k (a .book .now)) (room (d .before .before .before)))
 
 pub bounds-fault-spec : {M : Type 1} → statement M

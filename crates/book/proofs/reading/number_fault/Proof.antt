@@ -4,15 +4,14 @@ use Prim.Native.Nat.{ℕ}
 use borrow.Author.Needs.{needs}
 use mathlib.Core.Bool.{true}
 use mathlib.Core.List.{List, _++_}
-use mathlib.Core.Path.{_∙_, _≡_}
+use mathlib.Core.Path.{_≡_}
 use native.Mathlib.Omega.{arith}
 use Rattle.integer.proofs.Tests.{told-false, told-true}
-use Rattle.model.specs.Checks.{Check, first, inRange, numberChecks}
+use Rattle.model.specs.Checks.{Check, boxChecks, first, inRange, numberChecks}
 use Rattle.model.specs.Limits.{maxCoef, minCoef}
 use Rattle.model.proofs.CheckLaws.{ends, fails, goes, past, stops}
 use Rattle.book.specs.Book.{boundsOf, coefsOf, rhsOf, rowPlace}
 use Rattle.book.specs.Bytes.{integersAt}
-use Rattle.book.proofs.AcceptLaws.{box-checks, boxChecks}
 use Rattle.book.proofs.EncodeLaws.{row-within}
 use Rattle.book.proofs.reading.number_fault.Statement.{statement}
 use Rattle.book.proofs.reading.number_fault.Tie as tie
@@ -20,19 +19,15 @@ use Rattle.book.proofs.reading.number_fault.Tie as tie
 bounds-fault-requires : tie.Need-bounds-fault-requires
 bounds-fault-requires c κs = search needs
 
--- `bounds_fault` answers for checks 6 and 7
-boxed : (c : tie.After-bounds-fault)
-    → let a = c .before .before .args in c .bounds-fault .result ≡ first (boxChecks (a .n) (boundsOf (a .n) (a .book .now)))
-boxed c = c .bounds-fault .ensures ∙ box-checks _ _
-
 returns : tie.Need-returns
 unfolding numberChecks
-returns c = stops (boxChecks _ _) _ (boxed (c .before)) (c .if1 .taken)
+returns c = stops (boxChecks _ _) _ (c .before .bounds-fault .ensures) (c .if1 .taken)
 
--- past these, what the later checks answer is the answer
+-- past the checks of the box, what the later checks answer is the answer
 past-box : (c : tie.Else1) {r : ℕ} (ys : List Check) → r ≡ first ys
     → let a = c .before .before .before .args in r ≡ first (boxChecks (a .n) (boundsOf (a .n) (a .book .now)) ++ ys)
-past-box c ys h = goes (boxChecks _ _) ys tt (boxed (c .before)) (c .if1 .left) h
+unfolding boxChecks
+past-box c ys h = goes (boxChecks _ _) ys tt (c .before .bounds-fault .ensures) (c .if1 .left) h
 
 coefs-in-range-requires : tie.Need-coefs-in-range-requires
 coefs-in-range-requires c κs = search needs

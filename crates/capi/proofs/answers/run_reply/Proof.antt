@@ -2,7 +2,7 @@
 use borrow.Author.Needs.{needs}
 use Rattle.reducer.specs.CallLists.{listAnswer}
 use Rattle.step.specs.Classes.{countsOf}
-use Rattle.capi.specs.Replies.{listReply}
+use Rattle.capi.specs.Replies.{listReply, replyOf}
 use Rattle.capi.proofs.answers.run_reply.Statement.{statement}
 use Rattle.capi.proofs.answers.run_reply.Tie as tie
 
@@ -13,11 +13,11 @@ enum-known-a-2 : tie.Need-enum-known-a-2
 enum-known-a-2 c = search needs
 
 returns : tie.Need-returns
-unfolding listReply listAnswer countsOf
+unfolding listReply listAnswer countsOf replyOf
 returns c = rw (c .before .a .given .1)
 
 returns-2 : tie.Need-returns-2
-unfolding listReply listAnswer countsOf
+unfolding listReply listAnswer countsOf replyOf
 returns-2 c = rw (c .before .a2 .given .1)
 
 pub run-reply-spec : {M : Type 1} → statement M

@@ -1,7 +1,7 @@
 -- `capi::answers::sizes_reply`: each case has its numbers. Assumes nothing.
 use borrow.Author.Needs.{needs}
 use Rattle.book.specs.Answers.{sizesAnswer}
-use Rattle.capi.specs.Replies.{bookReply}
+use Rattle.capi.specs.Replies.{bookReply, replyOf}
 use Rattle.capi.proofs.answers.sizes_reply.Statement.{statement}
 use Rattle.capi.proofs.answers.sizes_reply.Tie as tie
 
@@ -11,16 +11,13 @@ enum-known-a c = search needs
 enum-known-a-2 : tie.Need-enum-known-a-2
 enum-known-a-2 c = search needs
 
-two-requires : tie.Need-two-requires
-two-requires c κs = search needs
-
 returns : tie.Need-returns
-unfolding bookReply sizesAnswer
+unfolding bookReply sizesAnswer replyOf
 returns c = rw (c .before .a .given .1)
 
 returns-2 : tie.Need-returns-2
-unfolding bookReply sizesAnswer
-returns-2 c = rw (c .before .before .a2 .given .1) (c .two .ensures)
+unfolding bookReply sizesAnswer replyOf
+returns-2 c = rw (c .before .a2 .given .1)
 
 pub sizes-reply-spec : {M : Type 1} → statement M
-sizes-reply-spec = tie.close (tie.spec enum-known-a enum-known-a-2 two-requires returns returns-2)
+sizes-reply-spec = tie.close (tie.spec enum-known-a enum-known-a-2 returns returns-2)

@@ -4,16 +4,16 @@ use borrow.Author.Needs.{needs}
 use lib.IntN.{ℤ}
 use lib.ListN.{length}
 use mathlib.Core.List.{List}
-use mathlib.Core.Path.{_∙_, _≡_, ap, sym}
+use mathlib.Core.Path.{_≡_}
 use native.Mathlib.Omega.{arith}
 use Rattle.model.specs.Box.{at}
 use Rattle.model.specs.Rows.{rowOf}
-use Rattle.row.specs.Answers.{propagationOutcome}
+use Rattle.row.specs.Answers.{propagatedRowOf}
 use Rattle.row.specs.Propagation.{propagateRow}
 use Rattle.propagation.specs.Marks.{Visitable}
 use Rattle.propagation.proofs.IndexLoops.{row-end}
 use Rattle.propagation.proofs.PropagationLoops.{row-fits, row-in, valid-row}
-use Rattle.propagation.proofs.MarkLaws.{broken, steps-in, tightened, unmoved, visited-empty, visited-moved, visited-remarks, visited-unmoved}
+use Rattle.propagation.proofs.MarkLaws.{broken, left-by, said, steps-in, tightened, unmoved, visited-empty, visited-moved, visited-remarks, visited-unmoved}
 use Rattle.propagation.proofs.marks.propagate_row_by_steps.Statement.{statement}
 use Rattle.propagation.proofs.marks.propagate_row_by_steps.Tie as tie
 
@@ -63,8 +63,11 @@ module _ (k : tie.After-propagate-row-at-by) where
   abbrev Q : List ℤ
   Q = k .propagate-row-at-by .last .1 .1 .1 .1 .1 .0
 
-  heard : (propagationOutcome (k .propagate-row-at-by .result) ≡ propagateRow (n s) A b (B s) .outcome) × (Q ≡ propagateRow (n s) A b (B s) .box)
+  heard : propagatedRowOf (k .propagate-row-at-by .result) Q ≡ propagateRow (n s) A b (B s)
   heard = k .propagate-row-at-by .ensures
+
+  left : Q ≡ propagateRow (n s) A b (B s) .box
+  left = left-by _ Q heard
 
 enum-told : tie.Need-enum-told
 enum-told c = search needs
@@ -77,21 +80,21 @@ returns c =
     let k = c .before .before .before in
     let told = c .enum-told .given .1 in
     let t = s k in (
-      ap propagationOutcome (sym told) ∙ heard k .0,
-      (heard k .1, visited-empty (given t) (r t) (t .pre .1 .0) (heard k .1) (broken _ (heard k .0) told)),
+      said _ (Q k) (heard k) told,
+      visited-empty (given t) (r t) (t .pre .1 .0) (left k) (broken _ (Q k) (heard k) told),
     )
 
-enum-told-2 : tie.Need-enum-told-2
-enum-told-2 c = search needs
+enum-known-moved : tie.Need-enum-known-moved
+enum-known-moved c = search needs
 
 mul-remark : tie.Need-mul-remark
-mul-remark c = omega (arith, in-matrix (s (c .before .before .before .before)))
+mul-remark c = omega (arith, in-matrix (s (c .before .before .before .before .before)))
 
 remark-requires : tie.Need-remark-requires
 remark-requires c κs =
-    let k = c .before .before .before .before .before .before .before in
+    let k = c .before .before .before .before .before .before .before .before in
     let t = s k in
-    visited-remarks (given t) (r t) (t .pre .1 .0) (heard k .1) (tightened _ (heard k .0) (c .before .before .before .before .enum-told2 .given .1)) (t .pre .1 .1)
+    visited-remarks (given t) (r t) (t .pre .1 .0) (left k) (tightened _ (Q k) (heard k) (c .before .before .before .before .before .moved .given .1)) (t .pre .1 .1)
 
 slice-write-marks : tie.Need-slice-write-marks
 slice-write-marks c = search needs
@@ -110,20 +113,17 @@ same-length-5 c = search needs
 
 returns-2 : tie.Need-returns-2
 returns-2 c =
-    let k = c .before .before .before .before .before .before .before .before .before .before .before .before .before in
-    let told = c .before .before .before .before .before .before .before .before .before .before .enum-told2 .given .1 in
+    let k = c .before .before .before .before .before .before .before .before .before .before .before .before .before .before in
+    let told = c .before .before .before .before .before .before .before .before .before .before .before .moved .given .1 in
     let call = c .before .before .before .before .before .remark in
     let t = s k in (
-      ap propagationOutcome (sym told) ∙ heard k .0,
-      (
-        heard k .1,
-        visited-moved (given t) (r t) (t .pre .1 .0) (heard k .1) (tightened _ (heard k .0) told) (call .last .1 .1 .1 .1 .1 .1 .1 .1 .0) (call .ensures .1 .1) (call .ensures .0)
-            (call .kept .1 .1 .1 .1 .1 .1 .1 .1 .0) (call .ensures .1 .0),
-      ),
+      said _ (Q k) (heard k) told,
+      visited-moved (given t) (r t) (t .pre .1 .0) (left k) (tightened _ (Q k) (heard k) told) (call .last .1 .1 .1 .1 .1 .1 .1 .1 .0) (call .ensures .1 .1) (call .ensures .0)
+          (call .kept .1 .1 .1 .1 .1 .1 .1 .1 .0) (call .ensures .1 .0),
     )
 
-enum-told-3 : tie.Need-enum-told-3
-enum-told-3 c = search needs
+enum-told-2 : tie.Need-enum-told-2
+enum-told-2 c = search needs
 
 slice-write-marks-2 : tie.Need-slice-write-marks-2
 slice-write-marks-2 c = search needs
@@ -137,11 +137,11 @@ same-length-7 c = search needs
 returns-3 : tie.Need-returns-3
 returns-3 c =
     let k = c .before .before .before in
-    let told = c .enum-told3 .given .1 in
-    let f = unmoved _ (heard k .0) told in
+    let told = c .enum-told2 .given .1 in
+    let f = unmoved _ (Q k) (heard k) told in
     let t = s k in (
-      ap propagationOutcome (sym told) ∙ heard k .0,
-      (heard k .1, visited-unmoved (given t) (r t) (t .pre .1 .0) (heard k .1) (f .0) (f .1)),
+      said _ (Q k) (heard k) told,
+      visited-unmoved (given t) (r t) (t .pre .1 .0) (left k) (f .0) (f .1),
     )
 
 pub propagate-row-by-steps-spec : {M : Type 1} → statement M
@@ -152,7 +152,7 @@ propagate-row-by-steps-spec =
     enum-told
     same-length
     returns
-    enum-told-2
+    enum-known-moved
     mul-remark
     remark-requires
     slice-write-marks
@@ -161,7 +161,7 @@ propagate-row-by-steps-spec =
     same-length-4
     same-length-5
     returns-2
-    enum-told-3
+    enum-told-2
     slice-write-marks-2
     same-length-6
     same-length-7

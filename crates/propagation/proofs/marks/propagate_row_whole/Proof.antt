@@ -4,14 +4,14 @@ use borrow.Author.Needs.{needs}
 use lib.IntN.{ℤ}
 use lib.ListN.{length}
 use mathlib.Core.List.{List}
-use mathlib.Core.Path.{_∙_, _≡_, ap, sym}
+use mathlib.Core.Path.{_∙_, _≡_, ap}
 use Rattle.model.specs.Box.{at}
 use Rattle.model.specs.Rows.{rowOf}
-use Rattle.row.specs.Answers.{propagationOutcome}
+use Rattle.row.specs.Answers.{propagatedRowOf}
 use Rattle.row.specs.Propagation.{propagateRow}
 use Rattle.propagation.specs.Marks.{Visitable}
 use Rattle.propagation.proofs.PropagationLoops.{row-in, valid-row}
-use Rattle.propagation.proofs.MarkLaws.{broken, tightened, unmoved, visited-empty, visited-moved, visited-nonEmpty, visited-unmoved}
+use Rattle.propagation.proofs.MarkLaws.{broken, left-by, said, tightened, unmoved, visited-empty, visited-moved, visited-nonEmpty, visited-unmoved}
 use Rattle.propagation.proofs.marks.propagate_row_whole.Statement.{statement}
 use Rattle.propagation.proofs.marks.propagate_row_whole.Tie as tie
 
@@ -54,8 +54,11 @@ module _ (k : tie.After-propagate-row-at) where
   abbrev Q : List ℤ
   Q = k .propagate-row-at .last .1 .1 .1 .1 .0
 
-  heard : (propagationOutcome (k .propagate-row-at .result) ≡ propagateRow (n s) A b (B s) .outcome) × (Q ≡ propagateRow (n s) A b (B s) .box)
+  heard : propagatedRowOf (k .propagate-row-at .result) Q ≡ propagateRow (n s) A b (B s)
   heard = k .propagate-row-at .ensures
+
+  left : Q ≡ propagateRow (n s) A b (B s) .box
+  left = left-by _ Q heard
 
 enum-told : tie.Need-enum-told
 enum-told c = search needs
@@ -68,20 +71,20 @@ returns c =
     let k = c .before .before .before in
     let told = c .enum-told .given .1 in
     let t = s k in (
-      ap propagationOutcome (sym told) ∙ heard k .0,
-      (heard k .1, visited-empty (given t) (r t) (t .pre .1) (heard k .1) (broken _ (heard k .0) told)),
+      said _ (Q k) (heard k) told,
+      visited-empty (given t) (r t) (t .pre .1) (left k) (broken _ (Q k) (heard k) told),
     )
 
-enum-told-2 : tie.Need-enum-told-2
-enum-told-2 c = search needs
+enum-known-moved : tie.Need-enum-known-moved
+enum-known-moved c = search needs
 
 remark-all-requires : tie.Need-remark-all-requires
 remark-all-requires c κs =
-    let k = c .before .before .before .before .before .before .before in
+    let k = c .before .before .before .before .before .before .before .before in
     let t = s k in
     let g = given t in
-    let f = tightened _ (heard k .0) (c .before .before .before .before .enum-told2 .given .1) in
-    (g .watched .index .columns, g .valid .few, ap length (g .watched .copied (g .nonEmpty)) ∙ g .nonEmpty .len, visited-nonEmpty g (r t) (t .pre .1) (heard k .1) f .len, g .room)
+    let f = tightened _ (Q k) (heard k) (c .before .before .before .before .before .moved .given .1) in
+    (g .watched .index .columns, g .valid .few, ap length (g .watched .copied (g .nonEmpty)) ∙ g .nonEmpty .len, visited-nonEmpty g (r t) (t .pre .1) (left k) f .len, g .room)
 
 slice-write-marks : tie.Need-slice-write-marks
 slice-write-marks c = search needs
@@ -100,20 +103,17 @@ same-length-5 c = search needs
 
 returns-2 : tie.Need-returns-2
 returns-2 c =
-    let k = c .before .before .before .before .before .before .before .before .before .before .before .before .before in
-    let told = c .before .before .before .before .before .before .before .before .before .before .enum-told2 .given .1 in
+    let k = c .before .before .before .before .before .before .before .before .before .before .before .before .before .before in
+    let told = c .before .before .before .before .before .before .before .before .before .before .before .moved .given .1 in
     let call = c .before .before .before .before .before .remark-all in
     let t = s k in (
-      ap propagationOutcome (sym told) ∙ heard k .0,
-      (
-        heard k .1,
-        visited-moved (given t) (r t) (t .pre .1) (heard k .1) (tightened _ (heard k .0) told) (call .last .1 .1 .1 .1 .1 .1 .0) (call .ensures .1 .1) (call .ensures .0)
-            (call .kept .1 .1 .1 .1 .1 .1 .0) (call .ensures .1 .0),
-      ),
+      said _ (Q k) (heard k) told,
+      visited-moved (given t) (r t) (t .pre .1) (left k) (tightened _ (Q k) (heard k) told) (call .last .1 .1 .1 .1 .1 .1 .0) (call .ensures .1 .1) (call .ensures .0)
+          (call .kept .1 .1 .1 .1 .1 .1 .0) (call .ensures .1 .0),
     )
 
-enum-told-3 : tie.Need-enum-told-3
-enum-told-3 c = search needs
+enum-told-2 : tie.Need-enum-told-2
+enum-told-2 c = search needs
 
 slice-write-marks-2 : tie.Need-slice-write-marks-2
 slice-write-marks-2 c = search needs
@@ -127,11 +127,11 @@ same-length-7 c = search needs
 returns-3 : tie.Need-returns-3
 returns-3 c =
     let k = c .before .before .before in
-    let told = c .enum-told3 .given .1 in
-    let f = unmoved _ (heard k .0) told in
+    let told = c .enum-told2 .given .1 in
+    let f = unmoved _ (Q k) (heard k) told in
     let t = s k in (
-      ap propagationOutcome (sym told) ∙ heard k .0,
-      (heard k .1, visited-unmoved (given t) (r t) (t .pre .1) (heard k .1) (f .0) (f .1)),
+      said _ (Q k) (heard k) told,
+      visited-unmoved (given t) (r t) (t .pre .1) (left k) (f .0) (f .1),
     )
 
 pub propagate-row-whole-spec : {M : Type 1} → statement M
@@ -142,7 +142,7 @@ propagate-row-whole-spec =
     enum-told
     same-length
     returns
-    enum-told-2
+    enum-known-moved
     remark-all-requires
     slice-write-marks
     same-length-2
@@ -150,7 +150,7 @@ propagate-row-whole-spec =
     same-length-4
     same-length-5
     returns-2
-    enum-told-3
+    enum-told-2
     slice-write-marks-2
     same-length-6
     same-length-7

@@ -1,12 +1,14 @@
--- `report::report::fill`: the invariant says that the chunk up to `next` is written. There is room for one line at the start, so
--- one is written where one is left. Assumes nothing.
-use Prim.Native.Nat.{_-_, _≤_}
+-- `report::report::fill`: the invariant says that the chunk up to `next` is written; lines that are passed over have no text. There is
+-- room for one line at the start, so one is written where one is left. Assumes nothing.
+use Prim.Native.Nat.{_+_, _-_, _≤_}
 use borrow.Author.Needs.{needs}
+use lib.ListN.{length}
 use mathlib.Core.Path.{_≡_, refl}
 use native.Mathlib.Omega.{arith}
-use Rattle.report.specs.Report.{lineAt}
+use Rattle.report.proofs.ReportLaws.{line-silent}
+use Rattle.report.specs.Report.{lineAt, lineCount}
 use Rattle.report.specs.Text.{Wrote, chunk}
-use Rattle.report.proofs.TextLaws.{_⨾_, chunk-more, chunk-none, wrote-length, wrote-none}
+use Rattle.report.proofs.TextLaws.{_⨾_, chunk-more, chunk-none, chunk-silent, wrote-length, wrote-none}
 use Rattle.report.proofs.report.fill.Statement.{statement}
 use Rattle.report.proofs.report.fill.Tie as tie
 
@@ -43,21 +45,40 @@ returns c =
 write-line-requires : tie.Need-write-line-requires Inv-loop μ-loop
 write-line-requires c κs = (c .before .before .before .before .before .before .before .pre .0, (omega arith, omega (arith, wrote-length)))
 
-add-next : tie.Need-add-next Inv-loop μ-loop
-add-next c = omega arith
+add-next-line : tie.Need-add-next-line Inv-loop μ-loop
+add-next-line c = omega (arith, c .before .before .before .before .before .before .before .before .before .before .pre .0 .few, c .before .before .before .before .before .before .before .before .before .before .pre .0 .fewRows)
+
+add-next-line-2 : tie.Need-add-next-line-2 Inv-loop μ-loop
+add-next-line-2 c = omega (arith, c .before .before .before .before .before .before .before .before .before .before .pre .0 .few, c .before .before .before .before .before .before .before .before .before .before .pre .0 .fewRows)
+
+add-next-line-3 : tie.Need-add-next-line-3 Inv-loop μ-loop
+add-next-line-3 c = omega arith
+
+-- the lines end with those of the table
+lines-end : (c : tie.After-slice-known2 Inv-loop μ-loop) → let a = c .before .before .before .before .before .before .before .before .before .before .args in 1 + (a .n + a .m) + length (a .table .now) ≡ c .before .before .before .before .before .before .before .line-count .result
+unfolding lineCount
+lines-end c = omega (arith, c .before .before .before .before .before .before .before .before .before .before .pre .0 .table, c .before .before .before .before .before .before .before .line-count .ensures)
+
+next-line-requires : tie.Need-next-line-requires Inv-loop μ-loop
+next-line-requires c κs = (omega (arith, lines-end c), omega (arith, lines-end c))
 
 loop-less : tie.Need-loop-less Inv-loop μ-loop
-loop-less c = omega arith
+loop-less c = omega (arith, lines-end (c .before), c .next-line .ensures .0 .0, c .next-line .ensures .0 .1)
 
 loop-again : tie.Need-loop-again Inv-loop μ-loop
 loop-again c =
-    let a = c .before .before .before .before .before .before .before .before .before .before .args in
-    let l = c .before .before .before .before .before .before .loop in
-    let f = lineAt (a .n) (a .m) (a .rounds) (a .bounds .now) (a .coefs .now) (a .rhs .now) (a .table .now) in (
+    let a = c .before .before .before .before .before .before .before .before .before .before .before .args in
+    let l = c .before .before .before .before .before .before .before .loop in
+    let f = lineAt (a .n) (a .m) (a .rounds) (a .bounds .now) (a .coefs .now) (a .rhs .now) (a .table .now) in
+    let e = c .next-line .ensures in
+    let first : l .next + 1 ≤ c .next-line .result = e .0 .0 in
+    let last : c .next-line .result ≤ 1 + (a .n + a .m) + length (a .table .now) = e .0 .1 in
+    let skipped = chunk-silent f (a .from) (l .next + 1) (c .next-line .result) (omega arith) first
+    (λ q h k. let s = e .1 q h k in line-silent (a .n) (a .m) (a .rounds) (a .bounds .now) (a .coefs .now) (a .rhs .now) (a .table .now) q (s .0) (s .1)) in (
       omega arith,
-      omega arith,
+      omega (arith, lines-end (c .before)),
       λ e. absurd (let z : ⊥ = omega arith in z),
-      rw (chunk-more f (a .from) (l .next) (omega arith)) (_⨾_ {t = f (l .next)} (l .inv .3) (c .before .before .write-line .ensures)),
+      rw (skipped, chunk-more f (a .from) (l .next) (omega arith)) (_⨾_ {t = f (l .next)} (l .inv .3) (c .before .before .before .write-line .ensures)),
     )
 
 same-length-2 : tie.Need-same-length-2 Inv-loop μ-loop
@@ -80,7 +101,10 @@ fill-spec =
     same-length
     returns
     write-line-requires
-    add-next
+    add-next-line
+    add-next-line-2
+    add-next-line-3
+    next-line-requires
     loop-less
     loop-again
     same-length-2

@@ -40,7 +40,7 @@ use denote.Triple.Table.{entered, cited}
 use denote.Triple.Walked.{says, needs, Stays, stay-none, gave-slice, walkOf, goes-none, goes-gave-slice, Walks, ends-at, walked, walk-meets}
 use denote.Exit.{yes}
 use denote.Triple.Clauses.{ensured, lasts}
-use Rattle.row.specs.Answers.{propagationOutcome}
+use Rattle.row.specs.Answers.{propagatedRowOf}
 use Rattle.row.specs.Propagation.{propagateRow}
 use Rattle.row.specs.ValidRow.{ValidRow}
 use Rattle.row.specs.declared.propagation.RowPropagation.{RowPropagation}
@@ -51,7 +51,6 @@ use Rattle.row.proofs.propagation.propagate_row.Symbol as whole-row-def
 use Rattle.row.proofs.propagation.propagate_row.Symbol.{name as #row·propagation·propagate-row}
 use Rattle.row.proofs.propagation.propagate_row.Met as whole-row-thm
 use Rattle.row_view.specs.declared.Row.{Row}
-use Rattle.row_view.proofs.Clauses.{tells}
 use Rattle.row_view.proofs.Row as T
 use Rattle.row_view.proofs.Row.Laws as T′
 use Rattle.row_view.proofs.Row.propagate.Key.{name as #row-view·propagate}
@@ -110,11 +109,8 @@ module _ {M : Type 1} (𝓤 : URA M) (H : Heap 𝓤) (A : Atoms 𝓤) (W : Given
   abbrev Asked : Type 0
   Asked = ValidRow (length (now (d .coefs))) (now (d .coefs)) (d .b) (now x)
 
-  abbrev Answered : RowPropagation → Type 0
-  Answered r = propagationOutcome r ≡ propagateRow (length (now (d .coefs))) (now (d .coefs)) (d .b) (now x) .outcome
-
-  abbrev Left : List ℤ → Type 0
-  Left zs = zs ≡ propagateRow (length (now (d .coefs))) (now (d .coefs)) (d .b) (now x) .box
+  abbrev Answered : RowPropagation → List ℤ → Type 0
+  Answered r zs = propagatedRowOf r zs ≡ propagateRow (length (now (d .coefs))) (now (d .coefs)) (d .b) (now x)
 
   asked : Asked → ent 𝓤 (onEntry 𝓤 H A whole-row.signature κs (q, (q′, tt)) (d .coefs, (d .b, (x, tt))) passed) (WholeRow 𝓤 H A mem run .pre to)
   asked valid =
@@ -131,11 +127,11 @@ module _ {M : Type 1} (𝓤 : URA M) (H : Heap 𝓤) (A : Atoms 𝓤) (W : Given
       -- [b's; coef's; the struct's; the box's; the tokens]
       move ! (0 ∷ 3 ∷ []) $ fjoin ! $ move ! (1 ∷ 0 ∷ []) $ fjoin ! $ move ! (2 ∷ 0 ∷ []) $ use2 W (raw (WholeRow 𝓤 H A mem run .pre to)) (asked valid) $ frame ! $ done !)
 
-  exits : (r : RowPropagation) (u : Val) (zs : List ℤ) → Answered r × Left zs → length zs ≡ length (now x)
+  exits : (r : RowPropagation) (u : Val) (zs : List ℤ) → Answered r zs → length zs ≡ length (now x)
       → ent 𝓤 (⋆ 𝓤 H A ((‵ (flft κ q) ⊛ ‵ (flft κ′ q′) ⊛ ‵ ftrue) ∷ ‵ Own ∷ ‵ (finally i32 (x .name) zs) ∷ ‵ (S.the-row .own r (u ∷ [])) ∷ [])) (Post u)
   exits r u zs e l =
       qed W ((‵ (flft κ q) ⊛ ‵ (flft κ′ q′) ⊛ ‵ ftrue) ∷ ‵ Own ∷ ‵ (finally i32 (x .name) zs) ∷ ‵ (S.the-row .own r (u ∷ [])) ∷ []) ∵
-      suffices ! _ (ends-at 𝓤 H A view.ended stayed (view.clauses 𝓤 H A mem run) W ((κs, (q, (q′, tt)), tt, (d, (x, tt)), vals), tt) u r (tt, (zs, tt)) (tt, (l, tt))) $ tells ! (e .0) (e .1) $ frame ! $
+      suffices ! _ (ends-at 𝓤 H A view.ended stayed (view.clauses 𝓤 H A mem run) W ((κs, (q, (q′, tt)), tt, (d, (x, tt)), vals), tt) u r (tt, (zs, tt)) (tt, (l, tt))) $ says ! e $ frame ! $
       nothing ! $ move ! (2 ∷ 0 ∷ []) $ fjoin ! $ move ! (1 ∷ 0 ∷ []) $ fjoin ! $ frame ! $ done !
 
   module _ (C : Calls 𝓤 H) (Λ : Loops 𝓤 H) (fm : FmC 𝓤 H (W .laws) C) (known : Triple 𝓤 (C #row·propagation·propagate-row) (WholeRow 𝓤 H A mem run)) where
@@ -154,15 +150,15 @@ module _ {M : Type 1} (𝓤 : URA M) (H : Heap 𝓤) (A : Atoms 𝓤) (W : Given
         calls-at ! fm (WholeRow 𝓤 H A mem run) known to (and-then ! (load ! (from ! (stop !)) (look ! 8 refl)) (and-then ! (load ! (from ! (stop !)) (look ! 6 refl)) (and-then ! (load ! (from ! (stop !)) (look ! 2 refl)) (no-more !)))) (λ u.
         use1 W (later (some (λ (r : RowPropagation). ((‵ (flft κ q) ⊛ ‵ (flft κ′ q′) ⊛ ‵ ftrue) ⊛ ‵ (S.the-row .own r (u ∷ []))) ⊛ raw (ensured 𝓤 H A whole-row.ended (whole-row.clauses 𝓤 H A mem run) κs (d .coefs, (d .b, (x, tt))) tt r)))) (id⊢ 𝓤 _) $ await ! tt $ pick ! (λ r.
         -- what `propagate_row` ensures, at some last list
-        split ! $ move ! (1 ∷ []) $ use1 W (some (λ (zs : Unit {0} × (Unit {0} × (List ℤ × Unit {0}))). ‵ (lasts whole-row.ended κs (d .coefs, (d .b, (x, tt))) zs) ⊛ raw (fact 𝓤 (Answered r)) ⊛ raw (fact 𝓤 (Left (zs .1 .1 .0))))) (id⊢ 𝓤 _) $ pick ! (λ zs.
-        split ! $ move ! (1 ∷ []) $ split ! $ heard ! (Answered r) (λ a. heard ! (Left (zs .1 .1 .0)) (λ e. fsplit ! $ drop ! $ fsplit ! $ drop ! $ fsplit ! $ fsplit ! $ move ! (1 ∷ []) $ feqL ! (λ l.
+        split ! $ move ! (1 ∷ []) $ use1 W (some (λ (zs : Unit {0} × (Unit {0} × (List ℤ × Unit {0}))). ‵ (lasts whole-row.ended κs (d .coefs, (d .b, (x, tt))) zs) ⊛ raw (fact 𝓤 (Answered r (zs .1 .1 .0))))) (id⊢ 𝓤 _) $ pick ! (λ zs.
+        split ! $ move ! (1 ∷ []) $ heard ! (Answered r (zs .1 .1 .0)) (λ e. fsplit ! $ drop ! $ fsplit ! $ drop ! $ fsplit ! $ fsplit ! $ move ! (1 ∷ []) $ feqL ! (λ l.
         -- [what says the last list; true; the tokens and the result; what the struct owns; …]
         move ! (2 ∷ []) $ split ! $ move ! (1 ∷ []) $ peeks ! S.the-row (Is S.the-row) (shows 𝓤 H A S.the-row) r (u ∷ []) (λ is.
         -- [the result; the tokens; what says the last list; true; what the struct owns; _6; …]
         land ! (from ! (stop !)) (init ! 17 refl (EL.lawful S.the-type S′.the-laws 𝓤 H A W tt .typed r _ is .0)) $
         returns ! (look ! 17 refl) $ forget ! 5 refl $ forget ! 7 refl $ forget ! 9 refl $ forget ! 11 refl $ forget ! 13 refl $ forget ! 15 refl $ forget ! 17 refl $
         move ! (17 ∷ 18 ∷ []) $ free1 ! $ move ! (15 ∷ 16 ∷ []) $ free1 ! $ move ! (13 ∷ 14 ∷ []) $ free1 ! $ move ! (11 ∷ 12 ∷ []) $ free1 ! $ move ! (9 ∷ 10 ∷ []) $ free1 ! $ move ! (7 ∷ 8 ∷ []) $ free1 ! $ move ! (5 ∷ 6 ∷ []) $ free1 ! $ free0 ! $
-        keep ! (1 ∷ 4 ∷ 2 ∷ 0 ∷ []) $ by ! (exits r u (zs .1 .1 .0) (a, e) l)))))))))))))))
+        keep ! (1 ∷ 4 ∷ 2 ∷ 0 ∷ []) $ by ! (exits r u (zs .1 .1 .0) e l))))))))))))))
 
 module _ {M : Type 1} (𝓤 : URA M) (H : Heap 𝓤) (A : Atoms 𝓤) (W : Given 𝓤 H A) (mem : Memory → SProp 𝓤) (run : Routine → Fun 𝓤) where
   view-walks : (C : Calls 𝓤 H) (Λ : Loops 𝓤 H) → FmC 𝓤 H (W .laws) C → Triple 𝓤 (C #row·propagation·propagate-row) (WholeRow 𝓤 H A mem run)

@@ -38,10 +38,10 @@ use denote.Triple.Call.{calls-at}
 use denote.Triple.Entry.{Vals, onEntry}
 use denote.Triple.Spec.{Meets, tripleOf}
 use denote.Triple.Table.{entered, cited}
-use denote.Triple.Walked.{needs, Stays, stay-none, stay-none-slice, gave-slice, walkOf, goes-none, goes-none-slice, goes-gave-slice, Walks, ends-at, walked, walk-meets}
+use denote.Triple.Walked.{says, needs, Stays, stay-none, stay-none-slice, gave-slice, walkOf, goes-none, goes-none-slice, goes-gave-slice, Walks, ends-at, walked, walk-meets}
 use denote.Exit.{yes}
 use denote.Triple.Clauses.{ensured, lasts}
-use Rattle.row.specs.Answers.{propagationOutcome}
+use Rattle.row.specs.Answers.{propagatedRowOf}
 use Rattle.row.specs.Propagation.{propagateRow}
 use Rattle.row.specs.ValidRow.{ValidRow}
 use Rattle.row.specs.declared.propagation.RowPropagation.{RowPropagation}
@@ -118,11 +118,8 @@ module _ {M : Type 1} (𝓤 : URA M) (H : Heap 𝓤) (A : Atoms 𝓤) (W : Given
   abbrev Asked : Type 0
   Asked = ValidRow (length (now (d .coefs))) (now (d .coefs)) (d .b) (now x) × Steps (length (now (d .coefs))) (now (d .coefs)) (now t)
 
-  abbrev Answered : RowPropagation → Type 0
-  Answered r = propagationOutcome r ≡ propagateRow (length (now (d .coefs))) (now (d .coefs)) (d .b) (now x) .outcome
-
-  abbrev Left : List ℤ → Type 0
-  Left zs = zs ≡ propagateRow (length (now (d .coefs))) (now (d .coefs)) (d .b) (now x) .box
+  abbrev Answered : RowPropagation → List ℤ → Type 0
+  Answered r zs = propagatedRowOf r zs ≡ propagateRow (length (now (d .coefs))) (now (d .coefs)) (d .b) (now x)
 
   asked : Asked → ent 𝓤 (onEntry 𝓤 H A whole-row.signature κs (q, (q′, (q″, tt))) (d .coefs, (t, (d .b, (x, tt)))) passed) (WholeRow 𝓤 H A mem run .pre to)
   asked valid =
@@ -139,11 +136,11 @@ module _ {M : Type 1} (𝓤 : URA M) (H : Heap 𝓤) (A : Atoms 𝓤) (W : Given
       -- [the steps'; the same; the box's; b's; coef's; the struct's; the tokens]
       move ! (3 ∷ 2 ∷ []) $ fjoin ! $ move ! (1 ∷ 0 ∷ []) $ fjoin ! $ move ! (2 ∷ 0 ∷ []) $ fjoin ! $ move ! (3 ∷ 0 ∷ []) $ use2 W (raw (WholeRow 𝓤 H A mem run .pre to)) (asked valid) $ frame ! $ frame ! $ done !)
 
-  exits : (r : RowPropagation) (u : Val) (zs : List ℤ) → Answered r × Left zs → length zs ≡ length (now x)
+  exits : (r : RowPropagation) (u : Val) (zs : List ℤ) → Answered r zs → length zs ≡ length (now x)
       → ent 𝓤 (⋆ 𝓤 H A ((‵ (flft κ q) ⊛ ‵ (flft κ′ q′) ⊛ ‵ (flft κ″ q″) ⊛ ‵ ftrue) ∷ ‵ Own ∷ ‵ Stepped ∷ ‵ (finally i32 (x .name) zs) ∷ ‵ (S.the-row .own r (u ∷ [])) ∷ [])) (Post u)
   exits r u zs e l =
       qed W ((‵ (flft κ q) ⊛ ‵ (flft κ′ q′) ⊛ ‵ (flft κ″ q″) ⊛ ‵ ftrue) ∷ ‵ Own ∷ ‵ Stepped ∷ ‵ (finally i32 (x .name) zs) ∷ ‵ (S.the-row .own r (u ∷ [])) ∷ []) ∵
-      suffices ! _ (ends-at 𝓤 H A view.ended stayed (view.clauses 𝓤 H A mem run) W ((κs, (q, (q′, (q″, tt))), tt, (d, (t, (x, tt))), vals), tt) u r (tt, (tt, (zs, tt))) (tt, (tt, (l, tt)))) $ tells ! (e .0) (e .1) $ frame ! $
+      suffices ! _ (ends-at 𝓤 H A view.ended stayed (view.clauses 𝓤 H A mem run) W ((κs, (q, (q′, (q″, tt))), tt, (d, (t, (x, tt))), vals), tt) u r (tt, (tt, (zs, tt))) (tt, (tt, (l, tt)))) $ says ! e $ frame ! $
       nothing ! $ move ! (3 ∷ 0 ∷ []) $ fjoin ! $ move ! (2 ∷ 0 ∷ []) $ fjoin ! $ move ! (1 ∷ 0 ∷ []) $ fjoin ! $ frame ! $ done !
 
   module _ (C : Calls 𝓤 H) (Λ : Loops 𝓤 H) (fm : FmC 𝓤 H (W .laws) C) (known : Triple 𝓤 (C #sweep·propagate-row-by) (WholeRow 𝓤 H A mem run)) where
@@ -162,15 +159,15 @@ module _ {M : Type 1} (𝓤 : URA M) (H : Heap 𝓤) (A : Atoms 𝓤) (W : Given
         calls-at ! fm (WholeRow 𝓤 H A mem run) known to (and-then ! (load ! (from ! (stop !)) (look ! 9 refl)) (and-then ! (load ! (from ! (stop !)) (look ! 13 refl)) (and-then ! (load ! (from ! (stop !)) (look ! 7 refl)) (and-then ! (load ! (from ! (stop !)) (look ! 3 refl)) (no-more !))))) (λ u.
         use1 W (later (some (λ (r : RowPropagation). ((‵ (flft κ q) ⊛ ‵ (flft κ′ q′) ⊛ ‵ (flft κ″ q″) ⊛ ‵ ftrue) ⊛ ‵ (S.the-row .own r (u ∷ []))) ⊛ raw (ensured 𝓤 H A whole-row.ended (whole-row.clauses 𝓤 H A mem run) κs (d .coefs, (t, (d .b, (x, tt)))) tt r)))) (id⊢ 𝓤 _) $ await ! tt $ pick ! (λ r.
         -- what `propagate_row` ensures, at some last list
-        split ! $ move ! (1 ∷ []) $ use1 W (some (λ (zs : Unit {0} × (Unit {0} × (Unit {0} × (List ℤ × Unit {0})))). ‵ (lasts whole-row.ended κs (d .coefs, (t, (d .b, (x, tt)))) zs) ⊛ raw (fact 𝓤 (Answered r)) ⊛ raw (fact 𝓤 (Left (zs .1 .1 .1 .0))))) (id⊢ 𝓤 _) $ pick ! (λ zs.
-        split ! $ move ! (1 ∷ []) $ split ! $ heard ! (Answered r) (λ a. heard ! (Left (zs .1 .1 .1 .0)) (λ e. fsplit ! $ drop ! $ fsplit ! $ drop ! $ fsplit ! $ drop ! $ fsplit ! $ fsplit ! $ move ! (1 ∷ []) $ feqL ! (λ l.
+        split ! $ move ! (1 ∷ []) $ use1 W (some (λ (zs : Unit {0} × (Unit {0} × (Unit {0} × (List ℤ × Unit {0})))). ‵ (lasts whole-row.ended κs (d .coefs, (t, (d .b, (x, tt)))) zs) ⊛ raw (fact 𝓤 (Answered r (zs .1 .1 .1 .0))))) (id⊢ 𝓤 _) $ pick ! (λ zs.
+        split ! $ move ! (1 ∷ []) $ heard ! (Answered r (zs .1 .1 .1 .0)) (λ e. fsplit ! $ drop ! $ fsplit ! $ drop ! $ fsplit ! $ drop ! $ fsplit ! $ fsplit ! $ move ! (1 ∷ []) $ feqL ! (λ l.
         -- [what says the last list; true; the tokens and the result; what the struct owns; …]
         move ! (2 ∷ []) $ split ! $ move ! (1 ∷ []) $ peeks ! S.the-row (Is S.the-row) (shows 𝓤 H A S.the-row) r (u ∷ []) (λ is.
         -- [the result; the tokens; what says the last list; true; what the struct owns; what the steps own; _7; …]
         land ! (from ! (stop !)) (init ! 20 refl (EL.lawful S.the-type S′.the-laws 𝓤 H A W tt .typed r _ is .0)) $
         returns ! (look ! 20 refl) $ forget ! 6 refl $ forget ! 8 refl $ forget ! 10 refl $ forget ! 12 refl $ forget ! 14 refl $ forget ! 16 refl $ forget ! 18 refl $ forget ! 20 refl $
         move ! (20 ∷ 21 ∷ []) $ free1 ! $ move ! (18 ∷ 19 ∷ []) $ free1 ! $ move ! (16 ∷ 17 ∷ []) $ free1 ! $ move ! (14 ∷ 15 ∷ []) $ free1 ! $ move ! (12 ∷ 13 ∷ []) $ free1 ! $ move ! (10 ∷ 11 ∷ []) $ free1 ! $ move ! (8 ∷ 9 ∷ []) $ free1 ! $ move ! (6 ∷ 7 ∷ []) $ free1 ! $ free0 ! $
-        keep ! (1 ∷ 4 ∷ 5 ∷ 2 ∷ 0 ∷ []) $ by ! (exits r u (zs .1 .1 .1 .0) (a, e) l))))))))))))))))
+        keep ! (1 ∷ 4 ∷ 5 ∷ 2 ∷ 0 ∷ []) $ by ! (exits r u (zs .1 .1 .1 .0) e l)))))))))))))))
 
 module _ {M : Type 1} (𝓤 : URA M) (H : Heap 𝓤) (A : Atoms 𝓤) (W : Given 𝓤 H A) (mem : Memory → SProp 𝓤) (run : Routine → Fun 𝓤) where
   view-walks : (C : Calls 𝓤 H) (Λ : Loops 𝓤 H) → FmC 𝓤 H (W .laws) C → Triple 𝓤 (C #sweep·propagate-row-by) (WholeRow 𝓤 H A mem run)
