@@ -1,26 +1,28 @@
 -- Whether propagating a row of either kind would answer other than Same, by its forms; and what the answers of the two forms come to.
-use Prim.Native.Nat.{_*_, _+_, ℕ}
-use lib.Dec.{T}
-use lib.IntN.{ℤ}
+use Prim.Native.Nat.{_*_, _+_, _≤_, ℕ}
+use lib.Dec.{T, eqb, not-T}
+use lib.IntN.{negℤ, ℤ}
 use lib.ListN.{length}
 use mathlib.Core.Bool.{Bool, _||_, cond, false, not, true}
 use mathlib.Core.List.{List, [], _∷_}
 use mathlib.Core.Logic.{⊎-elim}
-use mathlib.Core.Path.{_∙_, _≡_, ap, refl}
+use mathlib.Core.Path.{_∙_, _≡_, ap, refl, sym}
 use native.Mathlib.Omega.{arith}
-use Rattle.integer.proofs.Tests.{T→true}
-use Rattle.model.specs.Rows.{Row, isEquality, negated}
-use Rattle.row.specs.Answers.{bothForms, propagatedRowOf}
+use Rattle.integer.proofs.Tests.{T→true, eqb-test}
+use Rattle.model.specs.Rows.{Row, isEquality, negated, negatedCoefs, rowWith}
+use Rattle.row.specs.Answers.{BothForms, bothForms, propagatedRowOf}
 use Rattle.row.specs.Kinds.{andThen, propagateForm, propagateRowOf, rowMovesOf}
 use Rattle.row.specs.Moved.{movedBounds}
 use Rattle.row.specs.Outcome.{Outcome, changed, infeasible, isChanged, isInfeasible, isUnchanged, unchanged}
-use Rattle.row.specs.Propagation.{PropagatedRow, rowMoves}
+use Rattle.row.specs.Propagation.{PropagatedRow, propagateRow, rowMoves}
 use Rattle.row.specs.declared.propagation.RowPropagation.{RowPropagation}
 use Rattle.row.proofs.propagation.RowPropagation.{the-type}
 use types.Run.{OneOf}
 use denote.Enum.Declared.{tagOf}
 use Rattle.row.specs.declared.propagation.RowPropagation.the-variants as propagation
 use Rattle.row.proofs.KindLaws.{kinded-le}
+use Rattle.row.proofs.KindMovedLaws.{equality-moves}
+use Rattle.row.proofs.PropagationLaws.{propagate-row-moved, propagate-row-moved-le}
 use Rattle.row.proofs.ReachLaws.{moves-not}
 
 -- ---- the outcome of two forms
@@ -98,3 +100,54 @@ both-second propagation.Infeasible s h = refl
 both-second (propagation.Tightened k) s h =
     ⊎-elim (λ e. let z : _≡_ {A = ℕ} 1 0 = e in absurd (omega arith)) (λ e. let z : _≡_ {A = ℕ} 1 2 = e in absurd (omega arith)) h
 both-second propagation.Unchanged s h = refl
+
+-- ---- what a function finds, form by form: f and P of the ≤ form over B, s and Q of the negated form over P
+
+pub left-box : (f : RowPropagation) (P : List ℤ) → propagatedRowOf f P .box ≡ P
+unfolding propagatedRowOf
+left-box propagation.Infeasible P = refl
+left-box (propagation.Tightened k) P = refl
+left-box propagation.Unchanged P = refl
+
+other-feasible : (f : RowPropagation) (P : List ℤ) → OneOf (1 ∷ 2 ∷ []) (tagOf the-type f) → T (not (isInfeasible (propagatedRowOf f P .outcome)))
+unfolding propagatedRowOf isInfeasible
+other-feasible propagation.Infeasible P h =
+    ⊎-elim (λ e. let z : _≡_ {A = ℕ} 0 1 = e in absurd (omega arith)) (λ e. let z : _≡_ {A = ℕ} 0 2 = e in absurd (omega arith)) h
+other-feasible (propagation.Tightened k) P h = tt
+other-feasible propagation.Unchanged P h = tt
+
+infeasible-told : (R : List ℤ) → T (isInfeasible (propagatedRowOf propagation.Infeasible R .outcome))
+unfolding propagatedRowOf isInfeasible
+infeasible-told R = tt
+
+moved-of : (k : ℕ) (f : RowPropagation) (P : List ℤ) → f ≡ propagation.Tightened k → propagatedRowOf f P .moved ≡ k
+unfolding propagatedRowOf
+moved-of k f P e = rw e
+
+module _ (n : ℕ) (C : List ℤ) (b : ℤ) (B : List ℤ) {f : RowPropagation} {P : List ℤ} (e : propagatedRowOf f P ≡ propagateRow n C b B) where
+  pub first-box : P ≡ propagateRow n C b B .box
+  first-box = sym (left-box f P) ∙ ap (λ (v : PropagatedRow). v .box) e
+
+  pub le-answer : (kind : ℕ) → (kind ≡ 1 → ⊥) → propagatedRowOf f P ≡ propagateRowOf n (rowWith C b kind) B
+  unfolding isEquality
+  le-answer kind q = e ∙ sym (kinded-le n (rowWith C b kind) B (not-T (eqb kind 1) (λ t. q (eqb-test kind 1 .0 t))))
+
+  pub none-answer : (kind : ℕ) → kind ≡ 1 → f ≡ propagation.Infeasible → propagatedRowOf f P ≡ propagateRowOf n (rowWith C b kind) B
+  unfolding propagateRowOf andThen isEquality
+  none-answer kind q z =
+      let i : T (isInfeasible (propagateRow n C b B .outcome)) = rw (← e, z) (infeasible-told P) in
+      e ∙ rw (T→true (eqb kind 1) (eqb-test kind 1 .1 q), T→true (isInfeasible (propagateRow n C b B .outcome)) i)
+
+  module _ {s : RowPropagation} {Q : List ℤ} (g : propagatedRowOf s Q ≡ propagateRow n (negatedCoefs C) (negℤ b) P) where
+    pub both-few : n ≤ 128 → BothForms f s
+    both-few h = record {
+      few = λ k i u v.
+          let a : k ≤ n = rw (← moved-of k f P u, e) (propagate-row-moved-le n C b B) in
+          let c : i ≤ n = rw (← moved-of i s Q v, g) (propagate-row-moved-le n (negatedCoefs C) (negℤ b) P) in
+          omega arith;
+    }
+
+    pub both-answer : (kind : ℕ) → kind ≡ 1 → OneOf (1 ∷ 2 ∷ []) (tagOf the-type f)
+        → propagatedRowOf (bothForms f s) Q ≡ propagateRowOf n (rowWith C b kind) B
+    unfolding propagateRowOf isEquality negated
+    both-answer kind q o = ?
