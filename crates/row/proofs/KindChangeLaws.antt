@@ -1,17 +1,17 @@
 -- Laws of tightening and removing a row that has a kind: the new row may take the old one's place over the box, within the limits.
 use Prim.Native.Nat.{_<_, ℕ}
-use lib.Dec.{T, T-not}
+use lib.Dec.{T, T-not, eqb, not-T}
 use lib.IntN.{_*ℤ_, pos, ℤ}
 use lib.ListN.{length}
 use lib.Signed.{_≤ℤ_}
-use mathlib.Core.Bool.{_&&_, _||_, cond, not}
+use mathlib.Core.Bool.{_&&_, _||_, cond, false, not, true}
 use mathlib.Core.List.{List}
 use mathlib.Core.Logic.{_↔_, _≢_}
 use mathlib.Core.Path.{_≡_, ap, refl, sym}
 use native.Mathlib.Omega.{arith}
 use Rattle.integer.specs.Order.{eqZ}
 use Rattle.integer.proofs.Parts.{zarith}
-use Rattle.integer.proofs.Tests.{T→false, T→true, and-l, and-r, cond-ind, eqZ→eq}
+use Rattle.integer.proofs.Tests.{T→false, T→true, and-l, and-r, cond-ind, eqZ→eq, eqb-test}
 use Rattle.model.specs.Box.{at, isEmpty, isFree}
 use Rattle.model.specs.Point.{InBox, InBoxOver, Meets, MeetsOver}
 use Rattle.model.specs.Rows.{Row, isEquality}
@@ -48,6 +48,10 @@ replaces-row-le {n} r q f g w = record {
   over = λ {x} {d} i h. record { le = λ _. w .over i (record { le = h .le g }) .le; eq = λ t. absurd (T-not (isEquality r) f t) };
 }
 
+-- the test of a kind byte fails
+pub le-kind : (kind : ℕ) → (kind ≡ 1 → ⊥) → eqb kind 1 ≡ false
+le-kind kind q = T→false (eqb kind 1) (not-T (eqb kind 1) (λ t. q (eqb-test kind 1 .0 t)))
+
 -- ---- tightening
 
 module _ (n : ℕ) (r : Row) (B : List ℤ) (k : ℕ) where
@@ -61,6 +65,10 @@ module _ (n : ℕ) (r : Row) (B : List ℤ) (k : ℕ) where
       → P (tightenRowOf n r B k)
   unfolding tightenRowOf
   tighten-kinded-ind P f g = cond-ind (isEquality r) _ _ P f g
+
+  pub tighten-kinded-empty : isEmpty n B ≡ true → tightenRowOf n r B k ≡ record { outcome = infeasible; row = r }
+  unfolding tightenCoefficient
+  tighten-kinded-empty e = tighten-kinded-ind (λ q. q ≡ record { outcome = infeasible; row = r }) (λ _. rw e) (λ _. rw e)
 
   pub tighten-kinded-infeasible : isInfeasible (tightenRowOf n r B k .outcome) ≡ isEmpty n B
   unfolding isInfeasible
@@ -127,6 +135,10 @@ module _ (n : ℕ) (r : Row) (B : List ℤ) where
       (λ u. g q t (eqZ→eq (minActivity n (r .coefs) B) (r .rhs) (and-l low high u)) (eqZ→eq (maxActivity n (r .coefs) B) (r .rhs) (and-r low high u)))
       (λ _. h q t)))
       k
+
+  pub remove-kinded-empty : isEmpty n B ≡ true → removeRowOf n r B ≡ record { outcome = infeasible; row = r }
+  unfolding removeRowOf removeRedundantRow
+  remove-kinded-empty e = cond-ind (isEquality r) _ _ (λ q. q ≡ record { outcome = infeasible; row = r }) (λ _. rw e) (λ _. rw e)
 
   pub remove-kinded-infeasible : isInfeasible (removeRowOf n r B .outcome) ≡ isEmpty n B
   unfolding isInfeasible

@@ -6,7 +6,7 @@ use lib.ListN.{length}
 use mathlib.Core.Bool.{Bool, _||_, cond, false, not, true}
 use mathlib.Core.List.{List, [], _∷_}
 use mathlib.Core.Logic.{⊎-elim}
-use mathlib.Core.Path.{_∙_, _≡_, ap, refl, sym}
+use mathlib.Core.Path.{_∙_, _≡_, ap, ap₂, refl, subst, sym}
 use native.Mathlib.Omega.{arith}
 use Rattle.integer.proofs.Tests.{T→true, eqb-test}
 use Rattle.model.specs.Rows.{Row, isEquality, negated, negatedCoefs, rowWith}
@@ -124,7 +124,7 @@ moved-of : (k : ℕ) (f : RowPropagation) (P : List ℤ) → f ≡ propagation.T
 unfolding propagatedRowOf
 moved-of k f P e = rw e
 
-module _ (n : ℕ) (C : List ℤ) (b : ℤ) (B : List ℤ) {f : RowPropagation} {P : List ℤ} (e : propagatedRowOf f P ≡ propagateRow n C b B) where
+module _ (n : ℕ) (C : List ℤ) (b : ℤ) (B : List ℤ) (f : RowPropagation) (P : List ℤ) (e : propagatedRowOf f P ≡ propagateRow n C b B) where
   pub first-box : P ≡ propagateRow n C b B .box
   first-box = sym (left-box f P) ∙ ap (λ (v : PropagatedRow). v .box) e
 
@@ -138,7 +138,7 @@ module _ (n : ℕ) (C : List ℤ) (b : ℤ) (B : List ℤ) {f : RowPropagation} 
       let i : T (isInfeasible (propagateRow n C b B .outcome)) = rw (← e, z) (infeasible-told P) in
       e ∙ rw (T→true (eqb kind 1) (eqb-test kind 1 .1 q), T→true (isInfeasible (propagateRow n C b B .outcome)) i)
 
-  module _ {s : RowPropagation} {Q : List ℤ} (g : propagatedRowOf s Q ≡ propagateRow n (negatedCoefs C) (negℤ b) P) where
+  module _ (s : RowPropagation) (Q : List ℤ) (g : propagatedRowOf s Q ≡ propagateRow n (negatedCoefs C) (negℤ b) P) where
     pub both-few : n ≤ 128 → BothForms f s
     both-few h = record {
       few = λ k i u v.
@@ -150,4 +150,16 @@ module _ (n : ℕ) (C : List ℤ) (b : ℤ) (B : List ℤ) {f : RowPropagation} 
     pub both-answer : (kind : ℕ) → kind ≡ 1 → OneOf (1 ∷ 2 ∷ []) (tagOf the-type f)
         → propagatedRowOf (bothForms f s) Q ≡ propagateRowOf n (rowWith C b kind) B
     unfolding propagateRowOf isEquality negated
-    both-answer kind q o = ?
+    both-answer kind q o =
+        let r = rowWith C b kind in
+        let X = propagateRow n C b B .box in
+        let h : propagatedRowOf s Q ≡ propagateForm n (negated r) X = g ∙ ap (λ (Y : List ℤ). propagateRow n (negatedCoefs C) (negℤ b) Y) first-box in
+        let told = other-feasible f P o in
+        let t : T (not (isInfeasible (propagateForm n r B .outcome))) = subst (λ (v : PropagatedRow). T (not (isInfeasible (v .outcome)))) e told in
+        both-propagated n B P Q f s told
+        (λ z. let u : T (not (isInfeasible (propagateForm n (negated r) X .outcome))) = subst (λ (v : PropagatedRow). T (not (isInfeasible (v .outcome)))) h z in
+        ap (movedBounds n B) (sym (left-box s Q) ∙ ap (λ (v : PropagatedRow). v .box) h) ∙ equality-moves n r B t u
+        ∙ ap₂ _+_ (sym (ap (λ (v : PropagatedRow). v .moved) e ∙ propagate-row-moved n C b B t))
+        (sym (ap (λ (v : PropagatedRow). v .moved) h ∙ propagate-row-moved n (negatedCoefs C) (negℤ b) X u)))
+        ∙ ap₂ (andThen n B) e h
+        ∙ rw (T→true (eqb kind 1) (eqb-test kind 1 .1 q))

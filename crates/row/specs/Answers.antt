@@ -30,7 +30,7 @@ removalOutcome removal.Infeasible = infeasible
 removalOutcome removal.Removed = changed
 removalOutcome removal.Unchanged = unchanged
 
--- two forms of an = row: the first was not infeasible, and their counts are at most n each
+-- the bounds that two forms of an = row moved, at most n each: together they fit in 32 bits
 pub record BothForms (first second : RowPropagation) : Type 0 where
   pub few : (k i : ℕ) → first ≡ propagation.Tightened k → second ≡ propagation.Tightened i → k + i < 2 ^ 32
 
