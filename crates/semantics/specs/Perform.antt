@@ -5,9 +5,7 @@ use mathlib.Core.Bool.{cond}
 use Rattle.model.specs.Rows.{rowAt}
 use Rattle.model.specs.State.{State, withBox, withRow}
 use Rattle.row.specs.Outcome.{Outcome}
-use Rattle.row.specs.Propagation.{propagateRowOf}
-use Rattle.row.specs.Redundancy.{removeRowOf}
-use Rattle.row.specs.Tightening.{rowLeft, tightenRowOf}
+use Rattle.row.specs.Kinds.{propagateRowOf, removeRowOf, tightenRowOf}
 use Rattle.semantics.specs.Call.{Call, Kind, kindOf, probing, propagation, removal, rowPropagation, tightening, unknown}
 use Rattle.semantics.specs.CallChecks.{callFault}
 use Rattle.semantics.specs.Probe.{ProbeEnding, Side, probe}
@@ -48,11 +46,11 @@ act probing s c =
 act tightening s c =
     let M = s .model in
     let r = tightenRowOf (M .n) (rowAt (M .n) (M .rows) (c .row)) (M .box) (c .variable) in
-    record { answer = tightened (r .outcome); state = withRow s (c .row) (rowLeft r) }
+    record { answer = tightened (r .outcome); state = withRow s (c .row) (r .row) }
 act removal s c =
     let M = s .model in
     let r = removeRowOf (M .n) (rowAt (M .n) (M .rows) (c .row)) (M .box) in
-    record { answer = removed (r .outcome); state = withRow s (c .row) (rowLeft r) }
+    record { answer = removed (r .outcome); state = withRow s (c .row) (r .row) }
 act unknown s c = record { answer = refused 11; state = s }
 
 -- "The first [check] that applies to the call is the answer; every lent number stays." Everything else is accepted.

@@ -7,7 +7,8 @@ use mathlib.Core.List.{List}
 use Rattle.model.specs.Box.{isEmpty}
 use Rattle.model.specs.Rows.{Rows, rowAt}
 use Rattle.row.specs.Outcome.{isInfeasible}
-use Rattle.row.specs.Propagation.{PropagatedRow, propagateRowOf}
+use Rattle.row.specs.Kinds.{propagateRowOf}
+use Rattle.row.specs.Propagation.{PropagatedRow}
 
 -- a pass, as far as it has come: whether a row answered None, how many bounds its rows moved, and the box
 pub record Pass : Type 0 where
