@@ -1,28 +1,28 @@
 -- Which rows stay clean when a box becomes a smaller one, as the loop of `remark` finds it, and what that says of their visits.
 use Prim.Native.Nat.{_*_, _+_, _<_, _≤_, ℕ}
 use lib.IntN.{pos, ℤ}
-use lib.Dec.{T, eqb→eq, not-T}
+use lib.Dec.{T, eqb, eqb→eq, not-T}
 use lib.ListN.{drop, getD, getD-replicate, length, length-drop, length-replicate, replicate, set, take}
 use lib.Seq.{getD-drop, getD-set-other, getD-set-same, getD-take, length-take-le, set-getD}
 use lib.Signed.{_<ℤ_, _≤ℤ_, ≤ℤ-refl}
-use mathlib.Core.Bool.{not, true}
+use mathlib.Core.Bool.{Bool, _&&_, false, not, true, true≢false}
 use mathlib.Core.List.{List}
 use mathlib.Core.Logic.{_≢_, _⊎_, inl, inr}
 use mathlib.Core.Path.{_∙_, _≡_, ap, refl, sym}
 use native.Mathlib.Decide.{decLt, ℕ-discrete}
 use native.Mathlib.Omega.{arith}
 use Rattle.integer.proofs.Parts.{lt-is, lt-isn't, zarith}
-use Rattle.integer.proofs.Tests.{lt-or-ge}
+use Rattle.integer.proofs.Tests.{T→false, lt-or-ge}
 use Rattle.model.specs.Box.{Inside, NonEmpty, at, emptyBox, lower, upper, withBounds}
 use Rattle.model.proofs.BoxLaws.{inside-refl, not-in-empty, ≤ℤ-antisymm}
 use Rattle.model.proofs.BoxLoops.{lower-withBounds, upper-withBounds, withBounds-other}
 use Rattle.model.specs.Valid.{ValidBox, ValidModel}
 use Rattle.row.specs.Activity.{minActivity}
 use Rattle.row.specs.Answers.{propagatedRowOf}
-use Rattle.row.specs.Outcome.{isChanged, isInfeasible, unchanged}
+use Rattle.row.specs.Outcome.{Outcome, changed, infeasible, isChanged, isInfeasible, isUnchanged, unchanged}
 use Rattle.row.specs.declared.propagation.RowPropagation.{RowPropagation}
 use Rattle.row.specs.declared.propagation.RowPropagation.the-variants.{Infeasible, Tightened, Unchanged}
-use Rattle.row.specs.Kinds.{propagateForm, propagateRowOf}
+use Rattle.row.specs.Kinds.{propagateForm, propagateRowOf, rowMovesOf}
 use Rattle.row.specs.Propagation.{PropagatedRow, propagateRow}
 use Rattle.row.proofs.BoundLaws.{newLower-nonneg, newUpper-nonpos}
 use Rattle.row.proofs.ImpliedBoxLaws.{lower-implied, upper-implied}
@@ -169,6 +169,19 @@ reads-both {kind} {a} e f = go (lt-or-ge (pos 0) a) (lt-or-ge a (pos 0))
     go (inr s) (inl t) = rw (e, sign-neg t) (refl, refl)
     go (inr s) (inr t) = absurd (f (≤ℤ-antisymm s t))
 
+-- and nothing else
+eqb-no : {a b : ℕ} → (a ≡ b → ⊥) → eqb a b ≡ false
+eqb-no {a} {b} f = T→false (eqb a b) (not-T (eqb a b) (λ t. f (eqb→eq a b t)))
+
+and-no : (a : Bool) → (a && false) ≡ false
+and-no true = refl
+and-no false = refl
+
+pub reads-not : (kind s bound : ℕ) → (s ≡ bound → ⊥) → (kind ≡ 1 → ⊥) ⊎ (s ≡ 3) → reads kind s bound ≡ false
+unfolding reads
+reads-not kind s bound f (inl g) = rw (eqb-no f, eqb-no g)
+reads-not kind s bound f (inr e) = rw (eqb-no f, e) (and-no (eqb kind 1))
+
 pub kind-one : (r : Row) → T (isEquality r) → r .kind ≡ 1
 unfolding isEquality
 kind-one r t = eqb→eq (r .kind) 1 t
@@ -266,6 +279,20 @@ clean-set {n} {m} {A} {B} {marks} r v c e h = record { same = λ p i k f. go p i
     go : NonEmpty n B → (i : ℕ) → i < m → getD (set marks r v) i 0 ≡ 1 → Dec (i ≡ r) → propagateRowOf n (rowAt n A i) B ≡ record { outcome = unchanged; moved = 0; box = B }
     go p i k f (yes d) = rw d (e (sym (getD-set-same marks r v 0 h) ∙ (rw d at f)) p)
     go p i k f (no d) = c .same p i k (sym (getD-set-other marks r i v 0 d) ∙ f)
+
+-- a row that was tested and moves nothing
+quiet : (o : Outcome) → not (isUnchanged o) ≡ false → T (not (isInfeasible o)) × T (not (isChanged o))
+unfolding isUnchanged isInfeasible isChanged
+quiet infeasible e = absurd (true≢false e)
+quiet changed e = absurd (true≢false e)
+quiet unchanged e = (tt, tt)
+
+pub moves-none : (r : Row) {n : ℕ} {B : List ℤ} → 0 < n → rowMovesOf n r B ≡ false → NonEmpty n B
+    → propagateRowOf n r B ≡ record { outcome = unchanged; moved = 0; box = B }
+unfolding rowMovesOf
+moves-none r {n} {B} h e p =
+    let q = quiet (propagateRowOf n r B .outcome) e in
+    kinded-stays r h p (kinded-unchanged r p (q .0) (q .1))
 
 -- of the empty box nothing is said
 pub clean-empty : {n m : ℕ} {A : Rows} {B : List ℤ} (marks : List ℕ) → 0 < n → B ≡ emptyBox n → Clean n m A B marks
