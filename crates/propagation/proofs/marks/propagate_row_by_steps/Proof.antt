@@ -87,7 +87,7 @@ remark-requires c κs =
     (visited-remarks (given t) (r t) (t .pre .1 .0) (left k) (tightened _ (Q k) (heard k) (c .before .before .before .before .before .moved .given .1)) (t .pre .1 .1), omega (arith, given t .valid .kindsLen))
 
 shared-slice-read-after : tie.Need-shared-slice-read-after
-shared-slice-read-after c = let t = s (c .before .before .before .before .before .before .before .before .before .before .before .before .before .before) in omega (arith, given t .valid .kindsLen, t .pre .1 .0)
+shared-slice-read-after c = let t = s (c .before .before .before .before .before .before .before .before .before .before .before .before .before .before .before) in omega (arith, given t .valid .kindsLen, t .pre .1 .0)
 
 after-requires : tie.Need-after-requires
 after-requires c κs = tt
@@ -109,9 +109,9 @@ same-length-5 c = search needs
 
 returns-2 : tie.Need-returns-2
 returns-2 c =
-    let k = c .before .before .before .before .before .before .before .before .before .before .before .before .before .before .before in
-    let told = c .before .before .before .before .before .before .before .before .before .before .before .before .moved .given .1 in
-    let call = c .before .before .before .before .before .before .remark in
+    let k = c .before .before .before .before .before .before .before .before .before .before .before .before .before .before .before .before in
+    let told = c .before .before .before .before .before .before .before .before .before .before .before .before .before .moved .given .1 in
+    let call = c .before .before .before .before .before .before .before .remark in
     let t = s k in (
       said _ (Q k) (heard k) told,
       visited-moved (given t) (r t) (t .pre .1 .0) (left k) (tightened _ (Q k) (heard k) told) (call .last .1 .1 .1 .1 .1 .1 .1 .1 .1 .0) (c .after .result) (call .ensures .1 .1) (call .ensures .0)

@@ -78,7 +78,7 @@ remark-all-requires c κs =
     (g .watched .index .columns, omega (arith, g .valid .kindsLen), g .valid .few, ap length (g .watched .copied (g .nonEmpty)) ∙ g .nonEmpty .len, visited-nonEmpty g (r t) (t .pre .1) (left k) f .len, g .room)
 
 shared-slice-read-after : tie.Need-shared-slice-read-after
-shared-slice-read-after c = let t = s (c .before .before .before .before .before .before .before .before .before .before .before .before .before .before) in omega (arith, given t .valid .kindsLen, t .pre .1)
+shared-slice-read-after c = let t = s (c .before .before .before .before .before .before .before .before .before .before .before .before .before .before .before) in omega (arith, given t .valid .kindsLen, t .pre .1)
 
 after-requires : tie.Need-after-requires
 after-requires c κs = tt
@@ -100,9 +100,9 @@ same-length-5 c = search needs
 
 returns-2 : tie.Need-returns-2
 returns-2 c =
-    let k = c .before .before .before .before .before .before .before .before .before .before .before .before .before .before .before in
-    let told = c .before .before .before .before .before .before .before .before .before .before .before .before .moved .given .1 in
-    let call = c .before .before .before .before .before .before .remark-all in
+    let k = c .before .before .before .before .before .before .before .before .before .before .before .before .before .before .before .before in
+    let told = c .before .before .before .before .before .before .before .before .before .before .before .before .before .moved .given .1 in
+    let call = c .before .before .before .before .before .before .before .remark-all in
     let t = s k in (
       said _ (Q k) (heard k) told,
       visited-moved (given t) (r t) (t .pre .1) (left k) (tightened _ (Q k) (heard k) told) (call .last .1 .1 .1 .1 .1 .1 .1 .0) (c .after .result) (call .ensures .1 .1) (call .ensures .0)
