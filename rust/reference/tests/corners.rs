@@ -517,7 +517,7 @@ fn an_equality_row_is_removed_only_where_it_always_holds() {
 
 #[test]
 fn an_equality_row_is_not_tightened() {
-    // 3x + 2y ≤ 4 would become x + 2y ≤ 2, which (0, 1) and (1, 0) meet and 3x + 2y = 4 has neither of.
+    // Tightened as 3x + 2y ≤ 4 is, it would say x + 2y = 2, which (0, 1) meets; no integer point meets it.
     let mut model = Model::binary(2, &[(&[3, 2], 4)]).with_equal(&[0]);
     let before = model.clone();
     assert_eq!(model.tighten(0, 0), ok(&[2]));
@@ -548,7 +548,7 @@ fn the_empty_box_with_an_equality_row() {
 
 #[test]
 fn equality_rows_at_the_limits() {
-    // −(−1,000,000) and −(−1,000,000,000) are within the limits: 1,000 x = y with x 0..1,000.
+    // The negated form of a row at its limits is within the limits: both say x = 1,000.
     let bounds = [(0, 1_000), (-32_768, -32_768 + 4_096)];
     let mut model = Model::new(&bounds, &[(&[-1_000_000, 0], -1_000_000_000)]).with_equal(&[0]);
     assert_eq!(model.propagate_row(0), ok(&[1, 1]));
