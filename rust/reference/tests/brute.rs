@@ -50,15 +50,14 @@ fn small_model(rng: &mut Rng, max_n: i32) -> Model {
     let rows: Vec<(&[i32], i32)> = rows.iter().map(|(coefs, b)| (&coefs[..], *b)).collect();
     let mut model = Model::new(&bounds, &rows);
     let equal = [0, 0, 30, 100][rng.between(0, 3) as usize];
-    for r in 0..m {
+    for ((coefs, _), (kind, b)) in rows.iter().zip(model.kinds.iter_mut().zip(&mut model.rhs)) {
         if rng.between(1, 100) > equal {
             continue;
         }
-        model.kinds[r] = 1;
+        *kind = 1;
         // Mostly with the sum at some point of the box as right side: else nearly every model is empty.
         if rng.between(0, 3) > 0 {
-            let x = |pair: &(i32, i32), rng: &mut Rng| rng.between(pair.0, pair.1);
-            model.rhs[r] = bounds.iter().zip(rows[r].0).map(|(pair, a)| a * x(pair, rng)).sum();
+            *b = bounds.iter().zip(*coefs).map(|(&(l, u), a)| a * rng.between(l, u)).sum();
         }
     }
     model
