@@ -433,7 +433,7 @@ impl Model {
 
     /// Zeroes a row that the box alone implies (01's drop), and makes it a ≤ row. It is gone for this box and
     /// those inside it only: do not carry that over to another branch. An = row is implied only where its sum
-    /// is the same at every point of the box.
+    /// is its right-hand side at every point of the box.
     ///
     /// ```
     /// use astrolabe::{Model, Outcome};
