@@ -95,7 +95,19 @@ fn propagate_side(
 {
     copy_box(bounds, seen);
     remark_at(n, m, coefs, kinds, k, signs, seen, side, marks);
-    propagate_marked(n, m, side, coefs, rhs, kinds, budget, across, signs, seen, marks)
+    propagate_marked(
+        n,
+        m,
+        side,
+        coefs,
+        rhs,
+        kinds,
+        budget,
+        across,
+        signs,
+        seen,
+        marks,
+    )
 }
 
 // Side v of k, in the lent buffer: the box with k fixed at v, propagated with the budget, by the index and the marks of

@@ -1,9 +1,9 @@
-// The rows that a pass may pass over. A row is clean, its mark 1, while propagating it is known to move nothing: a ≤ row
-// was just propagated (`kinded-after`), an = row was and moved nothing; or it was clean and since then no bound moved
-// that it reads (`kinded-kept`: the other bounds of a smaller box only leave more room). A ≤ row reads the lower bound
-// where its coefficient is above 0 and the upper one where it is below; an = row, by its two forms, reads both. So a
-// clean row's answer, Unchanged, is exact. A row that read a moved bound is dirty, 2; 0 is a row that was not visited
-// yet.
+// The rows that a pass may pass over. A row is clean, its mark 1, while propagating it is known to move nothing: a ≤
+// row was just propagated (`kinded-after`), an = row was and moved nothing; or it was clean and since then no bound
+// moved that it reads (`kinded-kept`: the other bounds of a smaller box only leave more room). A ≤ row reads the lower
+// bound where its coefficient is above 0 and the upper one where it is below; an = row, by its two forms, reads both.
+// So a clean row's answer, Unchanged, is exact. A row that read a moved bound is dirty, 2; 0 is a row that was not
+// visited yet.
 use crate::index::know_signs;
 use crate::index::know_steps;
 use model::MAX_VARIABLES;
