@@ -1,5 +1,5 @@
--- `row::propagation::form_moves` is rowMoves of the row with its sign: in a box that is not empty, one comparison of the room with the widest term tells
--- (`moves-test`). Assumes nothing.
+-- `row::propagation::form_moves` is rowMoves of the row with its sign: in a box that is not empty, one comparison of the room with
+-- the widest term tells (`moves-test`). Assumes nothing.
 use borrow.Author.Needs.{needs}
 use Prim.Native.Nat.{ℕ}
 use lib.IntN.{ℤ}

@@ -1,5 +1,5 @@
--- `row::propagation::propagate_form` is propagateRow of the row with its sign: each way out is one of its four cases (`on-empty`, `quiet`, `unmet`, `moving`), told
--- by the least sum and the widest term, and the callees do the rest. Assumes nothing.
+-- `row::propagation::propagate_form` is propagateRow of the row with its sign: each way out is one of its four cases (`on-empty`,
+-- `quiet`, `unmet`, `moving`), told by the least sum and the widest term, and the callees do the rest. Assumes nothing.
 use Prim.Native.Nat.{ℕ}
 use borrow.Author.Needs.{needs}
 use lib.IntN.{_-ℤ_, ℤ}
@@ -7,7 +7,7 @@ use lib.ListN.{length}
 use lib.Signed.{_≤ℤ_}
 use mathlib.Core.Bool.{false}
 use mathlib.Core.List.{List}
-use mathlib.Core.Path.{_∙_, _≡_, refl, sym}
+use mathlib.Core.Path.{_∙_, _≡_, sym}
 use mir.Syntax.{w32, w64}
 use mir.Val.{ofZ, toZ}
 use Rattle.model.specs.Box.{isEmpty}
@@ -17,7 +17,7 @@ use Rattle.row.specs.Answers.{propagatedRowOf}
 use Rattle.row.specs.Kinds.{signed}
 use Rattle.row.specs.ValidRow.{ValidRow}
 use Rattle.row.proofs.ReachLaws.{least-read, moving, on-empty, quiet, slack, slack-fits, slack-read, unmet, widest-read}
-use Rattle.row.proofs.RowLoops.{bounds-small, coefs-small, min-activity-small, rhs-within}
+use Rattle.row.proofs.RowLoops.{implies-box, min-activity-small}
 use Rattle.row.proofs.SignedLaws.{sign-bits, sign-is, signed-row}
 use Rattle.row.proofs.propagation.propagate_form.Statement.{statement}
 use Rattle.row.proofs.propagation.propagate_form.Tie as tie
@@ -120,19 +120,7 @@ met c = let m = found (c .before) in ge-read (rhs-is m) (least-is m) (c .if3 .le
 tighten-bounds-requires : tie.Need-tighten-bounds-requires
 tighten-bounds-requires c κs =
     let m = found (c .before .before) in
-    let w = s m .pre .0 in (
-      rw (rhs-is m, least-is m) (record {
-        len = refl;
-        boxLen = w .coefs .box .len;
-        few = w .coefs .few;
-        coefs = coefs-small (w .coefs);
-        rhs = rhs-within (w .rhs);
-        activity = min-activity-small (v m .coefs);
-        met = met (c .before);
-        bounds = bounds-small (w .coefs);
-      }),
-      sign-bits (s m .pre .1),
-    )
+    (rw (rhs-is m, least-is m) (implies-box (s m .pre .0) (min-activity-small (v m .coefs)) (met (c .before))), sign-bits (s m .pre .1))
 
 same-length-4 : tie.Need-same-length-4
 same-length-4 c = search needs

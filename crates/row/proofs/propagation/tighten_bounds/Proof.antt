@@ -1,6 +1,6 @@
 -- `row::propagation::tighten_bounds`: the invariant says that the bounds of the variables so far are the implied ones (`writeTo`), and
 -- that `moved` tells how many of them differ (`moved-more`). A variable not yet visited has its old bounds (`writeTo-late`). Assumes nothing.
-use Prim.Native.Nat.{_*_, _+_, _-_, _≤_, ℕ}
+use Prim.Native.Nat.{_+_, _-_, _≤_, ℕ}
 use lib.IntN.{_*ℤ_, ℤ}
 use lib.ListN.{length}
 use mathlib.Core.List.{List}
@@ -15,9 +15,9 @@ use Rattle.model.proofs.BoxLoops.{writeTo}
 use Rattle.row.specs.Moved.{movedBounds}
 use Rattle.row.specs.Propagation.{impliedBox}
 use Rattle.row.specs.Kinds.{signed}
-use Rattle.row.specs.ValidRow.{ImpliesBounds, ImpliesBox}
+use Rattle.row.specs.ValidRow.{ImpliesBox}
 use Rattle.row.proofs.MovedLaws.{moved-le}
-use Rattle.row.proofs.RowLoops.{lower-there, moved-more, movedTo, tighten-all, tighten-more, tightenTo, upper-there}
+use Rattle.row.proofs.RowLoops.{implies-at, lower-there, moved-more, movedTo, tighten-all, tighten-more, tightenTo, upper-there}
 use Rattle.row.proofs.SignedLaws.{sign-bits, sign-is, signed-bits, signed-fits, signed-implies}
 use Rattle.row.proofs.propagation.tighten_bounds.Statement.{statement}
 use Rattle.row.proofs.propagation.tighten_bounds.Tie as tie
@@ -84,23 +84,13 @@ module _ (h : tie.At-loop Inv-loop μ-loop) where
   u-is : upper (h .loop .bounds) j ≡ upper B j
   u-is = ap (λ (P : List ℤ). upper P j) (h .loop .inv .2) ∙ upper-there A b L B j
 
-  implies : ImpliesBounds (at A j) (s .args .b) (s .args .least) (lower B j) (upper B j)
-  implies = record {
-    coef = v .coefs j;
-    rhs = v .rhs;
-    activity = v .activity;
-    met = v .met;
-    low = v .bounds (2 * j);
-    high = v .bounds (2 * j + 1);
-  }
-
 mul-tighten-bounds-at-2 : tie.Need-mul-tighten-bounds-at-2 Inv-loop μ-loop
 mul-tighten-bounds-at-2 c = let h = c .before .before in signed-fits (s h .pre .1) (C h) (j h) (s h .pre .0 .coefs (j h))
 
 tighten-bounds-at-requires : tie.Need-tighten-bounds-at-requires Inv-loop μ-loop
 tighten-bounds-at-requires c κs =
     let h = c .before .before .before in
-    (rw (a-is h, b-is h, least-is h, l-is h, u-is h) (implies h), omega (arith, s h .pre .0 .boxLen))
+    (rw (a-is h, b-is h, least-is h, l-is h, u-is h) (implies-at (A h) (s h .args .b) (s h .args .least) (B h) (v h) (j h)), omega (arith, s h .pre .0 .boxLen))
 
 add-moved : tie.Need-add-moved Inv-loop μ-loop
 add-moved c =
