@@ -15,6 +15,7 @@ ghost use Rattle.reducer.specs.CallLists.{listAnswer};
 ghost use Rattle.reducer.specs.OpenCalls.{probeAnswer, propagateAnswer, removeAnswer, restVerdict, rowAnswer};
 ghost use Rattle.reducer.specs.OpenCalls.{tightenAnswer};
 ghost use Rattle.rounds.specs.Answers.{roundsAnswer};
+ghost use Rattle.capi.specs.declared.reply.Reply.the-variants.{Numbers};
 ghost use Rattle.capi.specs.Replies.{bookReply, callReply, listReply, replyOf, restReply, roundsReply};
 
 pub fn row_reply(a: PropagateRowAnswer) -> Reply
@@ -28,14 +29,20 @@ pub fn row_reply(a: PropagateRowAnswer) -> Reply
     }
 }
 
+fn propagated(case: u64, passes: u32, moved: u32) -> Reply
+    ensures { λ r. ⌜ r ≡ Numbers case passes moved 0 ⌝ }
+{
+    Reply::Numbers(case, passes as u64, moved as u64, 0)
+}
+
 pub fn propagate_reply(a: PropagateAnswer) -> Reply
     ensures { λ r. ⌜ replyOf r ≡ callReply (propagateAnswer a) ⌝ }
 {
     match a {
         PropagateAnswer::Refused(number) => Reply::Refused(number),
-        PropagateAnswer::Infeasible(passes, moved) => Reply::Numbers(0, passes as u64, moved as u64, 0),
-        PropagateAnswer::Converged(passes, moved) => Reply::Numbers(1, passes as u64, moved as u64, 0),
-        PropagateAnswer::BudgetSpent(passes, moved) => Reply::Numbers(2, passes as u64, moved as u64, 0),
+        PropagateAnswer::Infeasible(passes, moved) => propagated(0, passes, moved),
+        PropagateAnswer::Converged(passes, moved) => propagated(1, passes, moved),
+        PropagateAnswer::BudgetSpent(passes, moved) => propagated(2, passes, moved),
     }
 }
 

@@ -27,43 +27,43 @@ rowAnswer-injective : (r s : PropagateRowAnswer) → rowAnswer r ≡ rowAnswer s
 unfolding rowAnswer
 rowAnswer-injective (row.Refused x) (row.Refused y) e = cc
 rowAnswer-injective (row.Refused x) row.Infeasible e = cc
-rowAnswer-injective (row.Refused x) row.Tightened e = cc
+rowAnswer-injective (row.Refused x) (row.Tightened y) e = cc
 rowAnswer-injective (row.Refused x) row.Unchanged e = cc
 rowAnswer-injective row.Infeasible (row.Refused y) e = cc
 rowAnswer-injective row.Infeasible row.Infeasible e = refl
-rowAnswer-injective row.Infeasible row.Tightened e = cc
+rowAnswer-injective row.Infeasible (row.Tightened y) e = cc
 rowAnswer-injective row.Infeasible row.Unchanged e = cc
-rowAnswer-injective row.Tightened (row.Refused y) e = cc
-rowAnswer-injective row.Tightened row.Infeasible e = cc
-rowAnswer-injective row.Tightened row.Tightened e = refl
-rowAnswer-injective row.Tightened row.Unchanged e = cc
+rowAnswer-injective (row.Tightened x) (row.Refused y) e = cc
+rowAnswer-injective (row.Tightened x) row.Infeasible e = cc
+rowAnswer-injective (row.Tightened x) (row.Tightened y) e = cc
+rowAnswer-injective (row.Tightened x) row.Unchanged e = cc
 rowAnswer-injective row.Unchanged (row.Refused y) e = cc
 rowAnswer-injective row.Unchanged row.Infeasible e = cc
-rowAnswer-injective row.Unchanged row.Tightened e = cc
+rowAnswer-injective row.Unchanged (row.Tightened y) e = cc
 rowAnswer-injective row.Unchanged row.Unchanged e = refl
 
 propagateAnswer-injective : (r s : PropagateAnswer) → propagateAnswer r ≡ propagateAnswer s → r ≡ s
 unfolding propagateAnswer
 propagateAnswer-injective (rows.Refused x) (rows.Refused y) e = cc
-propagateAnswer-injective (rows.Refused x) (rows.Infeasible y) e = cc
-propagateAnswer-injective (rows.Refused x) (rows.Converged y) e = cc
-propagateAnswer-injective (rows.Refused x) (rows.BudgetSpent y) e = cc
-propagateAnswer-injective (rows.Infeasible x) (rows.Refused y) e = cc
-propagateAnswer-injective (rows.Infeasible x) (rows.Infeasible y) e = cc
-propagateAnswer-injective (rows.Infeasible x) (rows.Converged y) e = cc
-propagateAnswer-injective (rows.Infeasible x) (rows.BudgetSpent y) e = cc
-propagateAnswer-injective (rows.Converged x) (rows.Refused y) e = cc
-propagateAnswer-injective (rows.Converged x) (rows.Infeasible y) e = cc
-propagateAnswer-injective (rows.Converged x) (rows.Converged y) e = cc
-propagateAnswer-injective (rows.Converged x) (rows.BudgetSpent y) e = cc
-propagateAnswer-injective (rows.BudgetSpent x) (rows.Refused y) e = cc
-propagateAnswer-injective (rows.BudgetSpent x) (rows.Infeasible y) e = cc
-propagateAnswer-injective (rows.BudgetSpent x) (rows.Converged y) e = cc
-propagateAnswer-injective (rows.BudgetSpent x) (rows.BudgetSpent y) e = cc
+propagateAnswer-injective (rows.Refused x) (rows.Infeasible y k) e = cc
+propagateAnswer-injective (rows.Refused x) (rows.Converged y k) e = cc
+propagateAnswer-injective (rows.Refused x) (rows.BudgetSpent y k) e = cc
+propagateAnswer-injective (rows.Infeasible x j) (rows.Refused y) e = cc
+propagateAnswer-injective (rows.Infeasible x j) (rows.Infeasible y k) e = cc
+propagateAnswer-injective (rows.Infeasible x j) (rows.Converged y k) e = cc
+propagateAnswer-injective (rows.Infeasible x j) (rows.BudgetSpent y k) e = cc
+propagateAnswer-injective (rows.Converged x j) (rows.Refused y) e = cc
+propagateAnswer-injective (rows.Converged x j) (rows.Infeasible y k) e = cc
+propagateAnswer-injective (rows.Converged x j) (rows.Converged y k) e = cc
+propagateAnswer-injective (rows.Converged x j) (rows.BudgetSpent y k) e = cc
+propagateAnswer-injective (rows.BudgetSpent x j) (rows.Refused y) e = cc
+propagateAnswer-injective (rows.BudgetSpent x j) (rows.Infeasible y k) e = cc
+propagateAnswer-injective (rows.BudgetSpent x j) (rows.Converged y k) e = cc
+propagateAnswer-injective (rows.BudgetSpent x j) (rows.BudgetSpent y k) e = cc
 
 reportOf-injective : (x y : Side) → reportOf x ≡ reportOf y → x ≡ y
 unfolding reportOf
-reportOf-injective x y e = ap (λ (s : semantic.Side). let r : Side = record { passes = s .passes; spent = s .spent } in r) e
+reportOf-injective x y e = ap (λ (s : semantic.Side). let r : Side = record { passes = s .passes; spent = s .spent; moved = s .moved } in r) e
 
 probeAnswer-injective : (r s : ProbeAnswer) → probeAnswer r ≡ probeAnswer s → r ≡ s
 unfolding probeAnswer

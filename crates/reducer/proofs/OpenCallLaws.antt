@@ -14,7 +14,7 @@ use Rattle.model.specs.Rows.{Rows, rowOf, rowsOf, setRow}
 use Rattle.model.specs.Valid.{ValidModel}
 use Rattle.model.proofs.CheckLaws.{fault-none}
 use Rattle.row.specs.Outcome.{Outcome}
-use Rattle.row.specs.Propagation.{propagateRow}
+use Rattle.row.specs.Propagation.{PropagatedRow, propagateRow}
 use Rattle.row.specs.Tightening.{NewRow, rowLeft}
 use Rattle.semantics.specs.CallList.{ListRun, runList}
 use Rattle.semantics.specs.CallChecks.{callFault, lentTable, recordChecks}
@@ -73,17 +73,7 @@ unfolding stateOf callOf
 on-row n m B C R kind row variable t e =
     let a = accepted (stateOf n m B C R []) (callOf (stateOf n m B C R []) kind row variable 0) e in (a .model, a .row t)
 
--- what the row's own call answered and left (o, Q) is what the visit performs
-module _ (n m : ℕ) (B C R : List ℤ) (row : ℕ) {x : Answer} {o : Outcome} {Q : List ℤ} where
-  pub row-propagated : let s = stateOf n m B C R [] in
-      let p = propagateRow n (rowOf n C row) (at R row) B in
-      callFault s (callOf s 1 row 0 0) ≡ 0 → x ≡ propagatedRow o → (o ≡ p .outcome) × (Q ≡ p .box)
-      → performed x (stateOf n m Q C R []) ≡ perform s (callOf s 1 row 0 0)
-  unfolding stateOf callOf performed act kindOf withBox
-  row-propagated f e h =
-      let s = stateOf n m B C R [] in sym (perform-accepted s (callOf s 1 row 0 0) f ∙ rw (e, h .0, h .1))
-
--- the same of a call c that may change its row: p is what its rule says of the row, and D and S are the rows with it
+-- what a call c that may change its row performs: p is what its rule says of the row, and D and S are the rows with it
 module _ (n m : ℕ) (B C R : List ℤ) (row : ℕ) (p : NewRow) (F : Outcome → Answer) (c : Call) {x : Answer} {o : Outcome} {D S : List ℤ} where
   pub row-changed : let s = stateOf n m B C R [] in
       act (kindOf (c .kind)) s c ≡ record { answer = F (p .outcome); state = withRow s row (rowLeft p) }
@@ -96,11 +86,17 @@ module _ (n m : ℕ) (B C R : List ℤ) (row : ℕ) (p : NewRow) (F : Outcome �
         state = record { model = record { n = n; m = m; box = B; rows = A }; table = [] };
       }) (sym (h .1))))
 
--- the same of a settle and of a probe: w is what the rows' propagation, or the probing, came to
+-- the same of a visit, a settle and a probe: w is what the row's or the rows' propagation, or the probing, came to
+pub row-propagated : (n m : ℕ) (B C R : List ℤ) (row : ℕ) → let s = stateOf n m B C R [] in
+    callFault s (callOf s 1 row 0 0) ≡ 0 → (w : PropagatedRow) → w ≡ propagateRow n (rowOf n C row) (at R row) B
+    → performed (propagatedRow (w .outcome) (w .moved)) (stateOf n m (w .box) C R []) ≡ perform s (callOf s 1 row 0 0)
+unfolding stateOf callOf performed act kindOf withBox
+row-propagated n m B C R row f w h = let s = stateOf n m B C R [] in sym (perform-accepted s (callOf s 1 row 0 0) f ∙ rw h)
+
 module _ (n m : ℕ) (B C R : List ℤ) (budget : ℕ) where
   pub rows-propagated : let s = stateOf n m B C R [] in
       callFault s (callOf s 2 0 0 budget) ≡ 0 → (w : Propagated) → w ≡ propagate budget n m (rowsOf C R) B
-      → performed (propagated (w .ending) (w .passes)) (stateOf n m (w .box) C R []) ≡ perform s (callOf s 2 0 0 budget)
+      → performed (propagated (w .ending) (w .passes) (w .moved)) (stateOf n m (w .box) C R []) ≡ perform s (callOf s 2 0 0 budget)
   unfolding stateOf callOf performed act kindOf withBox
   rows-propagated f w h = let s = stateOf n m B C R [] in sym (perform-accepted s (callOf s 2 0 0 budget) f ∙ rw h)
 
@@ -145,7 +141,7 @@ module _ (s r : State) (c : Call) (a : Answer) (e : performed a r ≡ perform s 
   ends-performed : Ends (c .budget) s a
   unfolding isRefused
   ends-performed = record {
-    passes = λ b p g. accepted-by (λ d. T (not (isRefused d))) (λ _ z. z) (rw g tt) .passes b p (answered ∙ g);
+    passes = λ b p k g. accepted-by (λ d. T (not (isRefused d))) (λ _ z. z) (rw g tt) .passes b p k (answered ∙ g);
     sides = λ b s0 s1 g. accepted-by (λ d. T (not (isRefused d))) (λ _ z. z) (rw g tt) .sidePasses b s0 s1 (answered ∙ g);
   }
 

@@ -4,21 +4,24 @@ use Prim.Native.Nat.{ℕ}
 use lib.Dec.{T, eqb}
 use lib.IntN.{ℤ}
 use mathlib.Core.Bool.{_&&_, not}
-use mathlib.Core.List.{List}
+use mathlib.Core.List.{List, []}
 use mathlib.Core.Logic.{⊎-elim}
 use mathlib.Core.Path.{_∙_, _≡_, ap, refl, sym}
 use Rattle.integer.proofs.Tests.{decide, eqb-test, neqb→ne, test-false}
 use Rattle.model.specs.Box.{at, sameList}
 use Rattle.model.specs.Rows.{Rows, rowOf, rowsOf, setRow}
+use Rattle.row.specs.Answers.{propagatedRowOf}
 use Rattle.row.specs.Outcome as outcomes
 use Rattle.row.specs.Outcome.{Outcome, isChanged, isInfeasible}
 use Rattle.row.specs.Propagation.{propagateRow}
+use Rattle.row.specs.declared.propagation.RowPropagation.{RowPropagation}
+use Rattle.row.specs.declared.propagation.RowPropagation.the-variants as visits
 use Rattle.row.specs.Redundancy.{removeRedundantRow}
 use Rattle.row.specs.Tightening.{NewRow, rowLeft, tightenCoefficient}
 use Rattle.semantics.specs.CallChecks.{callChecks, callFault, givenModel, isLent, recordChecks}
 use Rattle.semantics.specs.Perform.{Performed, act, perform}
 use Rattle.semantics.specs.Probe.{Probed, probe}
-use Rattle.semantics.specs.Propagate.{isNone, isSpent, propagate}
+use Rattle.semantics.specs.Propagate.{isNone, propagate}
 use Rattle.semantics.specs.Run.{CallClass, classOf, probeInfeasible, step}
 use Rattle.semantics.specs.Call.{Call, callOf, hasRow, isUnknown, kindOf, unknown, probing, propagation, rowPropagation, removal, tightening}
 use Rattle.model.specs.State.{State, stateOf, withBox, withRow}
@@ -27,6 +30,7 @@ use Rattle.semantics.proofs.CallLaws.{step-accepted}
 use Rattle.semantics.proofs.ClassLaws.{addsNone, classBy, probe-class, remove-class, propagate-class, tighten-class, propagate-row-class}
 use Rattle.step.specs.Classes.{outcomeClass, propagationClass}
 use Rattle.propagation.specs.Results.{propagationOf}
+use Rattle.propagation.proofs.MarkLaws.{left-by}
 use Rattle.propagation.specs.declared.Propagation.{Propagation}
 use Rattle.propagation.specs.declared.Propagation.the-variants.{Infeasible, Converged, BudgetSpent}
 
@@ -38,18 +42,26 @@ outcome-class outcomes.infeasible = refl
 outcome-class outcomes.changed = refl
 outcome-class outcomes.unchanged = refl
 
+-- what a row's propagation answered, whatever box it left
+row-class : (p : RowPropagation) (Q : List ℤ) → let o = propagatedRowOf p Q .outcome in
+    outcomeClass (propagatedRowOf p [] .outcome) ≡ classBy (isInfeasible o) (not (isChanged o))
+unfolding propagatedRowOf
+row-class visits.Infeasible Q = outcome-class outcomes.infeasible
+row-class (visits.Tightened k) Q = outcome-class outcomes.changed
+row-class visits.Unchanged Q = outcome-class outcomes.unchanged
+
 propagation-class : (p : Propagation) (Q : List ℤ) → let w = propagationOf p Q in
-    propagationClass p ≡ classBy (isNone (w .ending)) (not (isSpent (w .ending)) && eqb (w .passes) 1)
-unfolding propagationClass propagationOf isNone isSpent
-propagation-class (Infeasible p) Q = refl
-propagation-class (Converged p) Q = refl
-propagation-class (BudgetSpent p) Q = refl
+    propagationClass p ≡ classBy (isNone (w .ending)) (eqb (w .moved) 0)
+unfolding propagationClass propagationOf isNone
+propagation-class (Infeasible p k) Q = refl
+propagation-class (Converged p k) Q = refl
+propagation-class (BudgetSpent p k) Q = refl
 
 propagation-box : (p : Propagation) (Q : List ℤ) → propagationOf p Q .box ≡ Q
 unfolding propagationOf
-propagation-box (Infeasible p) Q = refl
-propagation-box (Converged p) Q = refl
-propagation-box (BudgetSpent p) Q = refl
+propagation-box (Infeasible p k) Q = refl
+propagation-box (Converged p k) Q = refl
+propagation-box (BudgetSpent p k) Q = refl
 
 -- ---- an accepted call
 
@@ -92,12 +104,12 @@ module _ (n m : ℕ) (B C R : List ℤ) (t : List ℕ) (kind row variable budget
   Ran k r = (k ≡ classOf s call) × (r ≡ step s call)
 
   module _ (f : callFault s call ≡ 0) {k : CallClass} where
-    pub ran-visit : {o : Outcome} {Q : List ℤ} → kindOf kind ≡ rowPropagation → k ≡ outcomeClass o
-        → let p = propagateRow n (rowOf n C row) (at R row) B in (o ≡ p .outcome) × (Q ≡ p .box) → Ran k (stateOf n m Q C R t)
+    pub ran-visit : (p : RowPropagation) (Q : List ℤ) → kindOf kind ≡ rowPropagation → k ≡ outcomeClass (propagatedRowOf p [] .outcome)
+        → propagatedRowOf p Q ≡ propagateRow n (rowOf n C row) (at R row) B → Ran k (stateOf n m Q C R t)
     unfolding stateOf callOf act withBox
-    ran-visit {o} {Q} q e h = (
-      e ∙ ap outcomeClass (h .0) ∙ outcome-class _ ∙ sym (propagate-row-class s call f q),
-      sym (step-accepted s call f ∙ rw (q, h .1)),
+    ran-visit p Q q e h = (
+      e ∙ row-class p Q ∙ rw h (sym (propagate-row-class s call f q)),
+      sym (step-accepted s call f ∙ rw (q, sym (left-by p Q h))),
     )
 
     pub ran-settle : (p : Propagation) (Q : List ℤ) → kindOf kind ≡ propagation → k ≡ propagationClass p

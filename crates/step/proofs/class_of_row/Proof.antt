@@ -1,6 +1,6 @@
 -- `step::class_of_row`: each outcome has its class. Assumes nothing.
 use borrow.Author.Needs.{needs}
-use Rattle.row.specs.Answers.{propagationOutcome}
+use Rattle.row.specs.Answers.{propagatedRowOf}
 use Rattle.step.specs.Classes.{classIs, outcomeClass}
 use Rattle.step.proofs.class_of_row.Statement.{statement}
 use Rattle.step.proofs.class_of_row.Tie as tie
@@ -15,15 +15,15 @@ enum-told-3 : tie.Need-enum-told-3
 enum-told-3 c = search needs
 
 returns : tie.Need-returns
-unfolding classIs outcomeClass propagationOutcome
+unfolding classIs outcomeClass propagatedRowOf
 returns c = rw (c .enum-told .given .1)
 
 returns-2 : tie.Need-returns-2
-unfolding classIs outcomeClass propagationOutcome
+unfolding classIs outcomeClass propagatedRowOf
 returns-2 c = rw (c .enum-told2 .given .1)
 
 returns-3 : tie.Need-returns-3
-unfolding classIs outcomeClass propagationOutcome
+unfolding classIs outcomeClass propagatedRowOf
 returns-3 c = rw (c .enum-told3 .given .1)
 
 pub class-of-row-spec : {M : Type 1} → statement M

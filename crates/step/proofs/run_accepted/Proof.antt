@@ -152,7 +152,7 @@ returns : tie.Need-returns
 returns c =
     let a = c .before .before .before .before .before .before in
     let s = a .before .before .before in
-    ran-visit (n s) (m s) (B s) (C s) (R s) (t s) (s .args .call .kind) (r s) (s .args .call .variable) (s .args .call .budget) (s .pre .1) (visits a)
+    ran-visit (n s) (m s) (B s) (C s) (R s) (t s) (s .args .call .kind) (r s) (s .args .call .variable) (s .args .call .budget) (s .pre .1) _ _ (visits a)
     (c .class-of-row .ensures)
     (c .before .before .propagate-row-at .ensures)
 

@@ -11,45 +11,36 @@ enum-known-a c = search needs
 enum-known-a-2 : tie.Need-enum-known-a-2
 enum-known-a-2 c = search needs
 
-cast-t10 : tie.Need-cast-t10
-cast-t10 c = search needs
-
-cast-t11 : tie.Need-cast-t11
-cast-t11 c = search needs
+propagated-requires : tie.Need-propagated-requires
+propagated-requires c κs = search needs
 
 enum-known-a-3 : tie.Need-enum-known-a-3
 enum-known-a-3 c = search needs
 
-cast-t12 : tie.Need-cast-t12
-cast-t12 c = search needs
-
-cast-t13 : tie.Need-cast-t13
-cast-t13 c = search needs
+propagated-requires-2 : tie.Need-propagated-requires-2
+propagated-requires-2 c κs = search needs
 
 enum-known-a-4 : tie.Need-enum-known-a-4
 enum-known-a-4 c = search needs
 
-cast-t14 : tie.Need-cast-t14
-cast-t14 c = search needs
-
-cast-t15 : tie.Need-cast-t15
-cast-t15 c = search needs
+propagated-requires-3 : tie.Need-propagated-requires-3
+propagated-requires-3 c κs = search needs
 
 returns : tie.Need-returns
-unfolding callReply propagateAnswer endingCase replyOf
+unfolding callReply propagateAnswer replyOf
 returns c = rw (c .before .a .given .1)
 
 returns-2 : tie.Need-returns-2
 unfolding callReply propagateAnswer endingCase replyOf
-returns-2 c = rw (c .before .a2 .given .1)
+returns-2 c = rw (c .before .before .a2 .given .1, c .propagated .ensures)
 
 returns-3 : tie.Need-returns-3
 unfolding callReply propagateAnswer endingCase replyOf
-returns-3 c = rw (c .before .a3 .given .1)
+returns-3 c = rw (c .before .before .a3 .given .1, c .propagated2 .ensures)
 
 returns-4 : tie.Need-returns-4
 unfolding callReply propagateAnswer endingCase replyOf
-returns-4 c = rw (c .before .a4 .given .1)
+returns-4 c = rw (c .before .before .a4 .given .1, c .propagated3 .ensures)
 
 pub propagate-reply-spec : {M : Type 1} → statement M
 propagate-reply-spec =
@@ -57,14 +48,11 @@ propagate-reply-spec =
     (tie.spec
     enum-known-a
     enum-known-a-2
-    cast-t10
-    cast-t11
+    propagated-requires
     enum-known-a-3
-    cast-t12
-    cast-t13
+    propagated-requires-2
     enum-known-a-4
-    cast-t14
-    cast-t15
+    propagated-requires-3
     returns
     returns-2
     returns-3

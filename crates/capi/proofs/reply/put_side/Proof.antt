@@ -1,9 +1,9 @@
+-- `capi::reply::put_side`: three stores. Assumes nothing.
 use borrow.Author.Needs.{needs}
+use lib.ListN.{length-set}
+use native.Mathlib.Omega.{arith}
 use Rattle.capi.proofs.reply.put_side.Statement.{statement}
 use Rattle.capi.proofs.reply.put_side.Tie as tie
-use Rattle.capi.proofs.reply.put_side.Reads as reads
-use Rattle.capi.proofs.reply.put_side.Lts as lts
-use Rattle.capi.proofs.reply.bit.Reads as bit-reads
 
 cast-answer : tie.Need-cast-answer
 cast-answer c = search needs
@@ -24,7 +24,7 @@ mul-answer-2 : tie.Need-mul-answer-2
 mul-answer-2 c = search needs
 
 slice-write-answer-2 : tie.Need-slice-write-answer-2
-slice-write-answer-2 c = ?
+slice-write-answer-2 c = simp length-set (omega arith)
 
 cast-answer-2 : tie.Need-cast-answer-2
 cast-answer-2 c = search needs
@@ -42,7 +42,7 @@ same-length : tie.Need-same-length
 same-length c = search needs
 
 returns : tie.Need-returns
-returns c = ?
+returns c = rw (c .before .bit .ensures)
 
 pub put-side-spec : {M : Type 1} → statement M
 put-side-spec =

@@ -54,7 +54,7 @@ module _ (c : tie.After-propagate) where
   Q = c .propagate .last .1 .1 .0
 
   done : {v : Propagation} → c .propagate .result ≡ v → let w = propagationOf v Q in
-      performed (propagated (w .ending) (w .passes)) (state s (w .box)) ≡ perform (before s) (call s)
+      performed (propagated (w .ending) (w .passes) (w .moved)) (state s (w .box)) ≡ perform (before s) (call s)
   done e =
       let a = s .args in
       rows-propagated (a .n) (a .m) (a .bounds .now) (a .coefs .now) (a .rhs .now) (a .budget) (no-fault (c .before .before)) _

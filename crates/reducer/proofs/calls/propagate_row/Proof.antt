@@ -4,14 +4,12 @@ use Prim.Native.Nat.{_<_, ℕ}
 use borrow.Author.Needs.{needs}
 use lib.IntN.{ℤ}
 use mathlib.Core.List.{List, []}
-use mathlib.Core.Path.{_∙_, _≡_, sym}
-use Rattle.model.specs.Box.{at}
-use Rattle.model.specs.Rows.{rowOf}
+use mathlib.Core.Path.{_∙_, _≡_, ap, sym}
 use Rattle.model.specs.Valid.{ValidModel}
-use Rattle.row.specs.Answers.{propagationOutcome}
-use Rattle.row.specs.Propagation.{propagateRow}
+use Rattle.row.specs.Answers.{propagatedRowOf}
+use Rattle.row.specs.declared.propagation.RowPropagation.{RowPropagation}
 use Rattle.semantics.specs.CallChecks.{callFault}
-use Rattle.semantics.specs.Perform.{Answer, perform, propagatedRow}
+use Rattle.semantics.specs.Perform.{perform, propagatedRow}
 use Rattle.semantics.specs.Call.{Call, callOf, hasRow, hasTable, kindOf}
 use Rattle.model.specs.State.{State, stateOf}
 use Rattle.model.specs.Model.{modelOf}
@@ -84,42 +82,41 @@ module _ (c : tie.After-propagate-row-at) where
   abbrev Q : List ℤ
   Q = c .propagate-row-at .last .1 .1 .1 .1 .0
 
-  heard : let p = propagateRow (n a) (rowOf (n a) (C a) (r a)) (at (R a) (r a)) (B a) in
-      (propagationOutcome (c .propagate-row-at .result) ≡ p .outcome) × (Q ≡ p .box)
-  heard = c .propagate-row-at .ensures
-
-  done : {x : Answer} → x ≡ propagatedRow (propagationOutcome (c .propagate-row-at .result)) → performed x (state (s a) Q) ≡ perform (before (s a)) (call (s a))
-  done e = row-propagated (n a) (s a .args .m) (B a) (C a) (R a) (r a) (no-fault a) e heard
+  done : {v : RowPropagation} → c .propagate-row-at .result ≡ v → let w = propagatedRowOf v Q in
+      performed (propagatedRow (w .outcome) (w .moved)) (state (s a) (w .box)) ≡ perform (before (s a)) (call (s a))
+  done e =
+      row-propagated (n a) (s a .args .m) (B a) (C a) (R a) (r a) (no-fault a) _
+      (ap (λ v. propagatedRowOf v Q) (sym e) ∙ c .propagate-row-at .ensures)
 
 enum-told : tie.Need-enum-told
 enum-told c = search needs
 
+enum-known-moved : tie.Need-enum-known-moved
+enum-known-moved c = search needs
+
 enum-told-2 : tie.Need-enum-told-2
 enum-told-2 c = search needs
-
-enum-told-3 : tie.Need-enum-told-3
-enum-told-3 c = search needs
 
 same-length-2 : tie.Need-same-length-2
 same-length-2 c = search needs
 
 returns-2 : tie.Need-returns-2
-unfolding rowAnswer propagationOutcome
-returns-2 c = let d = c .before .before .before in promised (before (s (a d))) (state (s (a d)) (Q d)) (call (s (a d))) _ (done d (rw (c .enum-told .given .1)))
+unfolding rowAnswer propagatedRowOf
+returns-2 c = let d = c .before .before .before in promised (before (s (a d))) (state (s (a d)) (Q d)) (call (s (a d))) _ (done d (c .enum-told .given .1))
 
 same-length-3 : tie.Need-same-length-3
 same-length-3 c = search needs
 
 returns-3 : tie.Need-returns-3
-unfolding rowAnswer propagationOutcome
-returns-3 c = let d = c .before .before .before in promised (before (s (a d))) (state (s (a d)) (Q d)) (call (s (a d))) _ (done d (rw (c .enum-told2 .given .1)))
+unfolding rowAnswer propagatedRowOf
+returns-3 c = let d = c .before .before .before .before in promised (before (s (a d))) (state (s (a d)) (Q d)) (call (s (a d))) _ (done d (c .before .moved .given .1))
 
 same-length-4 : tie.Need-same-length-4
 same-length-4 c = search needs
 
 returns-4 : tie.Need-returns-4
-unfolding rowAnswer propagationOutcome
-returns-4 c = let d = c .before .before .before in promised (before (s (a d))) (state (s (a d)) (Q d)) (call (s (a d))) _ (done d (rw (c .enum-told3 .given .1)))
+unfolding rowAnswer propagatedRowOf
+returns-4 c = let d = c .before .before .before in promised (before (s (a d))) (state (s (a d)) (Q d)) (call (s (a d))) _ (done d (c .enum-told2 .given .1))
 
 pub propagate-row-spec : {M : Type 1} → statement M
 propagate-row-spec =
@@ -130,8 +127,8 @@ propagate-row-spec =
     returns
     propagate-row-at-requires
     enum-told
+    enum-known-moved
     enum-told-2
-    enum-told-3
     same-length-2
     returns-2
     same-length-3
