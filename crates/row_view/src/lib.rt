@@ -1,6 +1,6 @@
-// One row, read in place (01, "Row sums"): a view of its n coefficients in the matrix, with its right side. No function
-// over a struct that holds a reference is covered, so each is thin and proved by hand: it takes the view apart and
-// leaves the work to a function over plain slices.
+// One row, read in place (01, "Row sums"): a view of its n coefficients in the matrix, with its right side and its kind.
+// No function over a struct that holds a reference is covered, so each is thin and proved by hand: it takes the view
+// apart and leaves the work to a function over plain slices.
 use row::activity::maximum_activity;
 use row::activity::minimum_activity;
 use row::propagation::RowPropagation;
@@ -11,7 +11,6 @@ use sweep::propagate_row_by;
 ghost use mathlib.Core.Path.{_≡_};
 ghost use Prim.Native.Nat.{_*_, _+_, _≤_};
 ghost use lib.ListN.{drop, length, take};
-ghost use Rattle.model.specs.Box.{at};
 ghost use Rattle.model.specs.Rows.{rowAt, rowOf, rowWith, rowsOf};
 ghost use Rattle.row.specs.Activity.{minActivity, maxActivity};
 ghost use Rattle.row.specs.Answers.{propagatedRowOf};
@@ -81,12 +80,12 @@ fn coefficients<'a>(n: usize, coefs: &'a [i32], r: usize) -> &'a [i32]
     &coefs[start..end]
 }
 
-// Row r of the matrix, with its right side.
-pub fn row_at<'a, 'b>(
+// Row r of the matrix, with its right side and its kind.
+pub fn row_at<'a, 'b, 'c>(
     n: usize,
     coefs: &'a [i32],
     rhs: &'b [i32],
-    kinds: &'b [u8],
+    kinds: &'c [u8],
     r: usize,
 ) -> Row<'a>
     requires { ⌜ RowIn n (rowsOf (now coefs) (now rhs) (now kinds)) r ⌝ }
@@ -102,13 +101,13 @@ pub fn row_at<'a, 'b>(
 }
 
 // Propagates row r of the matrix through its view: for callers with plain slices, which need no proof by hand.
-pub fn propagate_row_at<'a, 'b, 'c>(
+pub fn propagate_row_at<'a, 'b, 'c, 'd>(
     n: usize,
     coefs: &'a [i32],
     rhs: &'b [i32],
-    kinds: &'b [u8],
+    kinds: &'c [u8],
     r: usize,
-    bounds: &'c mut [i32],
+    bounds: &'d mut [i32],
 ) -> RowPropagation
     requires { let A = rowsOf (now coefs) (now rhs) (now kinds) in
         ⌜ RowIn n A r × ValidRow n (rowAt n A r .coefs) (rowAt n A r .rhs) (now bounds) ⌝ }
@@ -120,14 +119,14 @@ pub fn propagate_row_at<'a, 'b, 'c>(
 }
 
 // The same by steps that are a slice of their own.
-fn propagate_row_with<'a, 'b, 'c, 'd>(
+fn propagate_row_with<'a, 'b, 'c, 'd, 'e>(
     n: usize,
     coefs: &'a [i32],
     rhs: &'b [i32],
-    kinds: &'b [u8],
+    kinds: &'c [u8],
     r: usize,
-    steps: &'c [u8],
-    bounds: &'d mut [i32],
+    steps: &'d [u8],
+    bounds: &'e mut [i32],
 ) -> RowPropagation
     requires { let A = rowsOf (now coefs) (now rhs) (now kinds) in
         ⌜ RowIn n A r × ValidRow n (rowAt n A r .coefs) (rowAt n A r .rhs) (now bounds)
