@@ -69,7 +69,7 @@ fn side_of(p: Propagation) -> Side
 }
 
 // The box of a side, fixed already, propagated. It lies inside the box before, so rows clean there are clean here, but
-// for those that read the bound of k that moved (`same-kept`).
+// for those that read the bound of k that moved (`kinded-kept`).
 fn propagate_side(
     n: usize,
     m: usize,

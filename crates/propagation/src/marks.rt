@@ -1,8 +1,9 @@
-// The rows that a pass may pass over. A row is clean, its mark 1, while propagating it is known to move nothing: it was
-// just propagated (`same-after`), or it was clean and since then no bound moved that its minimum activity reads, the
-// lower one where its coefficient is above 0 and the upper one where it is below (`same-kept`: the other bounds of a
-// smaller box only leave more room); an = row, whose two forms read both bounds, is clean only once it moved nothing. So a clean row's answer, Unchanged, is exact. A row that read a moved bound is
-// dirty, 2; 0 is a row that was not visited yet.
+// The rows that a pass may pass over. A row is clean, its mark 1, while propagating it is known to move nothing: a ≤ row
+// was just propagated (`kinded-after`), an = row was and moved nothing; or it was clean and since then no bound moved
+// that it reads (`kinded-kept`: the other bounds of a smaller box only leave more room). A ≤ row reads the lower bound
+// where its coefficient is above 0 and the upper one where it is below; an = row, by its two forms, reads both. So a
+// clean row's answer, Unchanged, is exact. A row that read a moved bound is dirty, 2; 0 is a row that was not visited
+// yet.
 use crate::index::know_signs;
 use crate::index::know_steps;
 use model::MAX_VARIABLES;
@@ -10,7 +11,6 @@ pub use model::boxes::copy_box;
 use row::propagation::RowPropagation;
 use row_view::propagate_row_at;
 use row_view::propagate_row_at_by;
-ghost use mathlib.Core.Bool.{false};
 ghost use mathlib.Core.Bool.{false, true};
 ghost use mathlib.Core.Path.{_≡_};
 ghost use Prim.Native.Nat.{ℕ, _*_, _+_, _<_, _≤_};
@@ -157,7 +157,8 @@ fn remark(
     ensures left { λ _. ⌜ now (old .exit) ≡ now (new .entry) ⌝ }
     ensures marks { λ _.
         ⌜ ((r : ℕ) → r < m → getD (now (marks .exit)) r 0 ≡ 1 → (getD (now (marks .entry)) r 0 ≡ 1)
-        × ((j : ℕ) → j < n → Unread n (now (coefs .entry)) (now (kinds .entry)) r (now (old .entry)) (now (new .entry)) j)) ⌝ }
+        × ((j : ℕ) → j < n → Unread n (now (coefs .entry)) (now (kinds .entry)) r (now (old .entry))
+        (now (new .entry)) j)) ⌝ }
     ensures signs { λ _. ⌜ ColumnSigns n m (now (coefs .entry)) (now (signs .exit)) ⌝ }
 {
     let mut j = 0;
@@ -185,15 +186,15 @@ pub fn remark_all(
     ensures left { λ _. ⌜ now (old .exit) ≡ now (new .entry) ⌝ }
     ensures marks { λ _.
         ⌜ ((r : ℕ) → r < m → getD (now (marks .exit)) r 0 ≡ 1 → (getD (now (marks .entry)) r 0 ≡ 1)
-        × ((j : ℕ) → j < n → Unread n (now (coefs .entry)) (now (kinds .entry)) r (now (old .entry)) (now (new .entry)) j)) ⌝ }
+        × ((j : ℕ) → j < n → Unread n (now (coefs .entry)) (now (kinds .entry)) r (now (old .entry))
+        (now (new .entry)) j)) ⌝ }
     ensures signs { λ _. ⌜ ColumnSigns n m (now (coefs .entry)) (now (signs .exit)) ⌝ }
 {
     let ones = [1u8; MAX_VARIABLES];
     remark(n, m, coefs, kinds, signs, &ones, 0, old, new, marks);
 }
 
-// The mark of a row that has just moved a bound: a ≤ row moves nothing when it is propagated again (`same-after`); an =
-// row may.
+// The mark of a row that has just moved a bound: a ≤ row moves nothing when it is propagated again; an = row may.
 fn after(kind: u8) -> u8
     ensures { λ r. ⌜ (r ≡ 1 → kind ≡ 1 → ⊥) ⌝ }
 {
