@@ -27,6 +27,7 @@ ghost use Rattle.semantics.specs.Perform.{perform};
 ghost use Rattle.semantics.specs.Points.{AtRest};
 ghost use Rattle.semantics.specs.RestTest.{restFault};
 ghost use Rattle.semantics.specs.Call.{callOf};
+ghost use Rattle.model.specs.Rows.{rowsOf};
 ghost use Rattle.model.specs.State.{stateOf};
 ghost use Rattle.reducer.specs.OpenCalls.{Ends, Means, atRest, performed, probeAnswer, propagateAnswer};
 ghost use Rattle.reducer.specs.OpenCalls.{removeAnswer, rest, restVerdict, rowAnswer, tightenAnswer};
@@ -219,19 +220,19 @@ pub fn tighten_coefficient(
     bounds: &[i32],
     coefs: &mut [i32],
     rhs: &mut [i32],
-    kinds: &mut [u8],
+    kinds: &[u8],
     row: u32,
     variable: u32,
 ) -> TightenAnswer
     ensures defined { λ r.
         let A = rowsOf (now (coefs .entry)) (now (rhs .entry)) (now (kinds .entry)) in
-        let A' = rowsOf (now (coefs .exit)) (now (rhs .exit)) (now (kinds .exit)) in
+        let A' = rowsOf (now (coefs .exit)) (now (rhs .exit)) (now (kinds .entry)) in
         let s = stateOf n m (now (bounds .entry)) A [] in
         let r' = stateOf n m (now (bounds .entry)) A' [] in
         ⌜ performed (tightenAnswer r) r' ≡ perform s (callOf s 4 row variable 0) ⌝ }
     ensures meaning { λ r.
         let A = rowsOf (now (coefs .entry)) (now (rhs .entry)) (now (kinds .entry)) in
-        let A' = rowsOf (now (coefs .exit)) (now (rhs .exit)) (now (kinds .exit)) in
+        let A' = rowsOf (now (coefs .exit)) (now (rhs .exit)) (now (kinds .entry)) in
         let s = stateOf n m (now (bounds .entry)) A [] in
         let r' = stateOf n m (now (bounds .entry)) A' [] in
         ⌜ Means s r' (tightenAnswer r) ⌝ }

@@ -8,6 +8,7 @@ ghost use mathlib.Core.Path.{_≡_};
 ghost use lib.Dec.{T};
 ghost use Rattle.semantics.specs.CallChecks.{callFault};
 ghost use Rattle.semantics.specs.Call.{callOf, hasTable, kindOf};
+ghost use Rattle.model.specs.Rows.{rowsOf};
 ghost use Rattle.model.specs.State.{stateOf};
 ghost use Rattle.step.specs.Calls.{callOn};
 

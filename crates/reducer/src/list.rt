@@ -6,6 +6,7 @@ use step::count;
 use step::run_record;
 ghost use mathlib.Core.Path.{_≡_};
 ghost use Rattle.semantics.specs.CallList.{listFault, runList};
+ghost use Rattle.model.specs.Rows.{rowsOf};
 ghost use Rattle.model.specs.State.{stateOf};
 ghost use Rattle.semantics.specs.TwoLists.{CountsAddUp, Demand3Lists, ListMeans};
 ghost use Rattle.semantics.specs.TwoRuns.{EveryModelHandedIn};

@@ -21,6 +21,7 @@ ghost use Rattle.row.specs.Tightening.{mayTighten};
 ghost use Rattle.model.specs.Valid.{ValidState};
 ghost use Rattle.semantics.specs.Run.{run as ran};
 ghost use Rattle.step.specs.Classes.{classIs};
+ghost use Rattle.model.specs.Rows.{rowsOf};
 ghost use Rattle.model.specs.State.{stateOf};
 ghost use Rattle.rounds.specs.Answers.{roundsAnswer};
 ghost use Rattle.rounds.specs.TightenedAt.{TightenedAt};
@@ -39,7 +40,7 @@ pub enum RoundsAnswer {
     AtLimit(u32),
 }
 
-// Whether a call changed a bound, row or table byte.
+// Whether a call changed a bound, row (its kind too) or table byte.
 fn is_changed(class: CallClass) -> bool
     ensures { λ r. ⌜ r ≡ isChange (classIs class) ⌝ }
 {
@@ -97,15 +98,14 @@ fn may_tighten_at(
     bounds: &[i32],
     coefs: &[i32],
     rhs: &[i32],
-    kinds: &[u8],
     row: usize,
     k: usize,
     most: i64,
 ) -> bool
-    requires { ⌜ TightenedAt n (now bounds) (rowsOf (now coefs) (now rhs) (now kinds)) row k most ⌝ }
+    requires { ⌜ TightenedAt n (now bounds) (now coefs) (now rhs) row k most ⌝ }
     ensures { λ r.
         let a = at (now (coefs .entry)) (row * n + k) in
-        let b = at (now (rhs .entry)) (now (kinds .entry)) row in
+        let b = at (now (rhs .entry)) row in
         ⌜ r ≡ (isFree (now (bounds .entry)) k && mayTighten a most b) ⌝ }
 {
     if !is_free(bounds, k) {
@@ -144,7 +144,7 @@ fn tighten_row(
     let mut changed = false;
     let mut k: u32 = 0;
     while (k as usize) < n {
-        if may_tighten_at(n, bounds, coefs, rhs, kinds, row as usize, k as usize, most) {
+        if may_tighten_at(n, bounds, coefs, rhs, row as usize, k as usize, most) {
             let call = Call {
                 kind: TIGHTEN_COEFFICIENT,
                 row,

@@ -96,7 +96,8 @@ pub record CallMeans (s : State) (c : Call) : Type 0 where
   -- "After it the integer points are exactly those before it, and no fractional point is added."
   pub points : (x : List ℤ) → PointOf (perform s c .state) x ↔ PointOf s x
   pub fractional : (x : List ℤ) (d : ℕ) → FractionalPointOf (perform s c .state) x d → FractionalPointOf s x d
-  -- None exactly where the box is empty afterwards; "`None` means that no integer point exists."
+  -- None exactly where the box is empty afterwards; "`None` means that no integer point exists." A fractional one may: 2x = 5 with x
+  -- from 0 to 5 is None, and x = 5/2 meets it.
   pub none : T (answersNone (perform s c .answer)) ↔ (perform s c .state .model .box ≡ emptyBox (s .model .n))
   pub noPoint : T (answersNone (perform s c .answer)) → (x : List ℤ) → PointOf s x → ⊥
   -- "every accepted call ends within its pass budget": a settle with 1 to budget passes, a probe's sides likewise, or 0 and 0 on

@@ -14,7 +14,7 @@ use Rattle.semantics.specs.Propagate.{Ending, propagate}
 -- 01's answers: the number of the check that refused the call; or the case and the numbers of the call's kind
 pub data Answer : Type 0 where
   refused : ℕ → Answer
-  -- visit: None, Narrowed, Same, and the number of bounds moved
+  -- visit, of a row by its kind: None, Narrowed, Same, and the number of bounds moved
   propagatedRow : Outcome → ℕ → Answer
   -- settle: None, Settled or Spent, the passes made and the number of bounds moved
   propagated : Ending → ℕ → ℕ → Answer
@@ -29,7 +29,7 @@ pub record Performed : Type 0 where
   pub answer : Answer
   pub state : State
 
--- an accepted call of each kind; its rule's own definition says the rest
+-- an accepted call of each kind; its rule's own definition says the rest, of an = row too. Only a drop writes a kind.
 unfoldable pub act : Kind → State → Call → Performed
 act rowPropagation s c =
     let M = s .model in

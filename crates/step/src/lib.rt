@@ -19,6 +19,7 @@ ghost use mathlib.Core.Path.{_≡_};
 ghost use Prim.Native.Nat.{_+_, _<_, _^_};
 ghost use Rattle.row.specs.Answers.{propagatedRowOf, removalOutcome, tighteningOutcome};
 ghost use Rattle.probing.specs.Marked.{Marked};
+ghost use Rattle.model.specs.Rows.{rowsOf};
 ghost use Rattle.semantics.specs.CallChecks.{callFault};
 ghost use Rattle.model.specs.Valid.{ValidState};
 ghost use Rattle.semantics.specs.Run.{classOf, countCall, step};
@@ -124,10 +125,8 @@ fn run_probe_marked(
         let r' = stateOf n m (now (bounds .exit)) A (now (table .exit)) in
         ⌜ r' ≡ step s (callOf s 3 0 variable budget) ⌝ }
     ensures marks { λ r.
-        let B = now (bounds .exit) in
-        let C = now (coefs .entry) in
-        let R = now (rhs .entry) in
-        ⌜ Marked n m B C R (now (across .exit)) (now (signs .exit)) (now (marks .exit)) ⌝ }
+        let A = rowsOf (now (coefs .entry)) (now (rhs .entry)) (now (kinds .entry)) in
+        ⌜ Marked n m (now (bounds .exit)) A (now (across .exit)) (now (signs .exit)) (now (marks .exit)) ⌝ }
 {
     let len = bounds.len();
     let mut before = [0i32; 2 * MAX_VARIABLES];
@@ -318,10 +317,8 @@ pub fn run_probe_record(
         let r' = stateOf n m (now (bounds .exit)) A (now (table .exit)) in
         ⌜ r' ≡ step s (callOf s 3 0 variable budget) ⌝ }
     ensures marks { λ r.
-        let B = now (bounds .exit) in
-        let C = now (coefs .entry) in
-        let R = now (rhs .entry) in
-        ⌜ Marked n m B C R (now (across .exit)) (now (signs .exit)) (now (marks .exit)) ⌝ }
+        let A = rowsOf (now (coefs .entry)) (now (rhs .entry)) (now (kinds .entry)) in
+        ⌜ Marked n m (now (bounds .exit)) A (now (across .exit)) (now (signs .exit)) (now (marks .exit)) ⌝ }
 {
     let call = Call {
         kind: PROBE,
