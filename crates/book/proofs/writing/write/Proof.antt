@@ -80,7 +80,7 @@ body : (w : tie.After-write-rows)
     w .write-rows .last .1 .1 .1 .0 ≡ overwrite (8 * M .n) (joined (M .m) (rowBytesAt (M .n) (M .rows))) (overwrite 0 (boundBytes M) (s .args .book .now))
 unfolding integersBytes boundBytes rowBytes
 body w =
-    let M = lent-model (w .before .before .before .before .before .before .before .before .before .before) in
+    let M = lent-model (w .before .before .before .before .before .before .before .before .before .before .before) in
     let v = ready (w .before .before .before .before .before .before) .0 in
     w .write-rows .ensures
     ∙ ap₂ (λ (k : ℕ) (bs : List ℕ). overwrite (8 * M .n) (joined k (rowBytesAt (M .n) (M .rows))) bs) (v .rhsLen)
