@@ -19,6 +19,9 @@ most-coefs-requires c κs = search needs
 most-rhs-requires : tie.Need-most-rhs-requires
 most-rhs-requires c κs = search needs
 
+most-kinds-requires : tie.Need-most-kinds-requires
+most-kinds-requires c κs = search needs
+
 largest-table-requires : tie.Need-largest-table-requires
 largest-table-requires c κs = search needs
 
@@ -88,6 +91,7 @@ reduce-spec =
     most-bounds-requires
     most-coefs-requires
     most-rhs-requires
+    most-kinds-requires
     largest-table-requires
     mul-bounds-len
     mul-coefs-len
