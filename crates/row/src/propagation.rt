@@ -188,7 +188,8 @@ pub fn propagate_row(coefs: &[i32], b: i32, kind: u8, bounds: &mut [i32]) -> Row
     requires { ⌜ ValidRow (length (now coefs)) (now coefs) b (now bounds) ⌝ }
     ensures { λ r.
         let A = now (coefs .entry) in
-        ⌜ propagatedRowOf r (now (bounds .exit)) ≡ propagateRowOf (length A) (rowWith A b kind) (now (bounds .entry)) ⌝ }
+        ⌜ propagatedRowOf r (now (bounds .exit))
+        ≡ propagateRowOf (length A) (rowWith A b kind) (now (bounds .entry)) ⌝ }
 {
     let first = propagate_form(coefs, 1, b, bounds);
     if kind != 1 {

@@ -1,5 +1,5 @@
-// Row r of a matrix that a call may change: the rule is lent its coefficients, its right side and its kind in place, and
-// every other row stays as it was.
+// Row r of a matrix that a call may change: the rule is lent its coefficients, right side and kind in place, and every
+// other row stays as it was.
 use row::activity::maximum_activity;
 use row::redundancy::RowRemoval;
 use row::redundancy::remove_redundant_row;

@@ -150,7 +150,8 @@ pub fn propagate_row_by(
     requires { ⌜ Steps (length (now coefs)) (now coefs) (now steps) ⌝ }
     ensures { λ r.
         let A = now (coefs .entry) in
-        ⌜ propagatedRowOf r (now (bounds .exit)) ≡ propagateRowOf (length A) (rowWith A b kind) (now (bounds .entry)) ⌝ }
+        ⌜ propagatedRowOf r (now (bounds .exit))
+        ≡ propagateRowOf (length A) (rowWith A b kind) (now (bounds .entry)) ⌝ }
 {
     let first = propagate_form_by(coefs, steps, 1, b, bounds);
     if kind != 1 {
