@@ -28,6 +28,7 @@ pub fn answer_fault(n: usize, m: usize) -> u32
     5
 }
 
+// Sets every place to 0.
 fn clear(answer: &mut [u64])
     ensures { λ r. ⌜ now (answer .exit) ≡ replicate (length (now (answer .entry))) 0 ⌝ }
 {

@@ -10,6 +10,7 @@ use Rattle.model.specs.Checks.{bits, boxChecks, first, inRange, lengthChecks, m
 use Rattle.model.specs.Rows.{isEquality, negated, negatedCoefs, rowOf, setRow, splice}
 use Rattle.row.specs.Kinds.{andThen as bothForms, propagateRowOf, removeRowOf, tightenRowOf}
 use Rattle.row.specs.Activity.{maxActivity, maxTerm, minActivity, minTerm}
+use Rattle.row.specs.Moved.{differs, movedBounds}
 use Rattle.row.specs.Outcome.{isChanged, isInfeasible}
 use Rattle.row.specs.Propagation.{impliedBox, newLower, newUpper, propagateRow, stays}
 use Rattle.row.specs.Redundancy.{removeRedundantRow, zeroRow}
@@ -51,5 +52,5 @@ example-output : output book ≡
     ∷ 105 ∷ 32 ∷ 48 ∷ 32 ∷ 49 ∷ 32 ∷ 49 ∷ 32 ∷ 48 ∷ 10
     ∷ 105 ∷ 32 ∷ 49 ∷ 32 ∷ 49 ∷ 32 ∷ 48 ∷ 32 ∷ 48 ∷ 10
     ∷ []
-unfolding book output roundsText stateRead textOf zeros floorDiv ceilDiv sum all minZ maxZ eqZ boxOf sameList emptyBox isEmpty isFree first inRange ordered bits sizeChecks lengthChecks tableLengthChecks boxChecks narrow numberChecks tableByteChecks modelChecks modelFault rowOf isEquality negated negatedCoefs bothForms propagateRowOf removeRowOf tightenRowOf minTerm maxTerm minActivity maxActivity isInfeasible isChanged newUpper newLower impliedBox stays propagateRow zeroRow removeRedundantRow tightenAt tightenCoefficient lentTable givenModel isLent recordChecks callChecks callFault act perform fix hull literal byteOf put implies isFixed recordSide recordTo sideOf joinSides probe passRow passTo propagateFrom propagate isNone isSpent step run probeInfeasible answersNone isRefused sameBytes sameState classOf lengthsOf kindOf hasRow hasVariable hasBudget hasTable isUnknown stateOf callOf withBox splice withRow setRow bookLength rowPlace trailerOf boundsOf rhsOf coefsOf kindsOf modelIn decode offsetChecks layoutChecks givenLengthChecks headChecks bookChecks bookFault numberOf signedOf numberAt integerAt integersAt joined andThen upwards unlessEmpty probeCall probes round isChange anyChange after roundsFrom roundsFault runRounds field fields refusedLine noneLine reducedLine variableLine rowLine implicationLine variableAt isZeroRow rowAt byteLine implicationAt report digits decimal signed texts propagateCall removeCall tightenCall removals tightenRow tightenings
+unfolding movedBounds differs book output roundsText stateRead textOf zeros floorDiv ceilDiv sum all minZ maxZ eqZ boxOf sameList emptyBox isEmpty isFree first inRange ordered bits sizeChecks lengthChecks tableLengthChecks boxChecks narrow numberChecks tableByteChecks modelChecks modelFault rowOf minTerm maxTerm minActivity maxActivity isInfeasible isChanged newUpper newLower impliedBox stays propagateRow zeroRow removeRedundantRow tightenAt tightenCoefficient lentTable givenModel isLent recordChecks callChecks callFault act perform fix hull literal byteOf put implies isFixed recordSide recordTo sideOf joinSides probe passRow passTo propagateFrom propagate isNone isSpent step run probeInfeasible answersNone isRefused sameBytes sameState classOf lengthsOf kindOf hasRow hasVariable hasBudget hasTable isUnknown stateOf callOf withBox splice withRow setRow bookLength rowPlace trailerOf boundsOf rhsOf coefsOf modelIn decode offsetChecks layoutChecks givenLengthChecks headChecks bookChecks bookFault numberOf signedOf numberAt integerAt integersAt joined andThen upwards unlessEmpty probeCall probes round isChange anyChange after roundsFrom roundsFault runRounds field fields refusedLine noneLine reducedLine variableLine rowLine implicationLine variableAt isZeroRow rowAt byteLine implicationAt report digits decimal signed texts propagateCall removeCall tightenCall removals tightenRow tightenings isEquality negated negatedCoefs bothForms propagateRowOf removeRowOf tightenRowOf kindsOf
 example-output = refl

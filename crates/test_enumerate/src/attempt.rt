@@ -1,35 +1,60 @@
 // One call on a model, and whether the points agree with those of before.
 use crate::grid;
 use crate::lies::spoil;
+use crate::lies::spoil_before;
+use crate::models::boxes;
 use crate::models::put_model;
+use crate::moved;
 use crate::rooms::bounds_part;
 use crate::rooms::coefs_part;
 use crate::rooms::rhs_part;
 use crate::rooms::row_count;
 use crate::rooms::table_part;
 use rounds::RoundsAnswer;
-use test_support::made;
 use test_support::made::DROP;
+use test_support::made::is_none;
 use test_support::made::make;
 use test_support::parts::bytes_part_mut;
 
-// Makes a call, or for a kind beyond them the rounds of `reduce`, and says whether it answers None.
-fn is_none(
+// What a call said: whether it answered None, and whether the number of bounds that it moved is right.
+struct Said {
+    none: bool,
+    moved: bool,
+}
+
+// Makes a call on model `code`, or for a kind beyond them the rounds of `reduce`.
+fn say(
     n: usize,
-    m: usize,
+    code: usize,
     bounds: &mut [i32],
     coefs: &mut [i32],
     rhs: &mut [i32],
     table: &mut [u8],
     call: [u32; 4],
-) -> bool {
+    lie: u32,
+) -> Said {
     if call[0] <= DROP {
-        return made::is_none(make(n, m, bounds, coefs, rhs, table, call));
+        let made = make(n, row_count(n), bounds, coefs, rhs, table, call);
+        let mut room = [0i32; 8];
+        let before = bounds_part(&mut room, n);
+        boxes(before, code);
+        spoil_before(lie, before);
+        return Said {
+            none: is_none(made),
+            moved: moved::agrees(made, before, bounds),
+        };
     }
-    let RoundsAnswer::Infeasible(_) = rounds::run(n, m, bounds, coefs, rhs, table, 8) else {
-        return false;
+    let RoundsAnswer::Infeasible(_) = rounds::run(n, row_count(n), bounds, coefs, rhs, table, 8)
+    else {
+        return Said {
+            none: false,
+            moved: true,
+        };
     };
-    true
+    Said {
+        none: true,
+        moved: true,
+    }
 }
 
 // Whether the points are those that were marked before, None is said of none, and each recorded implication holds.
@@ -57,7 +82,7 @@ pub fn agrees(
     true
 }
 
-// One call on a fresh model, with a mistake put in: whether the points agree.
+// One call on a fresh model, with a mistake put in: whether the points and the bounds moved agree.
 pub fn attempt(n: usize, code: usize, call: [u32; 4], marks: &[u8], lie: u32) -> bool {
     let mut box_room = [0i32; 8];
     let mut coef_room = [0i32; 12];
@@ -68,7 +93,7 @@ pub fn attempt(n: usize, code: usize, call: [u32; 4], marks: &[u8], lie: u32) ->
     let rhs = rhs_part(&mut side_room, n);
     let table = table_part(&mut table_room, n);
     put_model(code, bounds, coefs, rhs);
-    let none = is_none(n, row_count(n), bounds, coefs, rhs, table, call);
+    let said = say(n, code, bounds, coefs, rhs, table, call, lie);
     spoil(lie, code, call, bounds, coefs, rhs, table);
-    agrees(n, bounds, coefs, rhs, table, marks, none || lie == 5)
+    said.moved && agrees(n, bounds, coefs, rhs, table, marks, said.none || lie == 5)
 }

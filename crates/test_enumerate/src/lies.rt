@@ -64,3 +64,10 @@ pub fn spoil(
         _ => {}
     }
 }
+
+// 6: the upper bound of variable 0 before the call moved out to 3, so that one bound more differs than was moved.
+pub fn spoil_before(lie: u32, before: &mut [i32]) {
+    if lie == 6 {
+        set_upper(before, 3);
+    }
+}

@@ -22,7 +22,7 @@ pub fn next_code(code: usize) -> usize {
 }
 
 // Each l and u: all ten boxes within -1..2.
-fn boxes(bounds: &mut [i32], code: usize) {
+pub fn boxes(bounds: &mut [i32], code: usize) {
     let lower = LOWER;
     let upper = UPPER;
     let n = bounds.len() / 2;

@@ -19,6 +19,12 @@ fn item(word: &[u8], number: u32) {
     count(number as usize);
 }
 
+// How a propagation ended, its passes and the bounds that it moved.
+fn ended(word: &[u8], passes: u32, moved: u32) {
+    item(word, passes);
+    item(b" moved", moved);
+}
+
 pub fn refused(number: u32) {
     item(b" refused", number);
 }
@@ -27,7 +33,7 @@ fn propagated_row(a: PropagateRowAnswer) {
     match a {
         PropagateRowAnswer::Refused(number) => refused(number),
         PropagateRowAnswer::Infeasible => text(b" infeasible"),
-        PropagateRowAnswer::Tightened => text(b" tightened"),
+        PropagateRowAnswer::Tightened(moved) => item(b" tightened", moved),
         PropagateRowAnswer::Unchanged => text(b" unchanged"),
     }
 }
@@ -35,17 +41,17 @@ fn propagated_row(a: PropagateRowAnswer) {
 fn propagated(a: PropagateAnswer) {
     match a {
         PropagateAnswer::Refused(number) => refused(number),
-        PropagateAnswer::Infeasible(passes) => item(b" infeasible", passes),
-        PropagateAnswer::Converged(passes) => item(b" converged", passes),
-        PropagateAnswer::BudgetSpent(passes) => item(b" spent", passes),
+        PropagateAnswer::Infeasible(passes, moved) => ended(b" infeasible", passes, moved),
+        PropagateAnswer::Converged(passes, moved) => ended(b" converged", passes, moved),
+        PropagateAnswer::BudgetSpent(passes, moved) => ended(b" spent", passes, moved),
     }
 }
 
 fn side(s: Side) {
     if s.spent {
-        item(b" spent", s.passes);
+        ended(b" spent", s.passes, s.moved);
     } else {
-        item(b" side", s.passes);
+        ended(b" side", s.passes, s.moved);
     }
 }
 

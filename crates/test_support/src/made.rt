@@ -65,7 +65,7 @@ pub fn is_none(made: Made) -> bool {
             };
         }
         Made::Propagated(a) => {
-            let PropagateAnswer::Infeasible(_) = a else {
+            let PropagateAnswer::Infeasible(_, _) = a else {
                 return false;
             };
         }
