@@ -1,5 +1,5 @@
-// The calls on a model in memory. Every call is refused by the model's checks first, 3, 5, 6, 7, 23, 8 and 9, and then
-// by those that its own comment names.
+// The calls on a model in memory. Every call is refused by the model's checks first, 3, 5, 6, 7, 23, 8, 9 and 16, and
+// then by those that its own comment names. Only removing a row, a list and the rounds write kinds.
 use crate::answers::probe_reply;
 use crate::answers::propagate_reply;
 use crate::answers::remove_reply;
@@ -19,6 +19,7 @@ use reducer::calls::remove_redundant_row;
 use reducer::calls::tighten_coefficient;
 ghost use mathlib.Core.List.{[]};
 ghost use mathlib.Core.Path.{_≡_};
+ghost use Rattle.model.specs.Rows.{rowsOf};
 ghost use Rattle.model.specs.State.{stateOf};
 ghost use Rattle.capi.specs.Exports.{callExport, exported, listExport, restExport, roundsExport};
 
@@ -114,14 +115,14 @@ pub extern "C" fn astrolabe_tighten_coefficient(
     bounds: &[i32],
     coefs: &mut [i32],
     rhs: &mut [i32],
-    kinds: &mut [u8],
+    kinds: &[u8],
     row: u32,
     variable: u32,
     answer: &mut [u64],
 ) -> u32
     ensures { λ r.
         let A = rowsOf (now (coefs .entry)) (now (rhs .entry)) (now (kinds .entry)) in
-        let A' = rowsOf (now (coefs .exit)) (now (rhs .exit)) (now (kinds .exit)) in
+        let A' = rowsOf (now (coefs .exit)) (now (rhs .exit)) (now (kinds .entry)) in
         let s = stateOf n m (now (bounds .entry)) A [] in
         let r' = stateOf n m (now (bounds .entry)) A' [] in
         ⌜ exported r (now (answer .exit)) r' ≡ callExport (now (answer .entry)) s 4 row variable 0 ⌝ }
