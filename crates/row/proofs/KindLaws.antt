@@ -1,5 +1,5 @@
 -- Laws of the calls on a row that has a kind: those of a ≤ row, cited once for a ≤ row and twice for an = row.
-use Prim.Native.Nat.{_<_, suc, zero, ℕ}
+use Prim.Native.Nat.{_<_, ℕ}
 use lib.Dec.{T, T-not, not-T}
 use lib.IntN.{negℤ, pos, ℤ}
 use lib.Signed.{_<ℤ_, _≤ℤ_}

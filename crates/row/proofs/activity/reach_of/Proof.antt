@@ -14,7 +14,7 @@ use Rattle.integer.specs.Order.{maxZ}
 use Rattle.integer.specs.Range.{Within}
 use Rattle.integer.proofs.RangeLaws.{within-fits}
 use Rattle.model.specs.Box.{at, lower, upper}
-use Rattle.row.specs.Activity.{greatest, minActivity, minTerm, widestTerm}
+use Rattle.row.specs.Activity.{greatest, minActivity, widestTerm}
 use Rattle.row.specs.Kinds.{signed}
 use Rattle.row.specs.ValidRow.{ValidCoefs}
 use Rattle.row.proofs.ReachLaws.{greatest-more, least-zero, widest-zero, minTermAt, widthAt}

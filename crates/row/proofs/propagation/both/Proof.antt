@@ -1,10 +1,6 @@
 -- `row::propagation::both` is bothForms, case by case. Assumes nothing.
 use borrow.Author.Needs.{needs}
-use mathlib.Core.List.{[], _∷_}
-use mathlib.Core.Logic.{⊎-elim}
-use mathlib.Core.Path.{_≡_, refl}
 use native.Mathlib.Omega.{arith}
-use Prim.Native.Nat.{ℕ}
 use Rattle.row.specs.Answers.{bothForms}
 use Rattle.row.proofs.KindMoves.{both-second}
 use Rattle.row.proofs.propagation.both.Statement.{statement}

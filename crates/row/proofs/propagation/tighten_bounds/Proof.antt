@@ -1,6 +1,6 @@
 -- `row::propagation::tighten_bounds`: the invariant says that the bounds of the variables so far are the implied ones (`writeTo`), and
 -- that `moved` tells how many of them differ (`moved-more`). A variable not yet visited has its old bounds (`writeTo-late`). Assumes nothing.
-use Prim.Native.Nat.{_+_, _-_, _≤_, ℕ}
+use Prim.Native.Nat.{_-_, _≤_, ℕ}
 use lib.IntN.{_*ℤ_, ℤ}
 use lib.ListN.{length}
 use mathlib.Core.List.{List}
