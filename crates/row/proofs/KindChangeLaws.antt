@@ -1,6 +1,6 @@
 -- Laws of tightening and removing a row that has a kind: the new row may take the old one's place over the box, within the limits.
 use Prim.Native.Nat.{_<_, ℕ}
-use lib.Dec.{T, T-not, eqb, not-T}
+use lib.Dec.{T, T-not, eqb}
 use lib.IntN.{_*ℤ_, pos, ℤ}
 use lib.ListN.{length}
 use lib.Signed.{_≤ℤ_}
@@ -11,7 +11,7 @@ use mathlib.Core.Path.{_≡_, ap, refl, sym}
 use native.Mathlib.Omega.{arith}
 use Rattle.integer.specs.Order.{eqZ}
 use Rattle.integer.proofs.Parts.{zarith}
-use Rattle.integer.proofs.Tests.{T→false, T→true, and-l, and-r, cond-ind, eqZ→eq, eqb-test}
+use Rattle.integer.proofs.Tests.{T→false, T→true, and-l, and-r, cond-ind, eqZ→eq}
 use Rattle.model.specs.Box.{at, isEmpty, isFree}
 use Rattle.model.specs.Point.{InBox, InBoxOver, Meets, MeetsOver}
 use Rattle.model.specs.Rows.{Row, isEquality}
@@ -22,6 +22,7 @@ use Rattle.row.specs.Redundancy.{removeRedundantRow, zeroRow}
 use Rattle.row.specs.Tightening.{tightenCoefficient}
 use Rattle.row.specs.ValidRow.{ValidRow}
 use Rattle.row.proofs.ActivityLaws.{dot-le-maxActivity, dot-over-le-maxActivity, minActivity-le-dot, minActivity-le-dot-over}
+use Rattle.row.proofs.KindLaws.{other-kind}
 use Rattle.row.proofs.RedundancyLaws.{dot-zeroRow, length-zeroRow, remove-redundant-row-changed, remove-redundant-row-infeasible, remove-redundant-row-replaces, remove-redundant-row-unchanged, remove-redundant-row-valid, valid-zeroRow}
 use Rattle.row.proofs.Replacement.{Replaces}
 use Rattle.row.proofs.TighteningLaws.{tighten-coefficient-changed, tighten-coefficient-infeasible, tighten-coefficient-length, tighten-coefficient-other, tighten-coefficient-replaces, tighten-coefficient-unchanged, tighten-coefficient-valid}
@@ -50,7 +51,7 @@ replaces-row-le {n} r q f g w = record {
 
 -- the test of a kind byte fails
 pub le-kind : (kind : ℕ) → (kind ≡ 1 → ⊥) → eqb kind 1 ≡ false
-le-kind kind q = T→false (eqb kind 1) (not-T (eqb kind 1) (λ t. q (eqb-test kind 1 .0 t)))
+le-kind kind q = T→false (eqb kind 1) (other-kind kind q)
 
 -- ---- tightening
 

@@ -1,6 +1,6 @@
 -- Laws of the calls on a row that has a kind: those of a ≤ row, cited once for a ≤ row and twice for an = row.
 use Prim.Native.Nat.{_<_, ℕ}
-use lib.Dec.{T, T-not, not-T}
+use lib.Dec.{T, T-not, eqb, not-T}
 use lib.IntN.{negℤ, pos, ℤ}
 use lib.Signed.{_<ℤ_, _≤ℤ_}
 use mathlib.Core.Bool.{Bool, _||_, cond, false, not, true}
@@ -8,7 +8,7 @@ use mathlib.Core.List.{List}
 use mathlib.Core.Logic.{_≢_, _⊎_, inl, inr, ⊎-elim}
 use mathlib.Core.Path.{_∙_, _≡_, ap, refl, subst, sym}
 use Rattle.integer.proofs.Parts.{mul-mono, zarith, zify}
-use Rattle.integer.proofs.Tests.{T→false, cond-ind, decide, lt-or-ge, or-cases}
+use Rattle.integer.proofs.Tests.{T→false, cond-ind, decide, eqb-test, lt-or-ge, or-cases}
 use Rattle.model.specs.Box.{Inside, NonEmpty, at, emptyBox, isEmpty, width}
 use Rattle.model.specs.Point.{InBox, InBoxOver, Meets, MeetsOver}
 use Rattle.model.specs.Rows.{Row, isEquality, negated}
@@ -44,6 +44,11 @@ negated-valid {n} r {B} v = record {
   };
   rhs = neg-between 1_000_000_000 (v .rhs);
 }
+
+-- ---- a kind byte that is not 1
+
+pub other-kind : (kind : ℕ) → (kind ≡ 1 → ⊥) → T (not (eqb kind 1))
+other-kind kind q = not-T (eqb kind 1) (λ t. q (eqb-test kind 1 .0 t))
 
 -- ---- a ≤ row is propagated as before: "First-edition books have kind 0 throughout"
 

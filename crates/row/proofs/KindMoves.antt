@@ -1,6 +1,6 @@
 -- Whether propagating a row of either kind would answer other than Same, by its forms; and what the answers of the two forms come to.
 use Prim.Native.Nat.{_*_, _+_, _≤_, ℕ}
-use lib.Dec.{T, eqb, not-T}
+use lib.Dec.{T, eqb}
 use lib.IntN.{negℤ, ℤ}
 use lib.ListN.{length}
 use mathlib.Core.Bool.{Bool, _||_, cond, false, not, true}
@@ -20,7 +20,7 @@ use Rattle.row.proofs.propagation.RowPropagation.{the-type}
 use types.Run.{OneOf}
 use denote.Enum.Declared.{tagOf}
 use Rattle.row.specs.declared.propagation.RowPropagation.the-variants as propagation
-use Rattle.row.proofs.KindLaws.{kinded-le}
+use Rattle.row.proofs.KindLaws.{kinded-le, other-kind}
 use Rattle.row.proofs.KindMovedLaws.{equality-moves}
 use Rattle.row.proofs.PropagationLaws.{propagate-row-moved, propagate-row-moved-le}
 use Rattle.row.proofs.ReachLaws.{moves-not}
@@ -130,7 +130,7 @@ module _ (n : ℕ) (C : List ℤ) (b : ℤ) (B : List ℤ) (f : RowPropagation) 
 
   pub le-answer : (kind : ℕ) → (kind ≡ 1 → ⊥) → propagatedRowOf f P ≡ propagateRowOf n (rowWith C b kind) B
   unfolding isEquality
-  le-answer kind q = e ∙ sym (kinded-le n (rowWith C b kind) B (not-T (eqb kind 1) (λ t. q (eqb-test kind 1 .0 t))))
+  le-answer kind q = e ∙ sym (kinded-le n (rowWith C b kind) B (other-kind kind q))
 
   pub none-answer : (kind : ℕ) → kind ≡ 1 → f ≡ propagation.Infeasible → propagatedRowOf f P ≡ propagateRowOf n (rowWith C b kind) B
   unfolding propagateRowOf andThen isEquality

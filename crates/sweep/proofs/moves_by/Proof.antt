@@ -1,12 +1,12 @@
 -- `sweep::moves_by` is rowMovesOf: the ≤ form decides where it moves anything, else the negated form in the same box
 -- (`moves-first`, `moves-second`). Assumes nothing.
-use lib.Dec.{eqb, not-T}
 use lib.ListN.{length}
 use mathlib.Core.Logic.{inl, inr}
 use mathlib.Core.Path.{_∙_, _≡_, refl, sym}
 use Rattle.integer.proofs.Tests.{eqb-test}
 use Rattle.model.specs.Rows.{isEquality, negated, rowWith}
 use Rattle.row.specs.Propagation.{rowMoves}
+use Rattle.row.proofs.KindLaws.{other-kind}
 use Rattle.row.proofs.KindMoves.{moves-first, moves-le, moves-second}
 use Rattle.row.proofs.SignedLaws.{negated-rhs, rhs-fits, rhs-negated, rhs-read, signed-negated, signed-one}
 use Rattle.sweep.proofs.moves_by.Statement.{statement}
@@ -28,7 +28,7 @@ unfolding isEquality
 returns-2 c =
     let m = c .before .before in
     let k = m .before .before .args .kind in
-    sym (moves-le _ (rowWith _ _ k) _ (not-T (eqb k 1) (λ t. c .if2 .taken (eqb-test k 1 .0 t))) ∙ sym (first-says m) ∙ c .before .if1 .left)
+    sym (moves-le _ (rowWith _ _ k) _ (other-kind k (c .if2 .taken)) ∙ sym (first-says m) ∙ c .before .if1 .left)
 
 sub-form-moves-by : tie.Need-sub-form-moves-by
 sub-form-moves-by c = rhs-fits (c .before .before .before .before .pre .0)
