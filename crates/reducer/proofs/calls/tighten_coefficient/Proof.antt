@@ -8,7 +8,7 @@ use mathlib.Core.Path.{_∙_, _≡_, refl, sym}
 use Rattle.model.specs.Box.{at}
 use Rattle.model.specs.Rows.{rowOf}
 use Rattle.model.specs.Valid.{ValidModel}
-use Rattle.row.specs.Answers.{tighteningOutcome}
+use Rattle.row_change.specs.Answers.{tighteningOutcome}
 use Rattle.row.specs.Tightening.{tightenCoefficient}
 use Rattle.semantics.specs.CallChecks.{callFault}
 use Rattle.semantics.specs.Perform.{Answer, act, perform, tightened}
