@@ -1,7 +1,6 @@
 -- No answer of the code hides another: each of the two meanings is injective.
 use mathlib.Core.Path.{_≡_, refl}
 use Rattle.row_change.specs.Answers.{removalOutcome, tighteningOutcome}
-use Rattle.row.specs.declared.propagation.RowPropagation.{RowPropagation}
 use Rattle.row_change.specs.declared.tightening.CoefficientTightening.{CoefficientTightening}
 use Rattle.row_change.specs.declared.tightening.CoefficientTightening.the-variants as tightening
 use Rattle.row_change.specs.declared.redundancy.RowRemoval.{RowRemoval}

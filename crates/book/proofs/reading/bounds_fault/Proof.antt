@@ -10,7 +10,7 @@ use native.Mathlib.Omega.{arith}
 use Rattle.model.specs.Checks.{first, numberChecks}
 use Rattle.model.specs.Rows.{rowsOf}
 use Rattle.book.specs.Book.{boundsOf}
-use Rattle.book.specs.Bytes.{integersAt}
+use Rattle.bytes.specs.Bytes.{integersAt}
 use Rattle.book.proofs.reading.bounds_fault.Statement.{statement}
 use Rattle.book.proofs.reading.bounds_fault.Tie as tie
 

@@ -7,7 +7,7 @@ use mathlib.Core.Path.{_∙_, _≡_, ap, ap₂, sym}
 use native.Mathlib.Omega.{arith}
 use Rattle.book.specs.Answers.{boundsRead, coefsRead, readCall, readFault, rhsRead, sizesAnswer, sizesAre}
 use Rattle.book.specs.Book.{HoldsModel, boundsOf, coefsOf, decode, modelIn, rhsOf, rowPlace}
-use Rattle.book.specs.Bytes.{Bytes, integersAt}
+use Rattle.bytes.specs.Bytes.{Bytes, integersAt}
 use Rattle.book.proofs.AcceptLaws.{Head, head-holds, read-passed}
 use Rattle.book.proofs.AnswerLaws.{accepted-by, becomes, refused-by, stays}
 use Rattle.book.proofs.EncodeLaws.{row-within}

@@ -5,8 +5,8 @@ use borrow.Author.Needs.{needs}
 use mathlib.Core.Path.{_≡_, refl}
 use native.Mathlib.Omega.{arith}
 use Rattle.report.specs.Report.{lineAt}
-use Rattle.report.specs.Text.{Wrote, chunk}
-use Rattle.report.proofs.TextLaws.{_⨾_, chunk-more, chunk-none, wrote-length, wrote-none}
+use Rattle.text.specs.Text.{Wrote, chunk}
+use Rattle.text.proofs.TextLaws.{_⨾_, chunk-more, chunk-none, wrote-length, wrote-none}
 use Rattle.report.proofs.report.fill.Statement.{statement}
 use Rattle.report.proofs.report.fill.Tie as tie
 
