@@ -16,9 +16,9 @@ use Rattle.book.proofs.AcceptLaws.{decoded-sizes, head-numbered, head-test, siz
 use Rattle.model.specs.Checks.{Check, first, lengthChecks, must}
 use Rattle.model.proofs.CheckLaws.{fails, first-go, first-stop, first-zero-append, numbered}
 use Rattle.model.specs.Model.{modelOf}
-use Rattle.capi.specs.Exports.{bookAnswered, bookExported, lentTo, wrongLength}
-use Rattle.capi.specs.Replies.{returned, written}
-use Rattle.capi.specs.declared.reply.Reply.{Reply}
+use Rattle.capi.specs.Exports.{bookAnswered, bookExported, lentTo}
+use Rattle.replies.specs.Replies.{returned, written, wrongLength}
+use Rattle.replies.specs.declared.reply.Reply.{Reply}
 
 pub book-refused : (A : List ℕ) (before : List Check) (q : Reply) {number : ℕ} → (length A ≡ 6 → ⊥) → number ≡ wrongLength before
     → bookExported number A ≡ bookAnswered A before q

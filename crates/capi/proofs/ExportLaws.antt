@@ -1,36 +1,23 @@
--- What the proofs of the exported calls share: six stores make an answer, a wrong length is refused, a reply is written. Assumes
--- nothing.
+-- What the proofs of the exported calls share: a wrong length is refused, a reply is written. Assumes nothing.
 use Prim.Native.Nat.{ℕ}
 use borrow.Author.Tests.{eq-eqb, ne-eqb}
-use lib.ListN.{length, set}
+use lib.ListN.{length}
 use mathlib.Core.Bool.{Bool, cond}
-use mathlib.Core.List.{List, [], _∷_}
+use mathlib.Core.List.{List}
 use mathlib.Core.Path.{_∙_, _≡_, ap, ap₂, refl, sym}
-use native.Mathlib.Omega.{arith}
 use Rattle.model.specs.Checks.{sizeChecks}
-use Rattle.reducer.specs.CallLists.{listAnswer, listRun}
+use Rattle.flat_list.specs.ListAnswers.{listAnswer, listRun}
 use Rattle.reducer.specs.OpenCalls.{RestVerdict, performed, rest}
-use Rattle.reducer.specs.declared.list.RunAnswer.{RunAnswer}
+use Rattle.flat_list.specs.declared.RunAnswer.{RunAnswer}
 use Rattle.rounds.specs.Rounds.{RoundsAnswer, runRounds}
 use Rattle.semantics.specs.CallList.{ListRun, runList}
 use Rattle.semantics.specs.Perform.{Answer, Performed, perform}
 use Rattle.semantics.specs.Run.{run}
 use Rattle.model.specs.State.{State}
 use Rattle.semantics.specs.Call.{callOf}
-use Rattle.capi.specs.Exports.{answered, callExport, exported, listExport, restExport, roundsExport, wrongLength}
-use Rattle.capi.specs.Replies.{callReply, listReply, restReply, returned, roundsReply, written}
-use Rattle.capi.specs.declared.reply.Reply.{Reply}
-
--- six stores into a list of six leave the six
-pub six-stored : (A : List ℕ) (a b c d e f : ℕ) → length A ≡ 6 → set (set (set (set (set (set A 0 a) 1 b) 2 c) 3 d) 4 e) 5 f ≡ a ∷ b ∷ c ∷ d ∷ e ∷ f ∷ []
-six-stored [] a b c d e f h = absurd (let k : ⊥ = omega (arith, h) in k)
-six-stored (u ∷ []) a b c d e f h = absurd (let k : ⊥ = omega (arith, h) in k)
-six-stored (u ∷ v ∷ []) a b c d e f h = absurd (let k : ⊥ = omega (arith, h) in k)
-six-stored (u ∷ v ∷ w ∷ []) a b c d e f h = absurd (let k : ⊥ = omega (arith, h) in k)
-six-stored (u ∷ v ∷ w ∷ x ∷ []) a b c d e f h = absurd (let k : ⊥ = omega (arith, h) in k)
-six-stored (u ∷ v ∷ w ∷ x ∷ y ∷ []) a b c d e f h = absurd (let k : ⊥ = omega (arith, h) in k)
-six-stored (u ∷ v ∷ w ∷ x ∷ y ∷ z ∷ []) a b c d e f h = refl
-six-stored (u ∷ v ∷ w ∷ x ∷ y ∷ z ∷ t ∷ ts) a b c d e f h = absurd (let k : ⊥ = omega (arith, h) in k)
+use Rattle.capi.specs.Exports.{answered, callExport, exported, listExport, restExport, roundsExport}
+use Rattle.replies.specs.Replies.{callReply, listReply, restReply, returned, roundsReply, written, wrongLength}
+use Rattle.replies.specs.declared.reply.Reply.{Reply}
 
 -- the answer's length is wrong: refused by 3 or 5, and everything stays
 pub length-refused : (A : List ℕ) (s : State) (q : Reply) (r : State) {number : ℕ} → (length A ≡ 6 → ⊥) → number ≡ wrongLength (sizeChecks (s .model .n) (s .model .m))

@@ -5,11 +5,11 @@ use Prim.Native.Nat.{ℕ}
 use lib.Dec.{eqb, leb}
 use lib.IntN.{ℤ}
 use lib.ListN.{length}
-use mathlib.Core.Bool.{cond, false}
-use mathlib.Core.List.{List, [], _++_, _∷_}
+use mathlib.Core.Bool.{cond}
+use mathlib.Core.List.{List, [], _∷_}
 use Rattle.book.specs.Answers.{readCall, trailerCall}
 use Rattle.book.specs.BookChecks.{headChecks}
-use Rattle.model.specs.Checks.{Check, first, must, sizeChecks}
+use Rattle.model.specs.Checks.{Check, must, sizeChecks}
 use Rattle.reducer.specs.OpenCalls.{rest}
 use Rattle.rounds.specs.Rounds.{runRounds}
 use Rattle.semantics.specs.CallList.{runList}
@@ -17,16 +17,12 @@ use Rattle.semantics.specs.Perform.{perform}
 use Rattle.semantics.specs.Run.{run}
 use Rattle.model.specs.State.{State}
 use Rattle.semantics.specs.Call.{callOf}
-use Rattle.capi.specs.Replies.{bookReply, callReply, listReply, restReply, returned, roundsReply, written}
-use Rattle.capi.specs.declared.reply.Reply.{Reply}
+use Rattle.replies.specs.Replies.{bookReply, callReply, listReply, restReply, returned, roundsReply, written, wrongLength}
+use Rattle.replies.specs.declared.reply.Reply.{Reply}
 
 -- "The buffer must be exactly 6 long (else refused by 5, nothing written)"
 abbrev pub answerLength : ℕ
 answerLength = 6
-
--- the number that a wrong answer length is refused by: of the checks that come before 5 the first that fails, else 5
-unfoldable pub wrongLength : List Check → ℕ
-wrongLength before = first (before ++ (must false 5 ∷ []))
 
 -- ---- calls on a model
 

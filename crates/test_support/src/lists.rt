@@ -26,7 +26,7 @@ pub fn execute(
     fill_naturals(words, len.next, all, &mut calls);
     let list = naturals_part(&calls, all);
     text(b":");
-    ran(reducer::list::run(n, m, bounds, coefs, rhs, table, list));
+    ran(flat_list::run(n, m, bounds, coefs, rhs, table, list));
     line();
 }
 
