@@ -1,4 +1,5 @@
--- What the enums that the code returns stand for among 01's answers. Each is injective: no answer hides another (`answers-injective`).
+-- What the enum that the code returns stands for among 01's answers. The reading is injective: no answer hides another
+-- (`propagationOutcome-injective`).
 use Rattle.row.specs.Outcome.{Outcome, changed, infeasible, unchanged}
 use Rattle.row.specs.declared.propagation.RowPropagation.{RowPropagation}
 use Rattle.row.specs.declared.propagation.RowPropagation.the-variants as propagation

@@ -1,5 +1,8 @@
--- No answer of the code hides another: each of the two meanings is injective.
+-- No answer of the three calls on a row hides another: each of their meanings is injective.
 use mathlib.Core.Path.{_≡_, refl}
+use Rattle.row.specs.Answers.{propagationOutcome}
+use Rattle.row.specs.declared.propagation.RowPropagation.{RowPropagation}
+use Rattle.row.proofs.AnswerLaws.{propagationOutcome-injective}
 use Rattle.row_change.specs.Answers.{removalOutcome, tighteningOutcome}
 use Rattle.row_change.specs.declared.tightening.CoefficientTightening.{CoefficientTightening}
 use Rattle.row_change.specs.declared.tightening.CoefficientTightening.the-variants as tightening

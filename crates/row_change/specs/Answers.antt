@@ -1,4 +1,4 @@
--- What the enums that the code returns stand for among 01's answers. Each is injective: no answer hides another (`proofs/AnswerLaws`).
+-- What the enums that the code returns stand for among 01's answers. Each is injective: no answer hides another (`answers-injective`).
 use Rattle.row.specs.Outcome.{Outcome, changed, infeasible, unchanged}
 use Rattle.row_change.specs.declared.redundancy.RowRemoval.{RowRemoval}
 use Rattle.row_change.specs.declared.redundancy.RowRemoval.the-variants as removal
