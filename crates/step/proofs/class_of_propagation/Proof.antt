@@ -6,15 +6,6 @@ use Rattle.step.specs.Classes.{classIs, propagationClass}
 use Rattle.step.proofs.class_of_propagation.Statement.{statement}
 use Rattle.step.proofs.class_of_propagation.Tie as tie
 
-enum-told : tie.Need-enum-told
-enum-told c = search needs
-
-enum-known-p : tie.Need-enum-known-p
-enum-known-p c = search needs
-
-enum-told-2 : tie.Need-enum-told-2
-enum-told-2 c = search needs
-
 returns : tie.Need-returns
 unfolding classIs propagationClass
 returns c = rw (c .enum-told .given .1)
@@ -32,4 +23,4 @@ unfolding classIs propagationClass
 returns-4 c = rw (c .enum-told2 .given .1)
 
 pub class-of-propagation-spec : {M : Type 1} → statement M
-class-of-propagation-spec = tie.close (tie.spec enum-told enum-known-p enum-told-2 returns returns-2 returns-3 returns-4)
+class-of-propagation-spec = tie.close (tie.spec (λ c. search needs) (λ c. search needs) (λ c. search needs) returns returns-2 returns-3 returns-4)

@@ -5,27 +5,6 @@ use Rattle.replies.specs.Replies.{callReply, probeEnded}
 use Rattle.replies.proofs.answers.probe_reply.Statement.{statement}
 use Rattle.replies.proofs.answers.probe_reply.Tie as tie
 
-enum-known-a : tie.Need-enum-known-a
-enum-known-a c = search needs
-
-enum-known-a-2 : tie.Need-enum-known-a-2
-enum-known-a-2 c = search needs
-
-probed-requires : tie.Need-probed-requires
-probed-requires c κs = search needs
-
-enum-known-a-3 : tie.Need-enum-known-a-3
-enum-known-a-3 c = search needs
-
-probed-requires-2 : tie.Need-probed-requires-2
-probed-requires-2 c κs = search needs
-
-enum-known-a-4 : tie.Need-enum-known-a-4
-enum-known-a-4 c = search needs
-
-probed-requires-3 : tie.Need-probed-requires-3
-probed-requires-3 c κs = search needs
-
 returns : tie.Need-returns
 unfolding callReply probeAnswer
 returns c = rw (c .before .a .given .1)
@@ -46,13 +25,13 @@ pub probe-reply-spec : {M : Type 1} → statement M
 probe-reply-spec =
     tie.close
     (tie.spec
-    enum-known-a
-    enum-known-a-2
-    probed-requires
-    enum-known-a-3
-    probed-requires-2
-    enum-known-a-4
-    probed-requires-3
+    (λ c. search needs)
+    (λ c. search needs)
+    (λ c κs. search needs)
+    (λ c. search needs)
+    (λ c κs. search needs)
+    (λ c. search needs)
+    (λ c κs. search needs)
     returns
     returns-2
     returns-3

@@ -5,21 +5,6 @@ use Rattle.replies.specs.Replies.{restReply}
 use Rattle.replies.proofs.answers.rest_reply.Statement.{statement}
 use Rattle.replies.proofs.answers.rest_reply.Tie as tie
 
-enum-known-a : tie.Need-enum-known-a
-enum-known-a c = search needs
-
-enum-told : tie.Need-enum-told
-enum-told c = search needs
-
-one-requires : tie.Need-one-requires
-one-requires c κs = search needs
-
-enum-told-2 : tie.Need-enum-told-2
-enum-told-2 c = search needs
-
-one-requires-2 : tie.Need-one-requires-2
-one-requires-2 c κs = search needs
-
 returns : tie.Need-returns
 unfolding restReply restVerdict
 returns c = rw (c .before .a .given .1)
@@ -36,11 +21,11 @@ pub rest-reply-spec : {M : Type 1} → statement M
 rest-reply-spec =
     tie.close
     (tie.spec
-    enum-known-a
-    enum-told
-    one-requires
-    enum-told-2
-    one-requires-2
+    (λ c. search needs)
+    (λ c. search needs)
+    (λ c κs. search needs)
+    (λ c. search needs)
+    (λ c κs. search needs)
     returns
     returns-2
     returns-3)

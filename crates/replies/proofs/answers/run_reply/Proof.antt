@@ -6,12 +6,6 @@ use Rattle.replies.specs.Replies.{listReply}
 use Rattle.replies.proofs.answers.run_reply.Statement.{statement}
 use Rattle.replies.proofs.answers.run_reply.Tie as tie
 
-enum-known-a : tie.Need-enum-known-a
-enum-known-a c = search needs
-
-enum-known-a-2 : tie.Need-enum-known-a-2
-enum-known-a-2 c = search needs
-
 returns : tie.Need-returns
 unfolding listReply listAnswer countsOf
 returns c = rw (c .before .a .given .1)
@@ -21,4 +15,4 @@ unfolding listReply listAnswer countsOf
 returns-2 c = rw (c .before .a2 .given .1)
 
 pub run-reply-spec : {M : Type 1} → statement M
-run-reply-spec = tie.close (tie.spec enum-known-a enum-known-a-2 returns returns-2)
+run-reply-spec = tie.close (tie.spec (λ c. search needs) (λ c. search needs) returns returns-2)

@@ -5,15 +5,6 @@ use Rattle.replies.specs.Replies.{bookReply}
 use Rattle.replies.proofs.answers.sizes_reply.Statement.{statement}
 use Rattle.replies.proofs.answers.sizes_reply.Tie as tie
 
-enum-known-a : tie.Need-enum-known-a
-enum-known-a c = search needs
-
-enum-known-a-2 : tie.Need-enum-known-a-2
-enum-known-a-2 c = search needs
-
-two-requires : tie.Need-two-requires
-two-requires c κs = search needs
-
 returns : tie.Need-returns
 unfolding bookReply sizesAnswer
 returns c = rw (c .before .a .given .1)
@@ -23,4 +14,4 @@ unfolding bookReply sizesAnswer
 returns-2 c = rw (c .before .before .a2 .given .1) (c .two .ensures)
 
 pub sizes-reply-spec : {M : Type 1} → statement M
-sizes-reply-spec = tie.close (tie.spec enum-known-a enum-known-a-2 two-requires returns returns-2)
+sizes-reply-spec = tie.close (tie.spec (λ c. search needs) (λ c. search needs) (λ c κs. search needs) returns returns-2)
