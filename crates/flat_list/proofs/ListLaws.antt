@@ -9,8 +9,8 @@ use Rattle.semantics.specs.TwoLists.{CountsAddUp, Demand3Lists, ListMeans}
 use Rattle.semantics.specs.TwoRuns.{EveryModelHandedIn}
 use Rattle.semantics.proofs.CallLists.{counts-add-up, demand-3-lists, list-means}
 use Rattle.semantics.proofs.Demand3.{handed-in}
-use Rattle.step.specs.Classes.{countsOf}
-use Rattle.step.specs.declared.Counts.{Counts}
+use Rattle.call.specs.Classes.{countsOf}
+use Rattle.call.specs.declared.Counts.{Counts}
 use Rattle.flat_list.specs.ListAnswers.{listAnswer}
 use Rattle.flat_list.specs.declared.RunAnswer.{RunAnswer}
 use Rattle.flat_list.specs.declared.RunAnswer.the-variants as runs

@@ -5,6 +5,11 @@
 // for the points, and that the call ended within its budget.
 use crate::checks::call_fault;
 use crate::checks::probe_fault;
+use call::Call;
+use call::PROPAGATE;
+use call::PROPAGATE_ROW;
+use call::REMOVE_ROW;
+use call::TIGHTEN_COEFFICIENT;
 use probing::sides::Probing;
 use probing::sides::Side;
 use propagation::Propagation;
@@ -14,11 +19,6 @@ use row_change::tightening::CoefficientTightening;
 use row_view::changes::remove_redundant_row_at;
 use row_view::changes::tighten_coefficient_at;
 use row_view::propagate_row_at;
-use step::call::Call;
-use step::call::PROPAGATE;
-use step::call::PROPAGATE_ROW;
-use step::call::REMOVE_ROW;
-use step::call::TIGHTEN_COEFFICIENT;
 ghost use mathlib.Core.List.{[]};
 ghost use mathlib.Core.Logic.{_↔_};
 ghost use mathlib.Core.Path.{_≡_};

@@ -1,15 +1,15 @@
 // One round of `reduce`: propagate, remove redundant rows, tighten coefficients and probe. The model and the table are
 // valid before it, and each call leaves them valid.
+use call::Call;
+use call::CallClass;
+use call::PROPAGATE;
+use call::REMOVE_ROW;
+use call::TIGHTEN_COEFFICIENT;
 use model::MAX_ROWS;
 use model::MAX_VARIABLES;
 use probing::is_free;
 use row_change::tightening::may_tighten;
 use row_view::changes::maximum_activity_at;
-use step::CallClass;
-use step::call::Call;
-use step::call::PROPAGATE;
-use step::call::REMOVE_ROW;
-use step::call::TIGHTEN_COEFFICIENT;
 use step::run_probe_record;
 use step::run_record;
 ghost use mathlib.Core.Path.{_≡_};
@@ -20,7 +20,7 @@ ghost use Rattle.probing.specs.Marked.{Marked};
 ghost use Rattle.row.specs.Tightening.{mayTighten};
 ghost use Rattle.model.specs.Valid.{ValidState};
 ghost use Rattle.semantics.specs.Run.{run as ran};
-ghost use Rattle.step.specs.Classes.{classIs};
+ghost use Rattle.call.specs.Classes.{classIs};
 ghost use Rattle.model.specs.State.{stateOf};
 ghost use Rattle.round.specs.TightenedAt.{TightenedAt};
 ghost use Rattle.round.specs.Round.{anyChange, isChange, probes, removals, round as roundOf, tightenRow, tightenings};

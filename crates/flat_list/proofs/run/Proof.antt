@@ -11,7 +11,7 @@ use Rattle.semantics.specs.Run.{noCounts}
 use Rattle.semantics.specs.Call.{callOf}
 use Rattle.model.specs.State.{State, stateOf}
 use Rattle.semantics.proofs.CallLists.{Along, along-end, along-more, along-start, list-accepted, list-refused}
-use Rattle.step.specs.Classes.{countsOf}
+use Rattle.call.specs.Classes.{countsOf}
 use Rattle.flat_list.specs.ListAnswers.{listAnswer, listRun}
 use Rattle.flat_list.proofs.ListLaws.{list-promised}
 use Rattle.flat_list.proofs.run.Statement.{statement}

@@ -1,7 +1,7 @@
 -- `replies::answers::run_reply`: each case has its numbers. Assumes nothing.
 use borrow.Author.Needs.{needs}
 use Rattle.flat_list.specs.ListAnswers.{listAnswer}
-use Rattle.step.specs.Classes.{countsOf}
+use Rattle.call.specs.Classes.{countsOf}
 use Rattle.replies.specs.Replies.{listReply}
 use Rattle.replies.proofs.answers.run_reply.Statement.{statement}
 use Rattle.replies.proofs.answers.run_reply.Tie as tie

@@ -1,10 +1,10 @@
--- `step::class_of_propagation`: each ending has its class, and Converged by its number of passes. Assumes nothing.
+-- `call::class_of_propagation`: each ending has its class, and Converged by its number of passes. Assumes nothing.
 use borrow.Author.Needs.{needs}
 use lib.Dec.{eqb}
 use Rattle.integer.proofs.Tests.{eqb-test, test-false}
-use Rattle.step.specs.Classes.{classIs, propagationClass}
-use Rattle.step.proofs.class_of_propagation.Statement.{statement}
-use Rattle.step.proofs.class_of_propagation.Tie as tie
+use Rattle.call.specs.Classes.{classIs, propagationClass}
+use Rattle.call.proofs.class_of_propagation.Statement.{statement}
+use Rattle.call.proofs.class_of_propagation.Tie as tie
 
 returns : tie.Need-returns
 unfolding classIs propagationClass
