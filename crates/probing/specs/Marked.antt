@@ -7,8 +7,8 @@ use mathlib.Core.Path.{_≡_}
 use Rattle.model.specs.Box.{Inside, NonEmpty, lower, upper, withBounds}
 use Rattle.model.specs.Valid.{ValidModel}
 use Rattle.model.specs.Model.{modelOf}
-use Rattle.propagation.specs.Index.{Index}
-use Rattle.propagation.specs.Marks.{Clean}
+use Rattle.row_marks.specs.Index.{Index}
+use Rattle.row_marks.specs.Marks.{Clean}
 
 pub record Marked (n m : ℕ) (B C R : List ℤ) (across signs marks : List ℕ) : Type 0 where
   pub index : Index n m C across signs

@@ -30,7 +30,7 @@ use Rattle.round.specs.Round.{andThen, anyChange, isChange, probes, prop
 use Rattle.semantics.proofs.ClassLaws.{classBy, tighten-class}
 use Rattle.semantics.proofs.RowChange.{row-valid, withRow-same}
 use Rattle.model.proofs.RowsLaws.{at-rowOf}
-use Rattle.propagation.proofs.PropagationLoops.{row-fits}
+use Rattle.row_marks.proofs.PropagationLoops.{row-fits}
 use Rattle.round.specs.TightenedAt.{TightenedAt}
 
 -- ---- where calls lead

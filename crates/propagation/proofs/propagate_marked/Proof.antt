@@ -20,10 +20,10 @@ use Rattle.row.specs.declared.propagation.RowPropagation.the-variants.{Infeasib
 use Rattle.semantics.specs.Propagate.{Propagated, passTo, propagate, propagateFrom}
 use Rattle.propagation.specs.Results.{propagationOf}
 use Rattle.propagation.specs.declared.Propagation.the-variants as code
-use Rattle.propagation.proofs.PropagationLoops.{budget-spent, pass-converged, pass-infeasible, pass-moved, pass-over, row-feasible, row-infeasible}
+use Rattle.row_marks.proofs.PropagationLoops.{budget-spent, pass-converged, pass-infeasible, pass-moved, pass-over, row-feasible, row-infeasible}
 use Rattle.row.proofs.ImpliedBoxLaws.{valid-nonEmpty}
-use Rattle.propagation.specs.Marks.{Watched}
-use Rattle.propagation.proofs.MarkLaws.{Ready, model-at, ready, ready-trans, ready-visit, tightened, unmoved}
+use Rattle.row_marks.specs.Marks.{Watched}
+use Rattle.row_marks.proofs.MarkLaws.{Ready, model-at, ready, ready-trans, ready-visit, tightened, unmoved}
 use Rattle.propagation.proofs.propagate_marked.Statement.{statement}
 use Rattle.propagation.proofs.propagate_marked.Tie as tie
 

@@ -11,7 +11,7 @@ use Rattle.model.specs.Box.{at, sameList}
 use Rattle.model.specs.Rows.{rowOf}
 use Rattle.row.specs.Propagation.{propagateRow}
 use Rattle.semantics.specs.RestTest.{isFixpoint}
-use Rattle.propagation.proofs.PropagationLoops.{row-in, valid-row}
+use Rattle.row_marks.proofs.PropagationLoops.{row-in, valid-row}
 use Rattle.probing.proofs.RestLaws.{row-moved, row-stays}
 use Rattle.probing.proofs.rest.is_fixpoint.Statement.{statement}
 use Rattle.probing.proofs.rest.is_fixpoint.Tie as tie

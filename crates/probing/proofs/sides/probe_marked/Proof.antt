@@ -17,9 +17,9 @@ use Rattle.model.specs.Rows.{rowsOf}
 use Rattle.row.proofs.ImpliedBoxLaws.{valid-nonEmpty}
 use Rattle.semantics.specs.Probe.{fix, joinSides, probe}
 use Rattle.semantics.specs.Propagate.{Propagated, propagate}
-use Rattle.propagation.specs.Index.{Index}
+use Rattle.row_marks.specs.Index.{Index}
 use Rattle.propagation.specs.Results.{propagationOf}
-use Rattle.propagation.proofs.LocalBox.{blank, box-room, box-small}
+use Rattle.row_marks.proofs.LocalBox.{blank, box-room, box-small}
 use Rattle.probing.specs.Marked.{Marked}
 use Rattle.probing.specs.Results.{probingOf, reportOf}
 use Rattle.probing.proofs.MarkedLaws.{marked-probed}
