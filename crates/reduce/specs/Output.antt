@@ -1,4 +1,5 @@
--- What `reduce` prints for an input, as a text (01, "Book"); no kind is printed, as a first-edition book has none. "It prints `refused N`, or `none`, or: `reduced n m rounds`; .."
+-- What `reduce` prints for an input, as a text (01, "Book"): "It prints `refused N`, or `none`, or: `reduced n m rounds`; .."
+-- No kind is printed: a first-edition book has none.
 use Prim.Native.Nat.{_*_, ℕ}
 use lib.Dec.{eqb}
 use lib.ListN.{replicate}
