@@ -6,29 +6,31 @@
  *     ./branch | diff examples/branch.expected -
  *
  * The model: five warehouse receipts of 30, 25, 20, 15 and 10 tons go to a notice whole or not at all,
- * filled up with at most two lots of 5 tons, so that the notice gets exactly 55 tons. At most three
- * receipts; the first two are of one car and cannot both go; the fourth goes only with the third.
+ * filled up with at most two lots of 5 tons, so that the notice gets exactly 55 tons: one row, which says
+ * = and not <=. At most three receipts; the first two are of one car and cannot both go; the fourth goes
+ * only with the third.
  */
 #include <stdio.h>
 #include <string.h>
 
 #include "astrolabe.h"
 
-enum { N = 6, M = 5, BUDGET = 1000 };
+enum { N = 6, M = 4, BUDGET = 1000 };
 
 typedef int32_t Box[2 * N]; /* l0 u0 l1 u1 .. */
 
 static const Box root = {0, 1, 0, 1, 0, 1, 0, 1, 0, 1, 0, 2};
 
 static const int32_t coefs[M * N] = {
-    30,  25,  20,  15,  10,  5,  /* at most 55 tons */
-    -30, -25, -20, -15, -10, -5, /* and at least 55 */
-    1,   1,   1,   1,   1,   0,  /* at most three receipts */
-    1,   1,   0,   0,   0,   0,  /* not both of the first two */
-    0,   0,   -1,  1,   0,   0,  /* the fourth only with the third */
+    30, 25, 20, 15, 10, 5, /* exactly 55 tons */
+    1,  1,  1,  1,  1,  0, /* at most three receipts */
+    1,  1,  0,  0,  0,  0, /* not both of the first two */
+    0,  0,  -1, 1,  0,  0, /* the fourth only with the third */
 };
 
-static const int32_t rhs[M] = {55, -55, 3, 1, 0};
+static const int32_t rhs[M] = {55, 3, 1, 0};
+
+static const uint8_t kinds[M] = {ASTROLABE_ROW_KIND_EQUAL}; /* the others, 0, are ASTROLABE_ROW_KIND_AT_MOST */
 
 static unsigned nodes, solutions;
 
@@ -53,7 +55,7 @@ static void print_solution(const Box box)
 static uint32_t search(Box box, unsigned depth)
 {
     uint64_t answer[ASTROLABE_ANSWER_LEN];
-    uint32_t refused = astrolabe_propagate(N, M, box, 2 * N, coefs, M * N, rhs, M, BUDGET,
+    uint32_t refused = astrolabe_propagate(N, M, box, 2 * N, coefs, M * N, rhs, M, kinds, M, BUDGET,
                                            answer, ASTROLABE_ANSWER_LEN);
     if (refused)
         return refused;
@@ -90,7 +92,7 @@ static int meets_rows(const int32_t *x)
         int32_t sum = 0;
         for (size_t j = 0; j < N; j++)
             sum += coefs[r * N + j] * x[j];
-        if (sum > rhs[r])
+        if (sum > rhs[r] || (kinds[r] == ASTROLABE_ROW_KIND_EQUAL && sum < rhs[r]))
             return 0;
     }
     return 1;

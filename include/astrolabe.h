@@ -6,7 +6,8 @@
  *     cc -Iinclude program.c target/staticlib/libcapi.a
  *
  * THE MODEL. n variables (1 to 128) with whole bounds, m rows (0 to 120), each row
- *     sum of coefficient x variable <= right-hand side.
+ *     sum of coefficient x variable <= right-hand side, or
+ *     sum of coefficient x variable  = right-hand side, by its kind.
  * It lives in the caller's memory, in flat buffers; nothing is kept between calls.
  *
  *     buffer   type       count   what                                            range of each number
@@ -14,6 +15,7 @@
  *                                 together they are the box                       u - l at most 4,096
  *     coefs    int32_t    m*n     the rows' coefficients, row after row           -1,000,000 .. 1,000,000
  *     rhs      int32_t    m       the rows' right-hand sides                      -1,000,000,000 .. 1,000,000,000
+ *     kinds    uint8_t    m       the rows' kinds: ASTROLABE_ROW_KIND_..          0 (<=) or 1 (=)
  *     table    uint8_t    4n^2    the implication table: byte p*2n + q is 1       0 or 1
  *                                 when literal p implies literal q; the literal
  *                                 "variable k is v" has the number 2k + v.
@@ -29,13 +31,18 @@
  *
  * A FREE BINARY VARIABLE (01's free 0-1) is one whose bounds are now 0 and 1.
  *
+ * AN EQUALITY ROW, kind 1, says = where a row of kind 0 says <=. Its <= form is the row of kind 0 with the
+ * same numbers; its negated form is the row of kind 0 with each coefficient and the right-hand side
+ * negated. Propagating it propagates the one and then the other.
+ *
  * WHAT IS PROMISED, and proved for every input: each call does exactly what the specification
  * (document 01, and 02 where it changes 01) says; the integer points after it are those before it, and
  * no fractional point is added; a call answers INFEASIBLE only where no integer point exists.
  *
  * REFUSALS. Every function returns ASTROLABE_OK (0), or the number of the first check that fails. The
- * order of the checks is that of the numbers but for 23, which came later and stands straight after 7:
- *     1 2 3 4 5 6 7 23 8 9 10 11 12 13 14 15
+ * order of the checks is that of the numbers but for those that came later: 23 stands straight after 7,
+ * 16 and 17 after 9:
+ *     1 2 3 4 5 6 7 23 8 9 16 17 10 11 12 13 14 15
  * Each function's comment lists the checks that it makes, in its order. On a refusal no lent number
  * changes, the answer's places among them. All that is lent is checked in every call, so a model can be
  * changed freely between calls.
@@ -81,6 +88,9 @@ extern "C" {
 #define ASTROLABE_MAX_RHS 1000000000 /* and its negative */
 /* The largest budget. It is never spent: the widest box, 128 variables of 4,096, takes at most 524,289 passes. */
 #define ASTROLABE_MAX_BUDGET 8388481
+/* Kinds of a row, in `kinds`. */
+#define ASTROLABE_ROW_KIND_AT_MOST 0 /* sum <= right-hand side */
+#define ASTROLABE_ROW_KIND_EQUAL 1   /* sum = right-hand side */
 /* The count of every answer buffer. */
 #define ASTROLABE_ANSWER_LEN 12
 /* The bytes of a book's trailer. */
@@ -107,6 +117,8 @@ extern "C" {
 #define ASTROLABE_REFUSED_VARIABLE 13            /* the variable is not below n */
 #define ASTROLABE_REFUSED_VARIABLE_NOT_FREE 14   /* in a box that is not empty: the variable is not free binary */
 #define ASTROLABE_REFUSED_BUDGET 15              /* the budget is not 1 to 8,388,481 */
+#define ASTROLABE_REFUSED_ROW_KIND 16            /* a kind byte is above 1; made after 9 */
+#define ASTROLABE_REFUSED_EQUALITY_ROW 17        /* an = row is to be written into a book; made straight after 16 */
 #define ASTROLABE_REFUSED_VARIABLE_TOO_WIDE 23   /* u - l of a variable is over 4,096; made straight after 7 */
 
 /* ---------------------------------------------------------------------------------------------
@@ -120,18 +132,22 @@ extern "C" {
 
 /*
  * Propagates row `row` over the box once (01's visit): every variable's bounds are narrowed to what the
- * row and the other variables' bounds allow, rounded to whole numbers.
+ * row and the other variables' bounds allow, rounded to whole numbers. An = row is propagated as its <=
+ * form and then, over the box that this left, as its negated form; where one of them is infeasible the row
+ * is, and INFEASIBLE still means only that no integer point exists. Propagated again it can move more.
  *
  *     bounds      written   narrowed, or made the empty box
- *     answer[0]   ASTROLABE_ROW_..
- *     answer[1]   the bounds moved: those that differ before and after. TIGHTENED: 1 to n; else 0
+ *     answer[0]   ASTROLABE_ROW_INFEASIBLE, _TIGHTENED or _UNCHANGED
+ *     answer[1]   the bounds moved: those that differ before and after. TIGHTENED: 1 to n, of an = row 1 to
+ *                 2n; else 0
  *
- * Refused by 3 5 6 7 23 8 9 12, in this order. On the empty box: infeasible.
+ * Refused by 3 5 6 7 23 8 9 16 12, in this order. On the empty box: infeasible.
  */
 uint32_t astrolabe_propagate_row(size_t n, size_t m,
                                  int32_t *bounds, size_t bounds_len,
                                  const int32_t *coefs, size_t coefs_len,
                                  const int32_t *rhs, size_t rhs_len,
+                                 const uint8_t *kinds, size_t kinds_len,
                                  uint32_t row,
                                  uint64_t *answer, size_t answer_len);
 
@@ -151,12 +167,13 @@ uint32_t astrolabe_propagate_row(size_t n, size_t m,
  *                 moves. An infeasible row adds nothing; what moved before it, in its pass too, is in the
  *                 sum. At least answer[1] - 1, at most the total width that was lost: 32 bits hold it
  *
- * Refused by 3 5 6 7 23 8 9 15, in this order. On the empty box: infeasible with 1 pass, 0 moved.
+ * Refused by 3 5 6 7 23 8 9 16 15, in this order. On the empty box: infeasible with 1 pass, 0 moved.
  */
 uint32_t astrolabe_propagate(size_t n, size_t m,
                              int32_t *bounds, size_t bounds_len,
                              const int32_t *coefs, size_t coefs_len,
                              const int32_t *rhs, size_t rhs_len,
+                             const uint8_t *kinds, size_t kinds_len,
                              uint32_t budget,
                              uint64_t *answer, size_t answer_len);
 
@@ -187,12 +204,13 @@ uint32_t astrolabe_propagate(size_t n, size_t m,
  *     answer[6]   1 where side 1 spent its budget, else 0; 0 where side 1 is infeasible
  *     answer[7]   the bounds that the propagation of side 1 moved
  *
- * Refused by 3 5 6 7 23 8 9 10 13 14 15, in this order. On the empty box: infeasible, all else 0.
+ * Refused by 3 5 6 7 23 8 9 16 10 13 14 15, in this order. On the empty box: infeasible, all else 0.
  */
 uint32_t astrolabe_probe(size_t n, size_t m,
                          int32_t *bounds, size_t bounds_len,
                          const int32_t *coefs, size_t coefs_len,
                          const int32_t *rhs, size_t rhs_len,
+                         const uint8_t *kinds, size_t kinds_len,
                          uint8_t *table, size_t table_len,
                          uint32_t variable, uint32_t budget,
                          uint64_t *answer, size_t answer_len);
@@ -208,12 +226,13 @@ uint32_t astrolabe_probe(size_t n, size_t m,
  *
  *     answer[0]   ASTROLABE_FIXPOINT_..
  *
- * Refused by 3 5 6 7 23 8 9, in this order.
+ * Refused by 3 5 6 7 23 8 9 16, in this order.
  */
 uint32_t astrolabe_is_probing_fixpoint(size_t n, size_t m,
                                        const int32_t *bounds, size_t bounds_len,
                                        const int32_t *coefs, size_t coefs_len,
                                        const int32_t *rhs, size_t rhs_len,
+                                       const uint8_t *kinds, size_t kinds_len,
                                        uint64_t *answer, size_t answer_len);
 
 /* ---------------------------------------------------------------------------------------------
@@ -229,40 +248,44 @@ uint32_t astrolabe_is_probing_fixpoint(size_t n, size_t m,
 /*
  * Tightens the coefficient of the free binary variable `variable` in row `row` (01's sharpen): the same
  * integer points, fewer fractional ones. A positive coefficient takes the right-hand side down with
- * it, a negative one does not.
+ * it, a negative one does not. An = row stays as it is: UNCHANGED.
  *
  *     coefs       written   one coefficient
  *     rhs         written   one right-hand side, where the coefficient is positive
  *     answer[0]   ASTROLABE_TIGHTEN_..
  *
- * Refused by 3 5 6 7 23 8 9 12 13 14, in this order. On the empty box: infeasible.
+ * Refused by 3 5 6 7 23 8 9 16 12 13 14, in this order. On the empty box: infeasible.
  */
 uint32_t astrolabe_tighten_coefficient(size_t n, size_t m,
                                        const int32_t *bounds, size_t bounds_len,
                                        int32_t *coefs, size_t coefs_len,
                                        int32_t *rhs, size_t rhs_len,
+                                       const uint8_t *kinds, size_t kinds_len,
                                        uint32_t row, uint32_t variable,
                                        uint64_t *answer, size_t answer_len);
 
 /* Cases of astrolabe_remove_redundant_row, answer[0]. */
 #define ASTROLABE_REMOVE_INFEASIBLE 0 /* 01's None: the box is the empty one */
 #define ASTROLABE_REMOVE_REMOVED 1    /* 01's Dropped: a number changed */
-#define ASTROLABE_REMOVE_UNCHANGED 2  /* 01's Same: the row is needed, or all zero already */
+#define ASTROLABE_REMOVE_UNCHANGED 2  /* 01's Same: the row is needed, or says 0 <= 0 already */
 
 /*
- * Removes row `row` where the box alone implies it (01's drop): its coefficients and its right-hand
- * side become 0. The row keeps its place, m stays.
+ * Removes row `row` where the box alone implies it (01's drop): its coefficients, its right-hand side and
+ * its kind become 0. The row keeps its place, m stays. An = row is removed only where its sum is the
+ * right-hand side at every point of the box; a row 0 = 0 is removed, since its kind changes.
  *
  *     coefs       written   one row
  *     rhs         written   one right-hand side
+ *     kinds       written   one kind
  *     answer[0]   ASTROLABE_REMOVE_..
  *
- * Refused by 3 5 6 7 23 8 9 12, in this order. On the empty box: infeasible.
+ * Refused by 3 5 6 7 23 8 9 16 12, in this order. On the empty box: infeasible.
  */
 uint32_t astrolabe_remove_redundant_row(size_t n, size_t m,
                                         const int32_t *bounds, size_t bounds_len,
                                         int32_t *coefs, size_t coefs_len,
                                         int32_t *rhs, size_t rhs_len,
+                                        uint8_t *kinds, size_t kinds_len,
                                         uint32_t row,
                                         uint64_t *answer, size_t answer_len);
 
@@ -282,19 +305,21 @@ uint32_t astrolabe_remove_redundant_row(size_t n, size_t m,
  * record is four numbers: kind, row, variable, budget; `calls_len` counts numbers, four a record. A
  * record that one of the checks 11 to 15 refuses changes nothing, and the run goes on.
  *
- *     bounds, coefs, rhs, table   written   as the calls do
+ *     bounds, coefs, rhs, kinds, table   written   as the calls do
  *     answer[0]   calls refused
  *     answer[1]   calls that answered infeasible (01's None)
- *     answer[2]   other calls that changed a bound, a row or a table byte
+ *     answer[2]   other calls that changed a bound, a row (its kind too) or a table byte
  *     answer[3]   other calls that changed nothing
  *
  * The four add up to calls_len / 4. An empty list is accepted.
- * The list as a whole is refused by 3 5 6 7 23 8 9 10, in this order; a calls_len that is not a multiple of four is 5.
+ * The list as a whole is refused by 3 5 6 7 23 8 9 16 10, in this order; a calls_len that is not a multiple
+ * of four is 5.
  */
 uint32_t astrolabe_run(size_t n, size_t m,
                        int32_t *bounds, size_t bounds_len,
                        int32_t *coefs, size_t coefs_len,
                        int32_t *rhs, size_t rhs_len,
+                       uint8_t *kinds, size_t kinds_len,
                        uint8_t *table, size_t table_len,
                        const uint32_t *calls, size_t calls_len,
                        uint64_t *answer, size_t answer_len);
@@ -310,16 +335,17 @@ uint32_t astrolabe_run(size_t n, size_t m,
  * passes. It ends after a round that changed nothing, after `limit` rounds, or at infeasible. Any limit
  * is accepted (`reduce` itself has 8); with 0 no call is made at all.
  *
- *     bounds, coefs, rhs, table   written   as the calls do; the table is kept and extended
+ *     bounds, coefs, rhs, kinds, table   written   as the calls do; the table is kept and extended
  *     answer[0]   ASTROLABE_ROUNDS_..
  *     answer[1]   the rounds made, the last one included
  *
- * Refused by 3 5 6 7 23 8 9 10, in this order.
+ * Refused by 3 5 6 7 23 8 9 16 10, in this order.
  */
 uint32_t astrolabe_rounds(size_t n, size_t m,
                           int32_t *bounds, size_t bounds_len,
                           int32_t *coefs, size_t coefs_len,
                           int32_t *rhs, size_t rhs_len,
+                          uint8_t *kinds, size_t kinds_len,
                           uint8_t *table, size_t table_len,
                           uint32_t limit,
                           uint64_t *answer, size_t answer_len);
@@ -328,7 +354,8 @@ uint32_t astrolabe_rounds(size_t n, size_t m,
  * Books. A model as a file, little-endian: the bounds, l and u of each variable; then for each row its
  * right-hand side and its n coefficients; 32 bits each, two's complement. The last 16 bytes are the
  * trailer, unsigned: offset of the bounds (0) and of the rows (8n), 32 bits each; n and m, 16 bits
- * each; length of the book, 32 bits. The table is not in it.
+ * each; length of the book, 32 bits. The table is not in it, and no kinds are: this is the first edition,
+ * whose rows are all <= rows.
  */
 
 /* The bytes of the book of n variables and m rows; n and m within their limits. */
@@ -348,7 +375,7 @@ uint32_t astrolabe_book_trailer(const uint8_t *bytes, size_t bytes_len,
 /*
  * Reads a book into the buffers of a model.
  *
- *     bounds, coefs, rhs   written   the model; counts as the book's n and m give them
+ *     bounds, coefs, rhs, kinds   written   the model; counts as the book's n and m give them; every kind is 0
  *     answer[0]   n
  *     answer[1]   m
  *
@@ -359,6 +386,7 @@ uint32_t astrolabe_book_read(const uint8_t *book, size_t book_len,
                              int32_t *bounds, size_t bounds_len,
                              int32_t *coefs, size_t coefs_len,
                              int32_t *rhs, size_t rhs_len,
+                             uint8_t *kinds, size_t kinds_len,
                              uint64_t *answer, size_t answer_len);
 
 /*
@@ -367,12 +395,13 @@ uint32_t astrolabe_book_read(const uint8_t *book, size_t book_len,
  *
  *     book        written   exactly ASTROLABE_BOOK_LEN(n, m) bytes
  *
- * Refused by 3 5 6 7 23 8 9, in this order.
+ * Refused by 3 5 6 7 23 8 9 16 17, in this order: a model with an = row has no book of this edition.
  */
 uint32_t astrolabe_book_write(size_t n, size_t m,
                               const int32_t *bounds, size_t bounds_len,
                               const int32_t *coefs, size_t coefs_len,
                               const int32_t *rhs, size_t rhs_len,
+                              const uint8_t *kinds, size_t kinds_len,
                               uint8_t *book, size_t book_len);
 
 #ifdef __cplusplus

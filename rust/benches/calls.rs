@@ -142,6 +142,7 @@ fn lent(folder: &str, name: &str) -> Lent {
         bounds: vec![0; 2 * n],
         coefs: vec![0; m * n],
         rhs: vec![0; m],
+        kinds: vec![0; m],
         table: vec![0; 4 * n * n],
         calls: (0..n as u32).flat_map(|k| [KIND_PROBE, 0, k, MAX_BUDGET]).collect(),
         book,

@@ -90,7 +90,7 @@ fn random_models() -> Vec<(String, Lent)> {
     for (n, m) in [(10, 10), (40, 40), (128, 120)] {
         for density in [3, 25, 100] {
             let mut rng = Rng::for_case(SEED, ((n as u64) << 8) + density as u64);
-            let lent = models::sized(&mut rng, n, m, density).with_table();
+            let lent = models::sized(&mut rng, n, m, density, 0).with_table();
             models.push((format!("{n} × {m}, {density} %"), lent));
         }
     }
@@ -105,6 +105,7 @@ fn crawling(kind: Kind) -> Option<(String, Lent)> {
         ends_at_zero: true,
         switched: kind != Propagate,
         reversed: false,
+        equal: false,
     };
     let lent = ring.model().with_table();
     matches!(kind, Propagate | Probe | Rounds)
@@ -185,7 +186,10 @@ fn measure(work: &Work) -> Times {
 
 /// The memory of one copy.
 fn bytes(lent: &Lent) -> usize {
-    4 * (lent.bounds.len() + lent.coefs.len() + lent.rhs.len()) + lent.table.len() + lent.book.len()
+    4 * (lent.bounds.len() + lent.coefs.len() + lent.rhs.len())
+        + lent.kinds.len()
+        + lent.table.len()
+        + lent.book.len()
 }
 
 /// How many repetitions a line has at most; `ASTROLABE_REPETITIONS` overrules.

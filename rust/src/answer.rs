@@ -5,12 +5,13 @@ use crate::ffi;
 /// The places of an answer; those that a call does not use are 0.
 pub(crate) type Places = [u64; ffi::ANSWER_LEN];
 
-/// What the propagation of one row did (document 01's visit).
+/// What the propagation of one row did (document 01's visit). An = row is propagated as its ≤ form and then
+/// as its negated form; where one of them is infeasible, the row is, and no bound is counted.
 #[derive(Clone, Copy, Debug, PartialEq, Eq, Hash)]
 pub enum RowPropagation {
     /// The model has no integer point; the box is empty (01's None).
     Infeasible,
-    /// This many bounds moved, 1 to n (01's Narrowed).
+    /// This many bounds moved: 1 to n, of an = row 1 to 2n (01's Narrowed).
     Tightened { moved: u32 },
     /// No bound moved (01's Same).
     Unchanged,
@@ -71,7 +72,7 @@ pub struct Counts {
     pub refused: u64,
     /// Answered infeasible (01's None).
     pub infeasible: u64,
-    /// Changed a bound, a row or a table byte.
+    /// Changed a bound, a row (its kind too) or a table byte.
     pub changed: u64,
     /// Changed nothing.
     pub unchanged: u64,

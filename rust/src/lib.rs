@@ -1,7 +1,8 @@
 //! A presolve library for 0-1 and small-integer linear models whose every function is proved.
 //!
 //! A [`Model`] has n variables (1 to 128) with whole bounds at most 4,096 apart and m rows (0 to 120),
-//! each row saying `sum of coefficient · variable ≤ right-hand side`. Its methods make the model smaller:
+//! each row saying `sum of coefficient · variable ≤ right-hand side`, or `=` where its [`RowKind`] is
+//! [`Equal`](RowKind::Equal). Its methods make the model smaller:
 //! after each of them the integer points are exactly those before, no fractional point is added, and
 //! "infeasible" is said only where there is no integer point. That is proved of the library behind this
 //! wrapper, for every input.
@@ -41,7 +42,7 @@ mod model;
 mod refusal;
 
 pub use answer::{Counts, Outcome, Probe, Propagation, Rounds, RowPropagation, Side};
-pub use model::{Call, Model, book_size};
+pub use model::{Call, Model, Row, RowKind, book_size};
 pub use refusal::Refusal;
 
 /// The version of this wrapper, which is that of the C header and of the library: `"0.1.0"`.

@@ -7,6 +7,26 @@ use crate::refusal::Refusal;
 /// The trailer's length in bytes.
 const TRAILER: usize = 16;
 
+/// What a row says (02, C-14).
+#[derive(Clone, Copy, Debug, Default, PartialEq, Eq, Hash)]
+#[repr(u8)] // the library reads and writes a list of them as one of kind bytes
+pub enum RowKind {
+    /// Sum of coefficient · variable ≤ right-hand side.
+    #[default]
+    AtMost = 0,
+    /// Sum of coefficient · variable = right-hand side.
+    Equal = 1,
+}
+
+/// One row of a model, for [`Model::rows`].
+#[derive(Clone, Copy, Debug, PartialEq, Eq, Hash)]
+pub struct Row<'a> {
+    /// A coefficient for each variable.
+    pub coefs: &'a [i32],
+    pub rhs: i32,
+    pub kind: RowKind,
+}
+
 /// A model and its implication table.
 ///
 /// The library checks all numbers at every call, so the bounds may be changed freely between calls; a
@@ -18,6 +38,7 @@ pub struct Model {
     bounds: Vec<i32>,
     coefs: Vec<i32>,
     rhs: Vec<i32>,
+    kinds: Vec<RowKind>,
     table: Vec<u8>,
 }
 
@@ -69,12 +90,14 @@ fn answered<T: From<Places>>(call: impl FnOnce(*mut u64, usize) -> u32) -> Resul
     Ok(T::from(answer))
 }
 
-/// Makes a call on a model with a full answer: n, m, its bounds, coefficients and right-hand sides, each
-/// as a pointer (`as_ptr`, or `as_mut_ptr` where the call writes) and a count, then what else it takes.
+/// Makes a call on a model with a full answer: n, m, its bounds, coefficients and right-hand sides, and
+/// kinds, each as a pointer (`as_ptr`, or `as_mut_ptr` where the call writes) and a count, then what else it
+/// takes.
 macro_rules! call {
-    ($model:ident.$function:ident, $bounds:ident, $rows:ident $(, $more:expr)*) => {
+    ($model:ident.$function:ident, $bounds:ident, $rows:ident, $kinds:ident $(, $more:expr)*) => {
         answered(|answer, answer_len| {
-            // SAFETY: the pointers and counts are those of slices, no two of which overlap.
+            // SAFETY: the pointers and counts are those of slices, no two of which overlap. A RowKind is a
+            // byte, and a call leaves each kind byte as it was or makes it 0 by the library's contract.
             unsafe {
                 ffi::$function(
                     $model.n,
@@ -85,6 +108,8 @@ macro_rules! call {
                     $model.coefs.len(),
                     $model.rhs.$rows(),
                     $model.rhs.len(),
+                    $model.kinds.$kinds().cast(),
+                    $model.kinds.len(),
                     $($more,)*
                     answer,
                     answer_len,
@@ -113,7 +138,7 @@ pub fn book_size(trailer: &[u8]) -> Result<(usize, usize), Refusal> {
 
 impl Model {
     /// A model from its flat buffers: `l0 u0 l1 u1 …` for n variables, the coefficients row after row,
-    /// and m right-hand sides. The implication table starts with all 0.
+    /// and m right-hand sides. All rows are ≤ rows. The implication table starts with all 0.
     ///
     /// ```
     /// use astrolabe::{Model, Refusal};
@@ -124,8 +149,33 @@ impl Model {
     /// # Ok::<(), Refusal>(())
     /// ```
     pub fn new(bounds: Vec<i32>, coefs: Vec<i32>, rhs: Vec<i32>) -> Result<Self, Refusal> {
+        let kinds = vec![RowKind::AtMost; rhs.len()];
+        Model::with_kinds(bounds, coefs, rhs, kinds)
+    }
+
+    /// The same with a kind for each row. What must be met exactly is one row and not two, so that nobody
+    /// can edit the one and forget the other:
+    ///
+    /// ```
+    /// use astrolabe::{Model, Probe, Refusal, RowKind};
+    ///
+    /// // Receipts of 30, 25 and 20 tons for a notice of exactly 45.
+    /// let (receipts, tons) = (vec![0, 1, 0, 1, 0, 1], vec![30, 25, 20]);
+    /// let mut model = Model::with_kinds(receipts, tons, vec![45], vec![RowKind::Equal])?;
+    /// assert!(matches!(model.probe(0, 1_000)?, Probe::Fixed { value: 0, .. }));
+    /// assert_eq!(model.bounds(), [0, 0, 1, 1, 1, 1]);
+    /// // A book of the first edition has no place for the kind.
+    /// assert_eq!(model.to_book(), Err(Refusal::EqualityRow));
+    /// # Ok::<(), Refusal>(())
+    /// ```
+    pub fn with_kinds(
+        bounds: Vec<i32>,
+        coefs: Vec<i32>,
+        rhs: Vec<i32>,
+        kinds: Vec<RowKind>,
+    ) -> Result<Self, Refusal> {
         let (n, m) = (bounds.len() / 2, rhs.len());
-        let mut model = Model { n, m, bounds, coefs, rhs, table: vec![] };
+        let mut model = Model { n, m, bounds, coefs, rhs, kinds, table: vec![] };
         // Row u32::MAX does not exist, and check 12 is the last of this call: it is the answer exactly
         // where the model passes all its own checks.
         match model.propagate_row(u32::MAX) {
@@ -138,7 +188,8 @@ impl Model {
         }
     }
 
-    /// Reads a book. The implication table starts with all 0: a book does not hold it.
+    /// Reads a book. All its rows are ≤ rows, since a book of the first edition holds no kinds. The implication
+    /// table starts with all 0: a book does not hold it.
     ///
     /// ```
     /// use astrolabe::{Model, Refusal};
@@ -156,8 +207,10 @@ impl Model {
         let trailer = &book[book.len().saturating_sub(TRAILER)..];
         let (n, m) = book_size(trailer).unwrap_or((0, 0));
         let (mut bounds, mut coefs, mut rhs) = (vec![0; 2 * n], vec![0; m * n], vec![0; m]);
+        let mut kinds = vec![RowKind::AtMost; m];
         let _: Places = answered(|answer, answer_len| {
-            // SAFETY: the pointers and counts are those of slices, no two of which overlap.
+            // SAFETY: the pointers and counts are those of slices, no two of which overlap. A RowKind is a
+            // byte, and the call makes each kind byte 0 or leaves it by the library's contract.
             unsafe {
                 ffi::astrolabe_book_read(
                     book.as_ptr(),
@@ -168,15 +221,18 @@ impl Model {
                     coefs.len(),
                     rhs.as_mut_ptr(),
                     rhs.len(),
+                    kinds.as_mut_ptr().cast(),
+                    kinds.len(),
                     answer,
                     answer_len,
                 )
             }
         })?;
-        Ok(Model { n, m, bounds, coefs, rhs, table: vec![0; 4 * n * n] })
+        Ok(Model { n, m, bounds, coefs, rhs, kinds, table: vec![0; 4 * n * n] })
     }
 
-    /// Writes the model into a book. Reading it gives back the model, but for the table.
+    /// Writes the model into a book. Reading it gives back the model, but for the table. A model with an = row
+    /// has no book of this edition: [`Refusal::EqualityRow`].
     pub fn to_book(&self) -> Result<Vec<u8>, Refusal> {
         let (n, m) = (self.n, self.m);
         let mut book = vec![0; 8 * n + m * (4 + 4 * n) + TRAILER];
@@ -191,6 +247,8 @@ impl Model {
                 self.coefs.len(),
                 self.rhs.as_ptr(),
                 self.rhs.len(),
+                self.kinds.as_ptr().cast(),
+                self.kinds.len(),
                 book.as_mut_ptr(),
                 book.len(),
             )
@@ -234,9 +292,44 @@ impl Model {
         &self.rhs
     }
 
-    /// The coefficients and the right-hand side of each row.
-    pub fn rows(&self) -> impl Iterator<Item = (&[i32], i32)> {
-        self.coefs.chunks_exact(self.n).zip(self.rhs.iter().copied())
+    /// The kinds.
+    pub fn kinds(&self) -> &[RowKind] {
+        &self.kinds
+    }
+
+    /// Makes a row a ≤ or an = row. Panics where there is no such row.
+    ///
+    /// ```
+    /// use astrolabe::{Model, RowKind, RowPropagation};
+    ///
+    /// let mut model = Model::new(vec![0, 5], vec![2], vec![5])?; // 2x ≤ 5
+    /// model.set_kind(0, RowKind::Equal); // 2x = 5: no whole number meets it
+    /// assert_eq!(model.propagate_row(0)?, RowPropagation::Infeasible);
+    /// # Ok::<(), astrolabe::Refusal>(())
+    /// ```
+    pub fn set_kind(&mut self, row: usize, kind: RowKind) {
+        self.kinds[row] = kind;
+    }
+
+    /// The coefficients, the right-hand side and the kind of each row.
+    ///
+    /// ```
+    /// use astrolabe::{Model, RowKind};
+    ///
+    /// let mut model = Model::new(vec![0, 5, 0, 5], vec![2, 0, -1, 1], vec![5, 0])?;
+    /// model.set_kind(1, RowKind::Equal); // 2x ≤ 5, y − x = 0
+    /// for row in model.rows() {
+    ///     let sum: i32 = row.coefs.iter().zip([2, 2]).map(|(a, x)| a * x).sum();
+    ///     assert!(match row.kind {
+    ///         RowKind::AtMost => sum <= row.rhs,
+    ///         RowKind::Equal => sum == row.rhs,
+    ///     });
+    /// }
+    /// # Ok::<(), astrolabe::Refusal>(())
+    /// ```
+    pub fn rows(&self) -> impl Iterator<Item = Row<'_>> {
+        let rows = self.coefs.chunks_exact(self.n).zip(&self.rhs).zip(&self.kinds);
+        rows.map(|((coefs, &rhs), &kind)| Row { coefs, rhs, kind })
     }
 
     /// The implication table: byte `p · 2n + q` is 1 when literal p implies literal q.
@@ -256,7 +349,8 @@ impl Model {
         self.bounds.chunks_exact(2).all(|pair| pair == [1, 0])
     }
 
-    /// Propagates one row over the box once (01's visit), and tells how many bounds it moved.
+    /// Propagates one row over the box once (01's visit), and tells how many bounds it moved. An = row is
+    /// propagated as its ≤ form and then as its negated form; propagated again it can move more.
     ///
     /// ```
     /// use astrolabe::{Model, RowPropagation};
@@ -265,10 +359,15 @@ impl Model {
     /// assert_eq!(model.propagate_row(0)?, RowPropagation::Tightened { moved: 1 });
     /// assert_eq!(model.bounds(), [-5, -2]);
     /// assert_eq!(model.propagate_row(0)?, RowPropagation::Unchanged);
+    ///
+    /// let mut model = Model::new(vec![0, 9, 0, 9], vec![2, 3], vec![11])?;
+    /// model.set_kind(0, astrolabe::RowKind::Equal); // 2x + 3y = 11
+    /// assert_eq!(model.propagate_row(0)?, RowPropagation::Tightened { moved: 4 });
+    /// assert_eq!(model.bounds(), [1, 5, 1, 3]);
     /// # Ok::<(), astrolabe::Refusal>(())
     /// ```
     pub fn propagate_row(&mut self, row: u32) -> Result<RowPropagation, Refusal> {
-        call!(self.astrolabe_propagate_row, as_mut_ptr, as_ptr, row)
+        call!(self.astrolabe_propagate_row, as_mut_ptr, as_ptr, as_ptr, row)
     }
 
     /// Propagates all rows, pass after pass, until nothing moves or the budget is spent (01's settle).
@@ -283,7 +382,7 @@ impl Model {
     /// # Ok::<(), astrolabe::Refusal>(())
     /// ```
     pub fn propagate(&mut self, budget: u32) -> Result<Propagation, Refusal> {
-        call!(self.astrolabe_propagate, as_mut_ptr, as_ptr, budget)
+        call!(self.astrolabe_propagate, as_mut_ptr, as_ptr, as_ptr, budget)
     }
 
     /// Probes a free binary variable: sets it to 0 and to 1, propagates each side, keeps what both have
@@ -308,6 +407,7 @@ impl Model {
             self.astrolabe_probe,
             as_mut_ptr,
             as_ptr,
+            as_ptr,
             self.table.as_mut_ptr(),
             self.table.len(),
             variable,
@@ -316,7 +416,8 @@ impl Model {
     }
 
     /// Tightens the coefficient of a free binary variable in a row (01's sharpen). The row then holds
-    /// for this box and those inside it only: do not carry it over to another branch.
+    /// for this box and those inside it only: do not carry it over to another branch. An = row stays as it
+    /// is.
     ///
     /// ```
     /// use astrolabe::{Model, Outcome};
@@ -327,11 +428,12 @@ impl Model {
     /// # Ok::<(), astrolabe::Refusal>(())
     /// ```
     pub fn tighten_coefficient(&mut self, row: u32, variable: u32) -> Result<Outcome, Refusal> {
-        call!(self.astrolabe_tighten_coefficient, as_ptr, as_mut_ptr, row, variable)
+        call!(self.astrolabe_tighten_coefficient, as_ptr, as_mut_ptr, as_ptr, row, variable)
     }
 
-    /// Zeroes a row that the box alone implies (01's drop). It is gone for this box and those inside it
-    /// only: do not carry that over to another branch.
+    /// Zeroes a row that the box alone implies (01's drop), and makes it a ≤ row. It is gone for this box and
+    /// those inside it only: do not carry that over to another branch. An = row is implied only where its sum
+    /// is its right-hand side at every point of the box.
     ///
     /// ```
     /// use astrolabe::{Model, Outcome};
@@ -342,7 +444,7 @@ impl Model {
     /// # Ok::<(), astrolabe::Refusal>(())
     /// ```
     pub fn remove_redundant_row(&mut self, row: u32) -> Result<Outcome, Refusal> {
-        call!(self.astrolabe_remove_redundant_row, as_ptr, as_mut_ptr, row)
+        call!(self.astrolabe_remove_redundant_row, as_ptr, as_mut_ptr, as_mut_ptr, row)
     }
 
     /// Whether the box is a probing fixpoint (01's at rest): it is empty, or no row and no probe carried
@@ -356,7 +458,7 @@ impl Model {
     /// # Ok::<(), astrolabe::Refusal>(())
     /// ```
     pub fn is_probing_fixpoint(&self) -> Result<bool, Refusal> {
-        let places: Places = call!(self.astrolabe_is_probing_fixpoint, as_ptr, as_ptr)?;
+        let places: Places = call!(self.astrolabe_is_probing_fixpoint, as_ptr, as_ptr, as_ptr)?;
         Ok(places[0] == 1)
     }
 
@@ -376,6 +478,7 @@ impl Model {
         // A Call is four u32 in a row, so k of them are 4k numbers.
         call!(
             self.astrolabe_run,
+            as_mut_ptr,
             as_mut_ptr,
             as_mut_ptr,
             self.table.as_mut_ptr(),
@@ -399,6 +502,7 @@ impl Model {
     pub fn rounds(&mut self, limit: u32) -> Result<Rounds, Refusal> {
         call!(
             self.astrolabe_rounds,
+            as_mut_ptr,
             as_mut_ptr,
             as_mut_ptr,
             self.table.as_mut_ptr(),

@@ -6,7 +6,8 @@ use std::fmt;
 /// The first check that failed. A refused call changes nothing.
 ///
 /// The discriminants are the check numbers of the specification and of its requests. The checks are made
-/// in the order of the numbers but for [`Refusal::VariableTooWide`], 23, which comes straight after 7:
+/// in the order of the numbers but for [`Refusal::VariableTooWide`], 23, which comes straight after 7, and
+/// [`Refusal::RowKind`] and [`Refusal::EqualityRow`], 16 and 17, which come after 9 and before 10:
 ///
 /// ```
 /// use astrolabe::{Model, Refusal};
@@ -49,13 +50,18 @@ pub enum Refusal {
     VariableNotFree = 14,
     /// The budget is not 1 to 8,388,481.
     BudgetOutOfRange = 15,
+    /// A kind byte is above 1. A [`Model`](crate::Model) cannot have one; lent to [`ffi`](crate::ffi) it is
+    /// refused.
+    RowKind = 16,
+    /// An = row was to be written into a book of the first edition, which has no place for its kind.
+    EqualityRow = 17,
     /// A variable's upper bound is more than 4,096 above its lower. A stored book that is refused by it
     /// has to be retyped: see `docs/INTEGRATION.md`.
     VariableTooWide = 23,
 }
 
 impl Refusal {
-    const ALL: [Refusal; 16] = [
+    const ALL: [Refusal; 18] = [
         Refusal::BookTooShort,
         Refusal::BookLengthMismatch,
         Refusal::SizeOutOfRange,
@@ -71,6 +77,8 @@ impl Refusal {
         Refusal::NoSuchVariable,
         Refusal::VariableNotFree,
         Refusal::BudgetOutOfRange,
+        Refusal::RowKind,
+        Refusal::EqualityRow,
         Refusal::VariableTooWide,
     ];
 
@@ -109,6 +117,8 @@ impl Refusal {
             Refusal::NoSuchVariable => "the variable is not below n",
             Refusal::VariableNotFree => "the variable is not free binary",
             Refusal::BudgetOutOfRange => "the budget is not 1 to 8388481",
+            Refusal::RowKind => "a kind byte is above 1",
+            Refusal::EqualityRow => "a book of the first edition holds no = row",
             Refusal::VariableTooWide => "a variable is over 4096 wide",
         }
     }
@@ -129,7 +139,7 @@ mod tests {
     #[test]
     fn each_number_gives_its_own_refusal() {
         assert_eq!(Refusal::from_returned(0), Ok(()));
-        for number in (1..=15).chain([23]) {
+        for number in (1..=17).chain([23]) {
             assert_eq!(Refusal::from_returned(number).unwrap_err().check(), number);
         }
     }

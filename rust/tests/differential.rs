@@ -47,22 +47,28 @@ fn agree(mut lent: Lent, operations: &[Operation]) -> Vec<u64> {
 fn the_largest_models_in_whole_rounds() {
     for density in [3, 25, 100] {
         let mut rng = Rng::for_case(SEED, density as u64);
-        let lent = models::sized(&mut rng, MAX_VARIABLES, MAX_ROWS, density).with_table();
-        agree(lent, &[Operation::Rounds { limit: 2 }, Operation::IsProbingFixpoint]);
+        for equal in [0, 20] {
+            let lent =
+                models::sized(&mut rng, MAX_VARIABLES, MAX_ROWS, density, equal).with_table();
+            agree(lent, &[Operation::Rounds { limit: 2 }, Operation::IsProbingFixpoint]);
+        }
     }
 }
 
 #[test]
 fn a_crawl_of_hundreds_of_thousands_of_passes() {
-    let passes = |variables, bounds, ends_at_zero| {
-        let ring = Ring { variables, bounds, ends_at_zero, switched: false, reversed: false };
+    let passes = |variables, bounds, ends_at_zero, equal| {
+        let ring =
+            Ring { variables, bounds, ends_at_zero, switched: false, reversed: false, equal };
         let lent = ring.model().with_table();
         agree(lent, &[Operation::Propagate { budget: MAX_BUDGET }])[1]
     };
     // Upper bounds go down to 0, each step in as many passes as there are rows but one.
-    assert!(passes(60, [0, MAX_WIDTH], true) > 59 * 4_096);
+    assert!(passes(60, [0, MAX_WIDTH], true, false) > 59 * 4_096);
+    // The same with = rows, whose lower bounds have nowhere to go.
+    assert!(passes(20, [0, MAX_WIDTH], true, true) > 19 * 4_096);
     // Lower bounds go up by one in each pass until they meet the upper ones.
-    assert!(passes(12, [MAX_BOUND - MAX_WIDTH, MAX_BOUND], false) > 3_500);
+    assert!(passes(12, [MAX_BOUND - MAX_WIDTH, MAX_BOUND], false, false) > 3_500);
 }
 
 #[test]

@@ -1,7 +1,7 @@
 //! `include/astrolabe.h` and `src/ffi.rs` declare the same functions, and the header has the wrapper's version and limits: nothing else
 //! compares the two.
 
-use astrolabe::Refusal;
+use astrolabe::{Refusal, RowKind};
 
 const HEADER: &str = include_str!("../../include/astrolabe.h");
 const FFI: &str = include_str!("../src/ffi.rs");
@@ -91,5 +91,9 @@ fn the_header_has_the_limits_and_numbers_of_the_wrapper() {
     assert_eq!(defined("ANSWER_LEN"), astrolabe::ffi::ANSWER_LEN.to_string());
     assert_eq!(defined("MAX_BUDGET"), astrolabe::MAX_BUDGET.to_string());
     assert_eq!(defined("REFUSED_BUDGET"), Refusal::BudgetOutOfRange.check().to_string());
+    assert_eq!(defined("REFUSED_ROW_KIND"), Refusal::RowKind.check().to_string());
+    assert_eq!(defined("REFUSED_EQUALITY_ROW"), Refusal::EqualityRow.check().to_string());
     assert_eq!(defined("REFUSED_VARIABLE_TOO_WIDE"), Refusal::VariableTooWide.check().to_string());
+    assert_eq!(defined("ROW_KIND_AT_MOST"), (RowKind::AtMost as u8).to_string());
+    assert_eq!(defined("ROW_KIND_EQUAL"), (RowKind::Equal as u8).to_string());
 }

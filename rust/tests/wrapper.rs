@@ -1,7 +1,9 @@
 //! The safe wrapper: its methods say what the calls say, and its refusals are the checks' numbers.
 
 use astrolabe::ffi::ANSWER_LEN;
-use astrolabe::{Call, Model, Outcome, Probe, Propagation, Refusal, Rounds, RowPropagation, Side};
+use astrolabe::{
+    Call, Model, Outcome, Probe, Propagation, Refusal, Rounds, Row, RowKind, RowPropagation, Side,
+};
 use compare::lent::{Backend, Lent, Operation, Reference};
 use compare::models::{self, Family};
 use compare::rng::Rng;
@@ -90,10 +92,16 @@ fn expected(lent: &mut Lent, operation: Operation) -> Said {
     }
 }
 
+/// The kinds of a model of the generator.
+fn kinds(lent: &Lent) -> Vec<RowKind> {
+    let kind = |&byte: &u8| if byte == 1 { RowKind::Equal } else { RowKind::AtMost };
+    lent.kinds.iter().map(kind).collect()
+}
+
 /// A model of the generator, in the wrapper.
 fn wrapped(lent: &Lent) -> Model {
-    Model::new(lent.bounds.clone(), lent.coefs.clone(), lent.rhs.clone())
-        .expect("an accepted model")
+    let (bounds, coefs, rhs) = (lent.bounds.clone(), lent.coefs.clone(), lent.rhs.clone());
+    Model::with_kinds(bounds, coefs, rhs, kinds(lent)).expect("an accepted model")
 }
 
 #[test]
@@ -125,6 +133,7 @@ fn methods_say_what_the_calls_say() {
             assert_eq!(model.bounds(), lent.bounds);
             assert_eq!(model.coefs(), lent.coefs);
             assert_eq!(model.rhs(), lent.rhs);
+            assert_eq!(model.kinds(), kinds(&lent));
             assert_eq!(model.table(), lent.table);
         }
     }
@@ -154,9 +163,64 @@ fn books_come_back() {
     let mut rng = Rng::new(SEED);
     for _ in 0..500 {
         let family = rng.pick(&[Family::Tiny, Family::Mixed, Family::Limits, Family::Empty]);
-        let model = wrapped(&models::model(&mut rng, family));
+        let mut model = wrapped(&models::model(&mut rng, family));
+        if model.kinds().contains(&RowKind::Equal) {
+            assert_eq!(model.to_book(), Err(Refusal::EqualityRow));
+            (0..model.m()).for_each(|row| model.set_kind(row, RowKind::AtMost));
+        }
         let book = model.to_book().unwrap();
         assert_eq!(Model::from_book(&book), Ok(model));
+    }
+}
+
+#[test]
+fn equality_rows() {
+    let equal = |bounds: &[i32], coefs: &[i32], b: i32| {
+        Model::with_kinds(bounds.to_vec(), coefs.to_vec(), vec![b], vec![RowKind::Equal]).unwrap()
+    };
+    // 2x = 5: the ≤ form moves a bound, the negated form is infeasible, and nothing is counted.
+    let mut model = equal(&[0, 5], &[2], 5);
+    assert_eq!(model.clone().propagate(9), Ok(Propagation::Infeasible { passes: 1, moved: 0 }));
+    assert_eq!(model.propagate_row(0), Ok(RowPropagation::Infeasible));
+    assert!(model.is_empty_box());
+    // −2x + y = 0: more moves when it is propagated again.
+    let mut model = equal(&[0, 1, 0, 1], &[-2, 1], 0);
+    assert_eq!(model.propagate_row(0), Ok(RowPropagation::Tightened { moved: 1 }));
+    assert_eq!(model.propagate_row(0), Ok(RowPropagation::Tightened { moved: 1 }));
+    assert_eq!(model.bounds(), [0, 0, 0, 0]);
+    assert_eq!(model.propagate_row(0), Ok(RowPropagation::Unchanged));
+    // It holds at every point of the box that is left, so it can be removed; then it is a ≤ row.
+    assert_eq!(model.remove_redundant_row(0), Ok(Outcome::Changed));
+    let zero = Row { coefs: &[0, 0], rhs: 0, kind: RowKind::AtMost };
+    assert_eq!(model.rows().collect::<Vec<_>>(), [zero]);
+    // 3x + 2y = 4 is not tightened, 3x + 2y ≤ 4 is.
+    let mut model = equal(&[0, 1, 0, 1], &[3, 2], 4);
+    assert_eq!(model.tighten_coefficient(0, 0), Ok(Outcome::Unchanged));
+    model.set_kind(0, RowKind::AtMost);
+    assert_eq!(model.tighten_coefficient(0, 0), Ok(Outcome::Changed));
+    // x + y = 1: each value of x gives the one of y.
+    let mut model = equal(&[0, 1, 0, 1], &[1, 1], 1);
+    assert!(matches!(model.probe(0, 9), Ok(Probe::BothFeasible { new_implications: 4, .. })));
+    assert!(model.implies(0, false, 1, true) && model.implies(0, true, 1, false));
+    assert_eq!(model.is_probing_fixpoint(), Ok(true));
+    // 0 = 0: a round changes its kind alone, the next nothing.
+    let mut model = equal(&[0, 1], &[0], 0);
+    assert_eq!(model.clone().rounds(8), Ok(Rounds::Unchanged { rounds: 2 }));
+    assert_eq!(model.run(&[Call::remove_redundant_row(0)]).unwrap().changed, 1);
+    assert_eq!(model.kinds(), [RowKind::AtMost]);
+}
+
+#[test]
+fn an_exact_tonnage_is_one_row() {
+    // What docs/INTEGRATION.md says: the same points and the same end as two rows, one of them negated.
+    let receipts = || vec![0, 1, 0, 1, 0, 1];
+    let (one, both) = (vec![30, 25, 20], vec![30, 25, 20, -30, -25, -20]);
+    let mut exact = Model::with_kinds(receipts(), one, vec![45], vec![RowKind::Equal]).unwrap();
+    let mut two = Model::new(receipts(), both, vec![45, -45]).unwrap();
+    for model in [&mut exact, &mut two] {
+        assert!(matches!(model.probe(0, 1_000), Ok(Probe::Fixed { value: 0, .. })));
+        assert_eq!(model.bounds(), [0, 0, 1, 1, 1, 1]);
+        assert_eq!(model.is_probing_fixpoint(), Ok(true));
     }
 }
 
@@ -221,4 +285,12 @@ fn a_model_is_checked_when_it_is_made() {
     assert_eq!(new(&[-1, 4_096], &[1_000_001], &[3]), Err(Refusal::VariableTooWide));
     assert_eq!(new(&[0, 1], &[1_000_001], &[3]), Err(Refusal::CoefficientOutOfRange));
     assert_eq!(new(&[0, 1], &[1], &[1_000_000_001]), Err(Refusal::RightHandSideOutOfRange));
+    // A kind for each row.
+    let with = |kinds: &[RowKind], b| {
+        Model::with_kinds(vec![0, 1], vec![1], vec![b], kinds.to_vec()).map(|_| ())
+    };
+    assert_eq!(with(&[RowKind::Equal], 1), Ok(()));
+    assert_eq!(with(&[], 1), Err(Refusal::BufferLength));
+    assert_eq!(with(&[RowKind::AtMost; 2], 1), Err(Refusal::BufferLength));
+    assert_eq!(with(&[RowKind::Equal], 1_000_000_001), Err(Refusal::RightHandSideOutOfRange));
 }

@@ -3,23 +3,26 @@
 use Prim.Native.Nat.{_*_, _<_, _≤_, ℕ}
 use lib.Dec.{T, eqb}
 use lib.IntN.{ℤ}
-use lib.ListN.{length}
-use mathlib.Core.Bool.{Bool, _&&_}
+use lib.ListN.{getD, length}
+use mathlib.Core.Bool.{Bool, _&&_, not}
 use mathlib.Core.List.{List, [], _++_}
 use mathlib.Core.Logic.{_↔_}
 use mathlib.Core.Path.{_∙_, _≡_, ap, refl, sym}
 use native.Mathlib.Decide.{ℕ-discrete}
 use native.Mathlib.Omega.{arith}
+use Rattle.integer.proofs.IndexLaws.{all-test}
 use Rattle.integer.proofs.Tests.{all-three, eqb-test, leb-test, test-false, test-true}
 use Rattle.model.specs.Checks.{Check, boxChecks, first, lengthChecks, modelChecks, modelFault, none, numberChecks, sizeChecks, tableByteChecks, tableLengthChecks}
 use Rattle.model.specs.Limits.{maxRows, maxVariables}
 use Rattle.model.specs.Model.{Model, modelOf}
+use Rattle.model.specs.Rows.{Rows, isEquality}
 use Rattle.model.specs.Valid.{ValidModel}
-use Rattle.model.proofs.CheckLaws.{ends, fails, fault-none, first-none, first-stop, first-zero-append, fits-fault-none, goes, length-test, numbered, past, size-test}
+use Rattle.model.proofs.CheckLaws.{LengthsFit, ends, fails, fault-none, first-none, first-stop, first-zero-append, fits-fault-none, goes, length-test, numbered, past, size-test}
 use Rattle.book.specs.Answers.{readFault, writeFault}
 use Rattle.book.specs.Book.{HoldsModel, bookLength, boundsOffset, decode, lengthGiven, modelIn, rows, rowsOffset, trailerOf, variables}
-use Rattle.book.specs.BookChecks.{bookChecks, bookFault, givenLengthChecks, headChecks, layoutChecks, modelNumberChecks, offsetChecks, readChecks, writeChecks}
-use Rattle.book.proofs.DecodeLaws.{length-boundsOf, length-coefsOf, length-rhsOf}
+use Rattle.book.specs.BookChecks.{bookChecks, bookFault, firstEditionChecks, givenLengthChecks, headChecks, inequalities, layoutChecks, modelNumberChecks, offsetChecks, readChecks, writeChecks}
+use Rattle.book.specs.RoundTrips.{FirstEdition}
+use Rattle.book.proofs.DecodeLaws.{length-boundsOf, length-coefsOf, length-kindsOf, length-rhsOf}
 
 -- the three lists of checks that a model in memory takes
 pub valid-checks : (M : Model)
@@ -117,7 +120,7 @@ decoded-lengths bs =
     let t = trailerOf bs in
     let n = variables t in
     let m = rows t in
-    first-none (lengthChecks (decode bs)) tt .1 (length-test (decode bs) .1 (length-boundsOf n m bs, length-coefsOf n m bs, length-rhsOf n m bs), tt)
+    first-none (lengthChecks (decode bs)) tt .1 (length-test (decode bs) .1 (length-boundsOf n m bs, length-coefsOf n m bs, length-rhsOf n m bs, length-kindsOf m), tt)
 
 -- a book is accepted exactly if it has a head and its model is valid
 pub book-test : (bs : List ℕ) → (bookFault bs ≡ 0) ↔ (Head bs × ValidModel (decode bs))
@@ -141,13 +144,17 @@ head-holds bs h =
 
 -- ---- reading and writing
 
+pub model-numbered : (M : Model) (fits : Bool) → T (numbered (modelChecks M none fits))
+unfolding modelChecks sizeChecks lengthChecks tableLengthChecks boxChecks numberChecks tableByteChecks
+model-numbered M fits = tt
+
 -- a book that is read is accepted, and the buffers have its model's lengths
-pub read-passed : (bs : List ℕ) (B C R : List ℤ) → readFault bs B C R ≡ 0
-    → Head bs × ((length B ≡ 2 * decode bs .n) × (length C ≡ decode bs .m * decode bs .n) × (length R ≡ decode bs .m)) × (bookFault bs ≡ 0)
+pub read-passed : (bs : List ℕ) (B : List ℤ) (A : Rows) → readFault bs B A ≡ 0
+    → Head bs × LengthsFit (modelOf (decode bs .n) (decode bs .m) B A) × (bookFault bs ≡ 0)
 unfolding readFault readChecks bookFault bookChecks lengthChecks
-read-passed bs B C R e =
+read-passed bs B A e =
     let M = decode bs in
-    let lent = modelOf (M .n) (M .m) B C R in
+    let lent = modelOf (M .n) (M .m) B A in
     let L = lengthChecks lent in
     let h = first-zero-append (headChecks bs) (L ++ modelNumberChecks M) (head-numbered bs) .0 e in
     let k = first-zero-append L (modelNumberChecks M) tt .0 (h .1) in (
@@ -156,23 +163,36 @@ read-passed bs B C R e =
       first-zero-append (headChecks bs) (modelNumberChecks M) (head-numbered bs) .1 (h .0, k .1),
     )
 
--- a model that is written is valid, and the buffer has its book's length
-pub write-passed : (M : Model) (bs : List ℕ) → writeFault M bs ≡ 0 → ValidModel M × (length bs ≡ bookLength (M .n) (M .m))
-unfolding writeFault writeChecks modelFault
+-- what check 17 asks
+pub inequalities-test : (K : List ℕ) → T (inequalities K) ↔ ((i : ℕ) → i < length K → T (not (eqb (getD K i 0) 1)))
+unfolding inequalities
+inequalities-test K = all-test (length K) (λ i. not (eqb (getD K i 0) 1)) (λ i. ((λ t. t), (λ t. t)))
+
+-- a model that is written is valid and has no = row, and the buffer has its book's length
+pub write-passed : (M : Model) (bs : List ℕ) → writeFault M bs ≡ 0 → FirstEdition M × (length bs ≡ bookLength (M .n) (M .m))
+unfolding writeFault writeChecks firstEditionChecks modelFault isEquality
 write-passed M bs e =
     let k = bookLength (M .n) (M .m) in
-    let h = fits-fault-none M (eqb (length bs) k) .0 e in
-    (h .0, eqb-test (length bs) k .0 (h .1))
+    let fits = eqb (length bs) k in
+    let K = M .rows .kinds in
+    let p = first-zero-append (modelChecks M none fits) (firstEditionChecks K) (model-numbered M fits) .0 e in
+    let h = fits-fault-none M fits .0 (p .0) in
+    let q = inequalities-test K .0 (first-none (firstEditionChecks K) tt .0 (p .1) .0) in
+    (record { valid = h .0; inequality = λ i l. q i (omega (arith, h .0 .kindsLen)) }, eqb-test (length bs) k .0 (h .1))
 
 -- the model's chain answers for the call: beyond the limits of n and m the answer is 3, whatever is said of the book's length
 pub write-answers : (M : Model) (bs : List ℕ) (fits : Bool)
-    → (first (sizeChecks (M .n) (M .m)) ≡ 0 → fits ≡ eqb (length bs) (bookLength (M .n) (M .m))) → modelFault M none fits ≡ writeFault M bs
-unfolding writeFault writeChecks modelFault modelChecks
+    → (first (sizeChecks (M .n) (M .m)) ≡ 0 → fits ≡ eqb (length bs) (bookLength (M .n) (M .m)))
+    → modelFault M none fits ≡ first (modelChecks M none (eqb (length bs) (bookLength (M .n) (M .m))))
+unfolding modelFault modelChecks
 write-answers M bs fits h = cases (ℕ-discrete (first sizes) 0)
   where
+    right : Bool
+    right = eqb (length bs) (bookLength (M .n) (M .m))
+
     sizes : List Check
     sizes = sizeChecks (M .n) (M .m)
 
-    cases : Dec (first sizes ≡ 0) → modelFault M none fits ≡ writeFault M bs
+    cases : Dec (first sizes ≡ 0) → modelFault M none fits ≡ modelFault M none right
     cases (yes e) = ap (λ f. modelFault M none f) (h e)
     cases (no n) = first-stop sizes _ n ∙ sym (first-stop sizes _ n)

@@ -1,7 +1,7 @@
 -- Laws of a book's model: its lists are as long as n and m say, and each number is the one at its place.
 use Prim.Native.Nat.{_*_, _+_, _<_, suc, zero, ℕ}
 use lib.IntN.{pos, ℤ}
-use lib.ListN.{List·getD-append, length, length-append}
+use lib.ListN.{List·getD-append, getD, getD-replicate, length, length-append, length-replicate}
 use lib.Seq.{getD-append-add}
 use lib.Signed.{leZ}
 use mathlib.Core.Bool.{Bool, _&&_, false, true}
@@ -9,9 +9,11 @@ use mathlib.Core.List.{List, _++_}
 use mathlib.Core.Path.{_∙_, _≡_, ap, ap₂, refl, sym}
 use native.Mathlib.Omega.{arith}
 use Rattle.integer.specs.Index.{all}
+use Rattle.integer.proofs.Tests.{test-true}
 use Rattle.model.specs.Box.{at}
-use Rattle.model.specs.Checks.{inRange}
-use Rattle.book.specs.Book.{boundsOf, coefsOf, rhsOf, rowPlace}
+use Rattle.model.specs.Checks.{bits, inRange}
+use Rattle.model.proofs.CheckLaws.{bits-test}
+use Rattle.book.specs.Book.{boundsOf, coefsOf, kindsOf, rhsOf, rowPlace}
 use Rattle.book.specs.Bytes.{integerAt, integersAt}
 use Rattle.book.specs.Pieces.{joined}
 use Rattle.book.proofs.PieceLaws.{getD-grid, getD-listOf, length-grid, length-listOf}
@@ -49,6 +51,20 @@ module _ (n m : ℕ) (bs : List ℕ) where
   pub at-coefsOf : (i j : ℕ) → i < m → j < n → at (coefsOf n m bs) (i * n + j) ≡ integerAt (rowPlace n i + 4 + j * 4) bs
   unfolding coefsOf integersAt
   at-coefsOf i j h k = getD-grid m n (λ r s. integerAt (rowPlace n r + 4 + s * 4) bs) i j (pos 0) h k
+
+-- ---- the kinds
+
+pub length-kindsOf : (m : ℕ) → length (kindsOf m) ≡ m
+unfolding kindsOf
+length-kindsOf m = length-replicate m 0
+
+pub kind-none : (m i : ℕ) → i < m → getD (kindsOf m) i 0 ≡ 0
+unfolding kindsOf
+kind-none m i h = getD-replicate m i 0 0 h
+
+-- check 16 passes
+pub bits-kindsOf : (m : ℕ) → bits (kindsOf m) ≡ true
+bits-kindsOf m = test-true _ (bits-test (kindsOf m)) (λ i h. omega (arith, kind-none m i (omega (arith, length-kindsOf m))))
 
 -- ---- joined lists are in range exactly if each is
 

@@ -4,29 +4,29 @@ use Prim.Native.Nat.{_%_, _*_, _+_, _-_, _/_, _<_, suc, zero, ℕ}
 use lib.Dec.{eqb, eqb→eq}
 use lib.IntN.{pos, ℤ}
 use lib.ListN.{drop, getD, length, length-drop, take-append-drop}
-use lib.Seq.{getD-drop}
+use lib.Seq.{ext-getD, getD-drop}
 use mathlib.Core.List.{List, [], _++_, _∷_}
 use mathlib.Core.Path.{_∙_, _≡_, ap, ap₂, sym}
 use mir.Syntax.{w32}
 use mir.Val.{SFits}
 use native.Mathlib.Omega.{arith}
 use Rattle.integer.proofs.Parts.{fit-in⁺, fit-in⁻, fits, zarith}
-use Rattle.integer.proofs.Tests.{cond-ind}
+use Rattle.integer.proofs.Tests.{cond-ind, neqb→ne}
 use Rattle.model.specs.Box.{at}
 use Rattle.model.specs.Model.{Model, modelOf}
-use Rattle.model.specs.Rows.{rowAt, rowsOf}
+use Rattle.model.specs.Rows.{Rows, isEquality, rowAt, rowsOf}
 use Rattle.model.specs.Valid.{Between, ValidModel}
 use Rattle.model.proofs.RowsLaws.{at-rowOf}
-use Rattle.book.specs.Answers.{Answer, bookWritten, boundsRead, coefsRead, readCall, readFault, refused, rhsRead, sizesAre, unless, writeCall, writeFault, written}
-use Rattle.book.specs.Book.{bookLength, boundBytes, boundsOf, coefsOf, decode, encode, modelIn, rhsOf, rowBytes, rowBytesAt, rowPlace, rows, trailerBytes, trailerOf, variables}
+use Rattle.book.specs.Answers.{Answer, bookWritten, boundsRead, coefsRead, kindsRead, readCall, readFault, refused, rhsRead, sizesAre, unless, writeCall, writeFault, written}
+use Rattle.book.specs.Book.{bookLength, boundBytes, boundsOf, coefsOf, decode, encode, kindsOf, modelIn, rhsOf, rowBytes, rowBytesAt, rowPlace, rows, trailerBytes, trailerOf, variables}
 use Rattle.book.specs.BookChecks.{bookFault}
 use Rattle.book.specs.Bytes.{Bytes, bitsOf, bytesOf, integerBytes, integersAt}
 use Rattle.book.specs.Pieces.{joined, part}
-use Rattle.book.specs.RoundTrips.{OneBook, OneModel, ReadsWritten, WritesRead}
+use Rattle.book.specs.RoundTrips.{FirstEdition, OneBook, OneModel, ReadsWritten, WritesRead}
 use Rattle.book.proofs.AcceptLaws.{Head, Layout, book-test, read-passed, write-passed}
 use Rattle.book.proofs.AnswerLaws.{becomes}
 use Rattle.book.proofs.ByteLaws.{bytes-numberAt, integer-read, integer-written}
-use Rattle.book.proofs.DecodeLaws.{at-boundsOf, at-coefsOf, at-rhsOf}
+use Rattle.book.proofs.DecodeLaws.{at-boundsOf, at-coefsOf, at-rhsOf, kind-none, length-kindsOf}
 use Rattle.book.proofs.EncodeLaws.{bound-encode, coef-encode, length-encode, rhs-encode, trailer-bounds, trailer-encode, trailer-length, trailer-m, trailer-n, trailer-rows}
 use Rattle.book.proofs.PieceLaws.{grid-all, joined-cong, joined-parts, listOf-all, part-add, part-whole, piece-within}
 
@@ -71,7 +71,10 @@ bytes-encode M =
 between-fits : (low high z : ℤ) → SFits w32 low → SFits w32 high → Between low high z → SFits w32 z
 between-fits low high z l h b = fits w32 z (omega (zarith, b .above, b .below, fit-in⁻ l, fit-in⁺ h))
 
-module _ (M : Model) (v : ValidModel M) where
+module _ (M : Model) (w : FirstEdition M) where
+  v : ValidModel M
+  v = w .valid
+
   bounds-back : boundsOf (M .n) (encode M) ≡ M .box
   unfolding boundsOf integersAt
   bounds-back =
@@ -91,6 +94,13 @@ module _ (M : Model) (v : ValidModel M) where
       (integer-written (rowPlace (M .n) i + 4 + j * 4) (encode M) (at (M .rows .coefs) (i * M .n + j)) (between-fits _ _ _ (fits w32 _ (omega arith)) (fits w32 _ (omega arith)) (v .coefs (i * M .n + j))) (coef-encode M i j h k))))
       ∙ grid-all (M .rows .coefs) (M .m) (M .n) (pos 0) (v .coefsLen)
 
+  kinds-back : kindsOf (M .m) ≡ M .rows .kinds
+  unfolding isEquality
+  kinds-back =
+      ext-getD 0 _ _ (length-kindsOf (M .m) ∙ sym (v .kindsLen))
+      (λ i h. let l : i < M .m = omega (arith, length-kindsOf (M .m)) in
+      omega (arith, kind-none (M .m) i l, v .kinds i, neqb→ne (getD (M .rows .kinds) i 0) 1 (w .inequality i l)))
+
   n-back : variables (trailerOf (encode M)) ≡ M .n
   n-back = ap variables (trailer-encode M) ∙ trailer-n (M .n) (M .m) (v .few)
 
@@ -99,7 +109,7 @@ module _ (M : Model) (v : ValidModel M) where
 
   pub decode-encode : decode (encode M) ≡ M
   unfolding decode modelIn
-  decode-encode = rw (n-back, m-back, bounds-back, rhs-back, coefs-back)
+  decode-encode = rw (n-back, m-back, bounds-back, rhs-back, coefs-back, kinds-back)
 
   head-encode : Head (encode M)
   unfolding bookLength
@@ -121,9 +131,9 @@ module _ (M : Model) (v : ValidModel M) where
       }
 
 pub reads-written : ReadsWritten
-reads-written M v = (
-  record { bytes = bytes-encode M; faultless = book-test (encode M) .1 (head-encode M v, rw (decode-encode M v) v) },
-  decode-encode M v,
+reads-written M w = (
+  record { bytes = bytes-encode M; faultless = book-test (encode M) .1 (head-encode M w, rw (decode-encode M w) (w .valid)) },
+  decode-encode M w,
 )
 
 -- ---- writing a read book
@@ -144,7 +154,7 @@ module _ (n m : ℕ) (bs : List ℕ) (b : Bytes bs) (l : length bs ≡ bookLengt
       joined-cong (2 * n) _ _ (λ i h. ap integerBytes (at-boundsOf n m bs i h) ∙ integer-read (0 + i * 4) bs b (omega arith))
       ∙ joined-parts (2 * n) 4 0 bs
 
-  row-again : (i : ℕ) → i < m → rowBytesAt n (rowsOf (coefsOf n m bs) (rhsOf n m bs)) i ≡ part (8 * n + i * (4 + 4 * n)) (4 + 4 * n) bs
+  row-again : (i : ℕ) → i < m → rowBytesAt n (rowsOf (coefsOf n m bs) (rhsOf n m bs) (kindsOf m)) i ≡ part (8 * n + i * (4 + 4 * n)) (4 + 4 * n) bs
   unfolding rowBytes modelIn bookLength rowPlace
   row-again i h =
       let p = 8 * n + i * (4 + 4 * n) in
@@ -157,7 +167,7 @@ module _ (n m : ℕ) (bs : List ℕ) (b : Bytes bs) (l : length bs ≡ bookLengt
       ∙ sym (part-add p 4 (n * 4) bs)
       ∙ ap (λ (k : ℕ). part p k bs) (sym w)
 
-  rows-again : joined m (rowBytesAt n (rowsOf (coefsOf n m bs) (rhsOf n m bs))) ≡ part (8 * n) (m * (4 + 4 * n)) bs
+  rows-again : joined m (rowBytesAt n (rowsOf (coefsOf n m bs) (rhsOf n m bs) (kindsOf m))) ≡ part (8 * n) (m * (4 + 4 * n)) bs
   rows-again = joined-cong m _ _ row-again ∙ joined-parts m (4 + 4 * n) (8 * n) bs
 
   -- the bounds, the rows and the trailer are the book
@@ -173,6 +183,11 @@ module _ (n m : ℕ) (bs : List ℕ) (b : Bytes bs) (l : length bs ≡ bookLengt
       ∙ ap (λ (xs : List ℕ). xs ++ drop (8 * n + k) bs) (sym (part-add 0 (8 * n) k bs))
       ∙ take-append-drop (8 * n + k) bs)
 
+-- no row of a book is an = row
+pub book-inequalities : (bs : List ℕ) → ValidModel (decode bs) → FirstEdition (decode bs)
+unfolding decode modelIn isEquality
+book-inequalities bs v = record { valid = v; inequality = λ i h. rw (kind-none (rows (trailerOf bs)) i h) tt }
+
 pub writes-read : WritesRead
 unfolding decode trailerOf
 writes-read bs a =
@@ -181,7 +196,7 @@ writes-read bs a =
     let l = h .0 .layout in
     let k : length t ≡ 16 = omega (arith, length-drop (length bs - 16) bs, h .0 .long) in
     let tb : Bytes t = record { below = λ i. rw (getD-drop (length bs - 16) bs i 0) (a .bytes .below (length bs - 16 + i)) } in
-    (h .1, book-again (variables t) (rows t) bs (a .bytes) (sym (h .0 .whole) ∙ l .ends) (trailer-back t tb k l))
+    (book-inequalities bs (h .1), book-again (variables t) (rows t) bs (a .bytes) (sym (h .0 .whole) ∙ l .ends) (trailer-back t tb k l))
 
 -- ---- and so
 
@@ -200,19 +215,19 @@ unless-accepted fault a b n =
     cond-ind (eqb fault 0) a (refused fault) (λ (r : Answer). r ≡ b → (fault ≡ 0) × (a ≡ b))
     (λ t e. (eqb→eq fault 0 t, e)) (λ t e. absurd (n fault e))
 
-pub reads-back : (bs : List ℕ) (B C R B′ C′ R′ : List ℤ) → Bytes bs
-    → B′ ≡ boundsRead bs B C R → C′ ≡ coefsRead bs B C R → R′ ≡ rhsRead bs B C R
-    → (n m : ℕ) → readCall bs B C R ≡ sizesAre n m → encode (modelOf n m B′ C′ R′) ≡ bs
-unfolding readCall boundsRead coefsRead rhsRead
-reads-back bs B C R B′ C′ R′ b e₁ e₂ e₃ n m a =
+pub reads-back : (bs : List ℕ) (B B′ : List ℤ) (A A′ : Rows) → Bytes bs
+    → B′ ≡ boundsRead bs B A → A′ .coefs ≡ coefsRead bs B A → A′ .rhs ≡ rhsRead bs B A → A′ .kinds ≡ kindsRead bs B A
+    → (n m : ℕ) → readCall bs B A ≡ sizesAre n m → encode (modelOf n m B′ (rowsOf (A′ .coefs) (A′ .rhs) (A′ .kinds))) ≡ bs
+unfolding readCall boundsRead coefsRead rhsRead kindsRead
+reads-back bs B B′ A A′ b e₁ e₂ e₃ e₄ n m a =
     let M = decode bs in
-    let f = readFault bs B C R in
+    let f = readFault bs B A in
     let h = unless-accepted f (sizesAre (M .n) (M .m)) (sizesAre n m) (λ k e. never k n m e) a in
     let z = h .0 in
     let i : M .n ≡ n = cc (h .1) in
     let j : M .m ≡ m = cc (h .1) in
-    rw (e₁, e₂, e₃, ← i, ← j, ← becomes z B (M .box), ← becomes z C (M .rows .coefs), ← becomes z R (M .rows .rhs))
-    (writes-read bs (record { bytes = b; faultless = read-passed bs B C R z .2 }) .1)
+    rw (e₁, e₂, e₃, e₄, ← i, ← j, ← becomes z B (M .box), ← becomes z (A .coefs) (M .rows .coefs), ← becomes z (A .rhs) (M .rows .rhs), ← becomes z (A .kinds) (M .rows .kinds))
+    (writes-read bs (record { bytes = b; faultless = read-passed bs B A z .2 }) .1)
   where
     never : (k n m : ℕ) → refused k ≡ sizesAre n m → ⊥
     never k n m e = let z : _≡_ {A = ℕ} 0 1 = cc in omega arith

@@ -7,6 +7,7 @@ use mathlib.Core.Bool.{cond}
 use mathlib.Core.List.{List}
 use Rattle.model.specs.Checks.{first}
 use Rattle.model.specs.Model.{Model}
+use Rattle.model.specs.Rows.{Rows}
 use Rattle.book.specs.Book.{decode, encode, rows, variables}
 use Rattle.book.specs.BookChecks.{readChecks, trailerChecks, writeChecks}
 use Rattle.book.specs.declared.layout.SizesAnswer.{SizesAnswer}
@@ -42,23 +43,27 @@ lent fault before after = cond (eqb fault 0) after before
 unfoldable pub trailerCall : List ℕ → Answer
 trailerCall t = unless (first (trailerChecks t)) (sizesAre (variables t) (rows t))
 
--- ---- reading bs into the buffers B, C and R
+-- ---- reading bs into the buffers B and those of the rows A
 
-unfoldable pub readFault : List ℕ → List ℤ → List ℤ → List ℤ → ℕ
-readFault bs B C R = first (readChecks bs B C R)
+unfoldable pub readFault : List ℕ → List ℤ → Rows → ℕ
+readFault bs B A = first (readChecks bs B A)
 
-unfoldable pub readCall : List ℕ → List ℤ → List ℤ → List ℤ → Answer
-readCall bs B C R = unless (readFault bs B C R) (sizesAre (decode bs .n) (decode bs .m))
+unfoldable pub readCall : List ℕ → List ℤ → Rows → Answer
+readCall bs B A = unless (readFault bs B A) (sizesAre (decode bs .n) (decode bs .m))
 
 -- what is in the buffers then
-unfoldable pub boundsRead : List ℕ → List ℤ → List ℤ → List ℤ → List ℤ
-boundsRead bs B C R = lent (readFault bs B C R) B (decode bs .box)
+unfoldable pub boundsRead : List ℕ → List ℤ → Rows → List ℤ
+boundsRead bs B A = lent (readFault bs B A) B (decode bs .box)
 
-unfoldable pub coefsRead : List ℕ → List ℤ → List ℤ → List ℤ → List ℤ
-coefsRead bs B C R = lent (readFault bs B C R) C (decode bs .rows .coefs)
+unfoldable pub coefsRead : List ℕ → List ℤ → Rows → List ℤ
+coefsRead bs B A = lent (readFault bs B A) (A .coefs) (decode bs .rows .coefs)
 
-unfoldable pub rhsRead : List ℕ → List ℤ → List ℤ → List ℤ → List ℤ
-rhsRead bs B C R = lent (readFault bs B C R) R (decode bs .rows .rhs)
+unfoldable pub rhsRead : List ℕ → List ℤ → Rows → List ℤ
+rhsRead bs B A = lent (readFault bs B A) (A .rhs) (decode bs .rows .rhs)
+
+-- "First-edition books have kind 0 throughout": whatever the buffer held, it is all 0 (`kindsOf`)
+unfoldable pub kindsRead : List ℕ → List ℤ → Rows → List ℕ
+kindsRead bs B A = lent (readFault bs B A) (A .kinds) (decode bs .rows .kinds)
 
 -- ---- writing the model M into the buffer bs
 

@@ -1,11 +1,11 @@
 -- The book (01, "Book"): the bytes of a model and the model of a book.
 use Prim.Native.Nat.{_*_, _+_, _-_, _≤_, ℕ}
 use lib.IntN.{ℤ}
-use lib.ListN.{drop, length}
+use lib.ListN.{drop, length, replicate}
 use mathlib.Core.List.{List, _++_}
 use Rattle.model.specs.Box.{at}
 use Rattle.model.specs.Model.{Model, modelOf}
-use Rattle.model.specs.Rows.{Row, Rows, rowAt}
+use Rattle.model.specs.Rows.{Row, Rows, rowAt, rowsOf}
 use Rattle.book.specs.Bytes.{bytesOf, integerAt, integerBytes, integersAt, numberAt}
 use Rattle.book.specs.Pieces.{joined, listOf}
 
@@ -29,7 +29,7 @@ pub record HoldsModel (n m : ℕ) (bs : List ℕ) : Type 0 where
 unfoldable pub boundBytes : Model → List ℕ
 boundBytes M = joined (2 * M .n) (λ i. integerBytes (at (M .box) i))
 
--- "then for each row b and n coefficients, 32 bits each"
+-- "then for each row b and n coefficients, 32 bits each"; a first-edition book has no byte for the kind
 unfoldable pub rowBytes : ℕ → Row → List ℕ
 rowBytes n r = integerBytes (r .rhs) ++ joined n (λ j. integerBytes (at (r .coefs) j))
 
@@ -75,8 +75,12 @@ rhsOf n m bs = listOf m (λ i. integerAt (rowPlace n i) bs)
 unfoldable pub coefsOf : ℕ → ℕ → List ℕ → List ℤ
 coefsOf n m bs = joined m (λ i. integersAt (rowPlace n i + 4) 4 n bs)
 
+-- "First-edition books have kind 0 throughout." (02, C-14)
+unfoldable pub kindsOf : ℕ → List ℕ
+kindsOf m = replicate m 0
+
 unfoldable pub modelIn : ℕ → ℕ → List ℕ → Model
-modelIn n m bs = modelOf n m (boundsOf n bs) (coefsOf n m bs) (rhsOf n m bs)
+modelIn n m bs = modelOf n m (boundsOf n bs) (rowsOf (coefsOf n m bs) (rhsOf n m bs) (kindsOf m))
 
 unfoldable pub decode : List ℕ → Model
 decode bs = let t = trailerOf bs in modelIn (variables t) (rows t) bs

@@ -17,8 +17,9 @@ ghost use Rattle.model.specs.Checks.{boxChecks, first, inRange, numberChecks};
 ghost use Rattle.model.specs.Limits.{minCoef, maxCoef};
 ghost use Rattle.model.specs.Model.{modelOf};
 ghost use Rattle.model.specs.Rows.{rowsOf};
-ghost use Rattle.book.specs.Answers.{boundsRead, coefsRead, readCall, readFault, rhsRead, sizesAnswer, sizesAre};
-ghost use Rattle.book.specs.Book.{HoldsModel, boundsOf, coefsOf, encode, rhsOf};
+ghost use Rattle.book.specs.Answers.{boundsRead, coefsRead, kindsRead, readCall, readFault, rhsRead};
+ghost use Rattle.book.specs.Answers.{sizesAnswer, sizesAre};
+ghost use Rattle.book.specs.Book.{HoldsModel, boundsOf, coefsOf, encode, kindsOf, rhsOf};
 
 // Checks 6, 7 and 23 over the book's bounds.
 fn bounds_fault(n: usize, book: &[u8]) -> u32
@@ -47,12 +48,14 @@ fn coefs_in_range(n: usize, m: usize, book: &[u8]) -> bool
     true
 }
 
-// Checks 6, 7, 23, 8 and 9 over the book's numbers: the number of the first that fails, else 0.
+// Checks 6, 7, 23, 8 and 9 over the book's numbers: the number of the first that fails, else 0. Its kinds are all 0, so
+// 16 passes.
 fn number_fault(n: usize, m: usize, book: &[u8]) -> u32
     requires { ⌜ HoldsModel n m (now book) ⌝ }
     ensures { λ r.
         let bs = now (book .entry) in
-        ⌜ r ≡ first (numberChecks n (boundsOf n bs) (rowsOf (coefsOf n m bs) (rhsOf n m bs))) ⌝ }
+        let A = rowsOf (coefsOf n m bs) (rhsOf n m bs) (kindsOf m) in
+        ⌜ r ≡ first (numberChecks n (boundsOf n bs) A) ⌝ }
 {
     let fault = bounds_fault(n, book);
     if fault != 0 {
@@ -69,8 +72,10 @@ fn number_fault(n: usize, m: usize, book: &[u8]) -> u32
 
 // All checks of a book and of the buffers that it is to be read into, 1 to 9 and 23: the number of the first that
 // fails, else 0.
-fn read_fault(book: &[u8], bounds: &[i32], coefs: &[i32], rhs: &[i32]) -> u32
-    ensures { λ r. ⌜ r ≡ readFault (now (book .entry)) (now (bounds .entry)) (now (coefs .entry)) (now (rhs .entry)) ⌝ }
+fn read_fault(book: &[u8], bounds: &[i32], coefs: &[i32], rhs: &[i32], kinds: &[u8]) -> u32
+    ensures { λ r.
+        let A = rowsOf (now (coefs .entry)) (now (rhs .entry)) (now (kinds .entry)) in
+        ⌜ r ≡ readFault (now (book .entry)) (now (bounds .entry)) A ⌝ }
 {
     let head = head_fault(book);
     if head != 0 {
@@ -78,7 +83,7 @@ fn read_fault(book: &[u8], bounds: &[i32], coefs: &[i32], rhs: &[i32]) -> u32
     }
     let n = trailer_u16(book, VARIABLES);
     let m = trailer_u16(book, ROWS);
-    let length = model::length_fault(n, m, bounds, coefs, rhs);
+    let length = model::length_fault(n, m, bounds, coefs, rhs, kinds);
     if length != 0 {
         return length;
     }
@@ -99,25 +104,47 @@ fn read_coefs(n: usize, m: usize, book: &[u8], coefs: &mut [i32])
     }
 }
 
-// Reads a book into lent buffers and answers n and m. Refused by 1 to 9 and 23; then nothing is written.
-// Writing what was read gives the same book (`round_trip`).
-pub fn read(book: &[u8], bounds: &mut [i32], coefs: &mut [i32], rhs: &mut [i32]) -> SizesAnswer
-    ensures answer { λ r.
-        ⌜ sizesAnswer r ≡ readCall (now (book .entry)) (now (bounds .entry)) (now (coefs .entry)) (now (rhs .entry)) ⌝ }
-    ensures bounds_read { λ r.
-        ⌜ now (bounds .exit) ≡
-        boundsRead (now (book .entry)) (now (bounds .entry)) (now (coefs .entry)) (now (rhs .entry)) ⌝ }
-    ensures coefs_read { λ r.
-        ⌜ now (coefs .exit) ≡
-        coefsRead (now (book .entry)) (now (bounds .entry)) (now (coefs .entry)) (now (rhs .entry)) ⌝ }
-    ensures rhs_read { λ r.
-        ⌜ now (rhs .exit) ≡
-        rhsRead (now (book .entry)) (now (bounds .entry)) (now (coefs .entry)) (now (rhs .entry)) ⌝ }
-    ensures round_trip { λ r.
-        ⌜ ((n m : ℕ) → sizesAnswer r ≡ sizesAre n m →
-        encode (modelOf n m (now (bounds .exit)) (now (coefs .exit)) (now (rhs .exit))) ≡ now (book .entry)) ⌝ }
+// The kinds of a first-edition book: every row is a ≤ row.
+fn read_kinds(kinds: &mut [u8])
+    ensures { λ r. ⌜ now (kinds .exit) ≡ kindsOf (length (now (kinds .entry))) ⌝ }
 {
-    let fault = read_fault(book, bounds, coefs, rhs);
+    let mut i = 0;
+    while i < kinds.len() {
+        kinds[i] = 0;
+        i += 1;
+    }
+}
+
+// Reads a book into lent buffers and answers n and m; the kinds become all 0. Refused by 1 to 9 and 23; then nothing is
+// written. Writing what was read gives the same book (`round_trip`).
+pub fn read(
+    book: &[u8],
+    bounds: &mut [i32],
+    coefs: &mut [i32],
+    rhs: &mut [i32],
+    kinds: &mut [u8],
+) -> SizesAnswer
+    ensures answer { λ r.
+        let A = rowsOf (now (coefs .entry)) (now (rhs .entry)) (now (kinds .entry)) in
+        ⌜ sizesAnswer r ≡ readCall (now (book .entry)) (now (bounds .entry)) A ⌝ }
+    ensures bounds_read { λ r.
+        let A = rowsOf (now (coefs .entry)) (now (rhs .entry)) (now (kinds .entry)) in
+        ⌜ now (bounds .exit) ≡ boundsRead (now (book .entry)) (now (bounds .entry)) A ⌝ }
+    ensures coefs_read { λ r.
+        let A = rowsOf (now (coefs .entry)) (now (rhs .entry)) (now (kinds .entry)) in
+        ⌜ now (coefs .exit) ≡ coefsRead (now (book .entry)) (now (bounds .entry)) A ⌝ }
+    ensures rhs_read { λ r.
+        let A = rowsOf (now (coefs .entry)) (now (rhs .entry)) (now (kinds .entry)) in
+        ⌜ now (rhs .exit) ≡ rhsRead (now (book .entry)) (now (bounds .entry)) A ⌝ }
+    ensures kinds_read { λ r.
+        let A = rowsOf (now (coefs .entry)) (now (rhs .entry)) (now (kinds .entry)) in
+        ⌜ now (kinds .exit) ≡ kindsRead (now (book .entry)) (now (bounds .entry)) A ⌝ }
+    ensures round_trip { λ r.
+        let A' = rowsOf (now (coefs .exit)) (now (rhs .exit)) (now (kinds .exit)) in
+        ⌜ ((n m : ℕ) → sizesAnswer r ≡ sizesAre n m →
+        encode (modelOf n m (now (bounds .exit)) A') ≡ now (book .entry)) ⌝ }
+{
+    let fault = read_fault(book, bounds, coefs, rhs, kinds);
     if fault != 0 {
         return SizesAnswer::Refused(fault);
     }
@@ -126,5 +153,6 @@ pub fn read(book: &[u8], bounds: &mut [i32], coefs: &mut [i32], rhs: &mut [i32])
     read_integers(book, 0, 4, bounds);
     read_coefs(n, m, book, coefs);
     read_integers(book, 8 * n, 4 + 4 * n, rhs);
+    read_kinds(kinds);
     SizesAnswer::Sizes { n, m }
 }

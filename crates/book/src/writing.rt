@@ -7,6 +7,7 @@ use crate::layout::row_place;
 use crate::layout::write_trailer;
 use model::model_fault;
 use model::size_fault;
+ghost use mathlib.Core.List.{[]};
 ghost use mathlib.Core.Path.{_≡_};
 ghost use Prim.Native.Nat.{_*_};
 ghost use lib.Dec.{eqb};
@@ -16,7 +17,7 @@ ghost use Rattle.model.specs.Model.{modelOf};
 ghost use Rattle.model.specs.Rows.{rowsOf};
 ghost use Rattle.book.specs.Answers.{bookWritten, writeAnswer, writeCall, writeFault, written};
 ghost use Rattle.book.specs.Book.{HoldsModel, bookLength, decode, rowBytesAt};
-ghost use Rattle.book.specs.BookChecks.{bookFault};
+ghost use Rattle.book.specs.BookChecks.{bookFault, firstEditionChecks, inequalities};
 ghost use Rattle.book.specs.Pieces.{joined, overwrite};
 
 pub enum WriteAnswer {
@@ -36,22 +37,58 @@ fn is_book_length(n: usize, m: usize, len: usize) -> bool
     len == book_length(n, m)
 }
 
-// The checks of a model, with the length of the book that it is to be written to (5): the number of the first that
-// fails, else 0.
-fn write_fault(n: usize, m: usize, bounds: &[i32], coefs: &[i32], rhs: &[i32], book: &[u8]) -> u32
-    ensures { λ r.
-        let M = modelOf n m (now (bounds .entry)) (now (coefs .entry)) (now (rhs .entry)) in
-        ⌜ r ≡ writeFault M (now (book .entry)) ⌝ }
+// Whether no row is an = row.
+fn are_inequalities(kinds: &[u8]) -> bool
+    ensures { λ r. ⌜ r ≡ inequalities (now (kinds .entry)) ⌝ }
 {
-    let fits = is_book_length(n, m, book.len());
-    model_fault(n, m, bounds, coefs, rhs, fits)
+    let mut ok = true;
+    let mut i = 0;
+    while i < kinds.len() {
+        ok &= kinds[i] != 1;
+        i += 1;
+    }
+    ok
 }
 
+// Check 17: 17 where a row is an = row, for which a first-edition book has no byte, else 0.
+fn first_edition_fault(kinds: &[u8]) -> u32
+    ensures { λ r. ⌜ r ≡ first (firstEditionChecks (now (kinds .entry))) ⌝ }
+{
+    if !are_inequalities(kinds) {
+        return 17;
+    }
+    0
+}
+
+// The checks of a model, with the length of the book that it is to be written to (5), and then 17: the number of the
+// first that fails, else 0.
+fn write_fault(
+    n: usize,
+    m: usize,
+    bounds: &[i32],
+    coefs: &[i32],
+    rhs: &[i32],
+    kinds: &[u8],
+    book: &[u8],
+) -> u32
+    ensures { λ r.
+        let A = rowsOf (now (coefs .entry)) (now (rhs .entry)) (now (kinds .entry)) in
+        ⌜ r ≡ writeFault (modelOf n m (now (bounds .entry)) A) (now (book .entry)) ⌝ }
+{
+    let fits = is_book_length(n, m, book.len());
+    let fault = model_fault(n, m, bounds, coefs, rhs, kinds, fits);
+    if fault != 0 {
+        return fault;
+    }
+    first_edition_fault(kinds)
+}
+
+// The right side and the coefficients of each row; no byte of a book is a kind.
 fn write_rows(n: usize, coefs: &[i32], rhs: &[i32], book: &mut [u8])
     requires { ⌜ HoldsModel n (length (now rhs)) (now book) × (length (now coefs) ≡ length (now rhs) * n) ⌝ }
     ensures { λ r.
         let R = now (rhs .entry) in
-        let rows = joined (length R) (rowBytesAt n (rowsOf (now (coefs .entry)) R)) in
+        let rows = joined (length R) (rowBytesAt n (rowsOf (now (coefs .entry)) R [])) in
         ⌜ now (book .exit) ≡ overwrite (8 * n) rows (now (book .entry)) ⌝ }
 {
     let mut i = 0;
@@ -65,7 +102,7 @@ fn write_rows(n: usize, coefs: &[i32], rhs: &[i32], book: &mut [u8])
     }
 }
 
-// Writes a model as a book. Refused by 3, 5 to 9 and 23; then nothing is written.
+// Writes a model as a book. Refused by 3, 5 to 9, 23, 16 and 17; then nothing is written.
 // Reading what was written is not refused, and gives the same model (`round_trip`).
 pub fn write(
     n: usize,
@@ -73,20 +110,24 @@ pub fn write(
     bounds: &[i32],
     coefs: &[i32],
     rhs: &[i32],
+    kinds: &[u8],
     book: &mut [u8],
 ) -> WriteAnswer
     ensures answer { λ r.
-        let M = modelOf n m (now (bounds .entry)) (now (coefs .entry)) (now (rhs .entry)) in
+        let A = rowsOf (now (coefs .entry)) (now (rhs .entry)) (now (kinds .entry)) in
+        let M = modelOf n m (now (bounds .entry)) A in
         ⌜ writeAnswer r ≡ writeCall M (now (book .entry)) ⌝ }
     ensures book_written { λ r.
-        let M = modelOf n m (now (bounds .entry)) (now (coefs .entry)) (now (rhs .entry)) in
+        let A = rowsOf (now (coefs .entry)) (now (rhs .entry)) (now (kinds .entry)) in
+        let M = modelOf n m (now (bounds .entry)) A in
         ⌜ now (book .exit) ≡ bookWritten M (now (book .entry)) ⌝ }
     ensures round_trip { λ r.
-        let M = modelOf n m (now (bounds .entry)) (now (coefs .entry)) (now (rhs .entry)) in
+        let A = rowsOf (now (coefs .entry)) (now (rhs .entry)) (now (kinds .entry)) in
+        let M = modelOf n m (now (bounds .entry)) A in
         let bs = now (book .exit) in
         ⌜ (writeAnswer r ≡ written → (bookFault bs ≡ 0) × (decode bs ≡ M)) ⌝ }
 {
-    let fault = write_fault(n, m, bounds, coefs, rhs, book);
+    let fault = write_fault(n, m, bounds, coefs, rhs, kinds, book);
     if fault != 0 {
         return WriteAnswer::Refused(fault);
     }

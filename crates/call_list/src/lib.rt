@@ -10,6 +10,7 @@ ghost use mathlib.Core.Path.{_≡_};
 ghost use Prim.Native.Nat.{_<_};
 ghost use lib.ListN.{length, getD};
 ghost use Rattle.semantics.specs.CallList.{runList};
+ghost use Rattle.model.specs.Rows.{rowsOf};
 ghost use Rattle.model.specs.State.{stateOf};
 ghost use Rattle.semantics.specs.TwoLists.{CountsAddUp, Demand3Lists, ListMeans};
 ghost use Rattle.semantics.specs.TwoRuns.{EveryModelHandedIn};
@@ -31,15 +32,18 @@ fn run_none<'a>(
     bounds: &'a mut [i32],
     coefs: &'a mut [i32],
     rhs: &'a mut [i32],
+    kinds: &'a mut [u8],
     table: &'a mut [u8],
 ) -> RunAnswer
     ensures { λ r.
-        let s = stateOf n m (now (bounds .entry)) (now (coefs .entry)) (now (rhs .entry)) (now (table .entry)) in
-        let r' = stateOf n m (now (bounds .exit)) (now (coefs .exit)) (now (rhs .exit)) (now (table .exit)) in
+        let A = rowsOf (now (coefs .entry)) (now (rhs .entry)) (now (kinds .entry)) in
+        let A' = rowsOf (now (coefs .exit)) (now (rhs .exit)) (now (kinds .exit)) in
+        let s = stateOf n m (now (bounds .entry)) A (now (table .entry)) in
+        let r' = stateOf n m (now (bounds .exit)) A' (now (table .exit)) in
         ⌜ listRun r r' ≡ runList s [] ⌝ }
 {
     let none: [u32; 0] = [];
-    reducer::list::run(n, m, bounds, coefs, rhs, table, &none)
+    reducer::list::run(n, m, bounds, coefs, rhs, kinds, table, &none)
 }
 
 // The answer with one record more. A list that is refused stays refused.
@@ -49,21 +53,24 @@ fn run_next<'a>(
     bounds: &'a mut [i32],
     coefs: &'a mut [i32],
     rhs: &'a mut [i32],
+    kinds: &'a mut [u8],
     table: &'a mut [u8],
     answer: RunAnswer,
     call: Call,
 ) -> RunAnswer
-    requires { let s = stateOf n m (now bounds) (now coefs) (now rhs) (now table) in
+    requires { let s = stateOf n m (now bounds) (rowsOf (now coefs) (now rhs) (now kinds)) (now table) in
         ⌜ Runs (listRun answer s) ⌝ }
     ensures { λ r.
-        let s = stateOf n m (now (bounds .entry)) (now (coefs .entry)) (now (rhs .entry)) (now (table .entry)) in
-        let r' = stateOf n m (now (bounds .exit)) (now (coefs .exit)) (now (rhs .exit)) (now (table .exit)) in
+        let A = rowsOf (now (coefs .entry)) (now (rhs .entry)) (now (kinds .entry)) in
+        let A' = rowsOf (now (coefs .exit)) (now (rhs .exit)) (now (kinds .exit)) in
+        let s = stateOf n m (now (bounds .entry)) A (now (table .entry)) in
+        let r' = stateOf n m (now (bounds .exit)) A' (now (table .exit)) in
         ⌜ listRun r r' ≡ runNext (listRun answer s) call ⌝ }
 {
     let RunAnswer::Ran(counts) = answer else {
         return answer;
     };
-    let class = run_record(n, m, bounds, coefs, rhs, table, call);
+    let class = run_record(n, m, bounds, coefs, rhs, kinds, table, call);
     RunAnswer::Ran(count(counts, class))
 }
 
@@ -74,25 +81,30 @@ pub fn run(
     bounds: &mut [i32],
     coefs: &mut [i32],
     rhs: &mut [i32],
+    kinds: &mut [u8],
     table: &mut [u8],
     calls: &[Call],
 ) -> RunAnswer
     ensures defined { λ r.
-        let s = stateOf n m (now (bounds .entry)) (now (coefs .entry)) (now (rhs .entry)) (now (table .entry)) in
-        let r' = stateOf n m (now (bounds .exit)) (now (coefs .exit)) (now (rhs .exit)) (now (table .exit)) in
+        let A = rowsOf (now (coefs .entry)) (now (rhs .entry)) (now (kinds .entry)) in
+        let A' = rowsOf (now (coefs .exit)) (now (rhs .exit)) (now (kinds .exit)) in
+        let s = stateOf n m (now (bounds .entry)) A (now (table .entry)) in
+        let r' = stateOf n m (now (bounds .exit)) A' (now (table .exit)) in
         ⌜ listRun r r' ≡ runList s (numbersOf (now (calls .entry))) ⌝ }
     ensures meaning { λ r.
-        let s = stateOf n m (now (bounds .entry)) (now (coefs .entry)) (now (rhs .entry)) (now (table .entry)) in
-        let r' = stateOf n m (now (bounds .exit)) (now (coefs .exit)) (now (rhs .exit)) (now (table .exit)) in
+        let A = rowsOf (now (coefs .entry)) (now (rhs .entry)) (now (kinds .entry)) in
+        let A' = rowsOf (now (coefs .exit)) (now (rhs .exit)) (now (kinds .exit)) in
+        let s = stateOf n m (now (bounds .entry)) A (now (table .entry)) in
+        let r' = stateOf n m (now (bounds .exit)) A' (now (table .exit)) in
         ⌜ ListMeans s (listRun r r') ⌝ }
     ensures demand3 { λ r. ⌜ EveryModelHandedIn × Demand3Lists ⌝ }
     ensures sum { λ r. ⌜ CountsAddUp ⌝ }
 {
-    let mut answer = run_none(n, m, bounds, coefs, rhs, table);
+    let mut answer = run_none(n, m, bounds, coefs, rhs, kinds, table);
     let mut i = 0;
     while i < calls.len() {
         let call = record_at(calls, i);
-        answer = run_next(n, m, bounds, coefs, rhs, table, answer, call);
+        answer = run_next(n, m, bounds, coefs, rhs, kinds, table, answer, call);
         i += 1;
     }
     answer
@@ -106,13 +118,16 @@ pub fn run_four(
     bounds: &mut [i32],
     coefs: &mut [i32],
     rhs: &mut [i32],
+    kinds: &mut [u8],
     table: &mut [u8],
     calls: [Call; 4],
 ) -> RunAnswer
     ensures defined { λ r.
-        let s = stateOf n m (now (bounds .entry)) (now (coefs .entry)) (now (rhs .entry)) (now (table .entry)) in
-        let r' = stateOf n m (now (bounds .exit)) (now (coefs .exit)) (now (rhs .exit)) (now (table .exit)) in
+        let A = rowsOf (now (coefs .entry)) (now (rhs .entry)) (now (kinds .entry)) in
+        let A' = rowsOf (now (coefs .exit)) (now (rhs .exit)) (now (kinds .exit)) in
+        let s = stateOf n m (now (bounds .entry)) A (now (table .entry)) in
+        let r' = stateOf n m (now (bounds .exit)) A' (now (table .exit)) in
         ⌜ listRun r r' ≡ runList s (numbersOf calls) ⌝ }
 {
-    run(n, m, bounds, coefs, rhs, table, &calls)
+    run(n, m, bounds, coefs, rhs, kinds, table, &calls)
 }

@@ -16,6 +16,7 @@ use Rattle.book.proofs.AcceptLaws.{decoded-sizes, head-numbered, head-test, siz
 use Rattle.model.specs.Checks.{Check, first, lengthChecks, must}
 use Rattle.model.proofs.CheckLaws.{fails, first-go, first-stop, first-zero-append, numbered}
 use Rattle.model.specs.Model.{modelOf}
+use Rattle.model.specs.Rows.{Rows, rowsOf}
 use Rattle.capi.specs.Exports.{bookAnswered, bookExported, lentTo, wrongLength}
 use Rattle.capi.specs.Replies.{Reply, answerLength, returned, written}
 
@@ -34,11 +35,11 @@ book-replied A before {q} {p} right put e =
     ∙ sym (ap (λ (b : Bool). cond b (bookExported (returned q) (written q A)) (bookExported (wrongLength before) A)) (eq-eqb (length A) answerLength right))
     ∙ ap (bookAnswered A before) e
 
-pub lent-stays : (A : List ℕ) (before after : List ℤ) → (length A ≡ answerLength → ⊥) → before ≡ lentTo A before after
+pub lent-stays : {X : Type 0} (A : List ℕ) (before after : List X) → (length A ≡ answerLength → ⊥) → before ≡ lentTo A before after
 unfolding lentTo
 lent-stays A before after wrong = sym (ap (λ (t : Bool). cond t after before) (ne-eqb (length A) answerLength wrong))
 
-pub lent-after : (A : List ℕ) (before : List ℤ) {after left : List ℤ} → length A ≡ answerLength → left ≡ after → left ≡ lentTo A before after
+pub lent-after : {X : Type 0} (A : List ℕ) (before : List X) {after left : List X} → length A ≡ answerLength → left ≡ after → left ≡ lentTo A before after
 unfolding lentTo
 lent-after A before {after} right e = e ∙ sym (ap (λ (t : Bool). cond t after before) (eq-eqb (length A) answerLength right))
 
@@ -47,25 +48,29 @@ pub wrong-length-refused : (before : List Check) → T (numbered before) → wro
 unfolding wrongLength first
 wrong-length-refused before t e = let five = first-zero-append before (must false 5 ∷ []) t .0 e .1 in omega (arith, five)
 
--- buffers of length 0 fit no book: a book has a variable
-no-bounds : (bs : List ℕ) → first (headChecks bs) ≡ 0 → 5 ≡ first (lengthChecks (modelOf (decode bs .n) (decode bs .m) [] [] []) ++ modelNumberChecks (decode bs))
+-- rows in buffers of length 0
+abbrev nowhere : Rows
+nowhere = rowsOf [] [] []
+
+-- they fit no book: a book has a variable
+no-bounds : (bs : List ℕ) → first (headChecks bs) ≡ 0 → 5 ≡ first (lengthChecks (modelOf (decode bs .n) (decode bs .m) [] nowhere) ++ modelNumberChecks (decode bs))
 unfolding lengthChecks
 no-bounds bs e =
     let n = decode bs .n in
     let m = decode bs .m in
     let some = size-passed n m (decoded-sizes bs (head-test bs .0 e .layout)) .0 in
-    fails _ 5 _ (ap (λ (b : Bool). b && eqb 0 (m * n) && eqb 0 m) (ne-eqb 0 (2 * n) (λ z. omega (arith, some))))
+    fails _ 5 _ (ap (λ (b : Bool). b && eqb 0 (m * n) && eqb 0 m && eqb 0 m) (ne-eqb 0 (2 * n) (λ z. omega (arith, some))))
 
-no-room-by : (bs : List ℕ) → Dec (first (headChecks bs) ≡ 0) → readFault bs [] [] [] ≡ wrongLength (headChecks bs)
+no-room-by : (bs : List ℕ) → Dec (first (headChecks bs) ≡ 0) → readFault bs [] nowhere ≡ wrongLength (headChecks bs)
 unfolding readFault readChecks wrongLength first
 no-room-by bs (yes e) = first-go (headChecks bs) _ (head-numbered bs) e ∙ sym (no-bounds bs e) ∙ sym (first-go (headChecks bs) (must false 5 ∷ []) (head-numbered bs) e)
 no-room-by bs (no n) = first-stop (headChecks bs) _ n ∙ sym (first-stop (headChecks bs) (must false 5 ∷ []) n)
 
-pub no-room : (bs : List ℕ) → readFault bs [] [] [] ≡ wrongLength (headChecks bs)
+pub no-room : (bs : List ℕ) → readFault bs [] nowhere ≡ wrongLength (headChecks bs)
 no-room bs = no-room-by bs (ℕ-discrete (first (headChecks bs)) 0)
 
 -- so reading into them answers with that number
-pub read-nowhere : (bs : List ℕ) {a : Answer} → a ≡ readCall bs [] [] [] → a ≡ refused (wrongLength (headChecks bs))
+pub read-nowhere : (bs : List ℕ) {a : Answer} → a ≡ readCall bs [] nowhere → a ≡ refused (wrongLength (headChecks bs))
 unfolding readCall unless
 read-nowhere bs e = e ∙ ap (λ (k : ℕ). unless k (sizesAre (decode bs .n) (decode bs .m))) (no-room bs)
     ∙ ap (λ (t : Bool). cond t (sizesAre (decode bs .n) (decode bs .m)) (refused (wrongLength (headChecks bs)))) (ne-eqb (wrongLength (headChecks bs)) 0 (wrong-length-refused (headChecks bs) (head-numbered bs)))

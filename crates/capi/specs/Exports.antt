@@ -10,6 +10,7 @@ use mathlib.Core.List.{List, [], _++_, _∷_}
 use Rattle.book.specs.Answers.{readCall, trailerCall}
 use Rattle.book.specs.BookChecks.{headChecks}
 use Rattle.model.specs.Checks.{Check, first, must, sizeChecks}
+use Rattle.model.specs.Rows.{Rows}
 use Rattle.reducer.specs.OpenCalls.{rest}
 use Rattle.rounds.specs.Rounds.{runRounds}
 use Rattle.semantics.specs.CallList.{runList}
@@ -74,9 +75,9 @@ unfoldable pub trailerExport : List ℕ → List ℕ → BookExported
 trailerExport A bytes = bookAnswered A (must (leb 16 (length bytes)) 1 ∷ []) (bookReply (trailerCall bytes))
 
 -- "in `astrolabe_book_read` after 1 to 4"
-unfoldable pub readExport : List ℕ → List ℕ → List ℤ → List ℤ → List ℤ → BookExported
-readExport A book B C R = bookAnswered A (headChecks book) (bookReply (readCall book B C R))
+unfoldable pub readExport : List ℕ → List ℕ → List ℤ → Rows → BookExported
+readExport A book B rows = bookAnswered A (headChecks book) (bookReply (readCall book B rows))
 
 -- a buffer that was `before` and that an accepted reading leaves as `after`
-unfoldable pub lentTo : List ℕ → List ℤ → List ℤ → List ℤ
+unfoldable pub lentTo : {X : Type 0} → List ℕ → List X → List X → List X
 lentTo A before after = cond (eqb (length A) answerLength) after before

@@ -8,8 +8,9 @@ use book::trailer;
 use book::writing::WriteAnswer;
 use book::writing::write;
 ghost use mathlib.Core.Path.{_≡_};
-ghost use Rattle.book.specs.Answers.{bookWritten, boundsRead, coefsRead, rhsRead, writeAnswer, writeCall};
+ghost use Rattle.book.specs.Answers.{bookWritten, boundsRead, coefsRead, kindsRead, rhsRead, writeAnswer, writeCall};
 ghost use Rattle.model.specs.Model.{modelOf};
+ghost use Rattle.model.specs.Rows.{rowsOf};
 ghost use Rattle.book.specs.BookChecks.{headChecks};
 ghost use Rattle.capi.specs.Exports.{bookExported, lentTo, readExport, trailerExport, wrongLength};
 ghost use Rattle.capi.specs.Replies.{bookReply, returned};
@@ -39,46 +40,54 @@ fn read_fault(book: &[u8]) -> u32
     let mut bounds = [0i32; 1];
     let mut coefs = [0i32; 1];
     let mut rhs = [0i32; 1];
-    match read(book, &mut bounds[..0], &mut coefs[..0], &mut rhs[..0]) {
+    let mut kinds = [0u8; 1];
+    match read(
+        book,
+        &mut bounds[..0],
+        &mut coefs[..0],
+        &mut rhs[..0],
+        &mut kinds[..0],
+    ) {
         SizesAnswer::Refused(number) => number,
         SizesAnswer::Sizes { n: _, m: _ } => 5,
     }
 }
 
-// Reads a book into lent buffers: {n, m}. Refused by 1 to 7, 23, 8, 9.
+// Reads a book into lent buffers: {n, m}. The kinds become all 0. Refused by 1 to 7, 23, 8, 9.
 #[no_mangle]
 pub extern "C" fn astrolabe_book_read(
     book: &[u8],
     bounds: &mut [i32],
     coefs: &mut [i32],
     rhs: &mut [i32],
+    kinds: &mut [u8],
     answer: &mut [u64],
 ) -> u32
     ensures answered { λ r.
-        let B = now (bounds .entry) in
-        let C = now (coefs .entry) in
-        let R = now (rhs .entry) in
-        ⌜ bookExported r (now (answer .exit)) ≡ readExport (now (answer .entry)) (now (book .entry)) B C R ⌝ }
+        let A = rowsOf (now (coefs .entry)) (now (rhs .entry)) (now (kinds .entry)) in
+        ⌜ bookExported r (now (answer .exit))
+        ≡ readExport (now (answer .entry)) (now (book .entry)) (now (bounds .entry)) A ⌝ }
     ensures bounds_read { λ r.
-        let B = now (bounds .entry) in
-        let C = now (coefs .entry) in
-        let R = now (rhs .entry) in
-        ⌜ now (bounds .exit) ≡ lentTo (now (answer .entry)) B (boundsRead (now (book .entry)) B C R) ⌝ }
+        let A = rowsOf (now (coefs .entry)) (now (rhs .entry)) (now (kinds .entry)) in
+        let new = boundsRead (now (book .entry)) (now (bounds .entry)) A in
+        ⌜ now (bounds .exit) ≡ lentTo (now (answer .entry)) (now (bounds .entry)) new ⌝ }
     ensures coefs_read { λ r.
-        let B = now (bounds .entry) in
-        let C = now (coefs .entry) in
-        let R = now (rhs .entry) in
-        ⌜ now (coefs .exit) ≡ lentTo (now (answer .entry)) C (coefsRead (now (book .entry)) B C R) ⌝ }
+        let A = rowsOf (now (coefs .entry)) (now (rhs .entry)) (now (kinds .entry)) in
+        let new = coefsRead (now (book .entry)) (now (bounds .entry)) A in
+        ⌜ now (coefs .exit) ≡ lentTo (now (answer .entry)) (now (coefs .entry)) new ⌝ }
     ensures rhs_read { λ r.
-        let B = now (bounds .entry) in
-        let C = now (coefs .entry) in
-        let R = now (rhs .entry) in
-        ⌜ now (rhs .exit) ≡ lentTo (now (answer .entry)) R (rhsRead (now (book .entry)) B C R) ⌝ }
+        let A = rowsOf (now (coefs .entry)) (now (rhs .entry)) (now (kinds .entry)) in
+        let new = rhsRead (now (book .entry)) (now (bounds .entry)) A in
+        ⌜ now (rhs .exit) ≡ lentTo (now (answer .entry)) (now (rhs .entry)) new ⌝ }
+    ensures kinds_read { λ r.
+        let A = rowsOf (now (coefs .entry)) (now (rhs .entry)) (now (kinds .entry)) in
+        let new = kindsRead (now (book .entry)) (now (bounds .entry)) A in
+        ⌜ now (kinds .exit) ≡ lentTo (now (answer .entry)) (now (kinds .entry)) new ⌝ }
 {
     if answer.len() != ANSWER {
         return read_fault(book);
     }
-    put(sizes_reply(read(book, bounds, coefs, rhs)), answer)
+    put(sizes_reply(read(book, bounds, coefs, rhs, kinds)), answer)
 }
 
 fn write_number(a: WriteAnswer) -> u32
@@ -90,7 +99,7 @@ fn write_number(a: WriteAnswer) -> u32
     }
 }
 
-// Writes a model as a book; the number says all. Refused by the model's checks.
+// Writes a model as a book; the number says all. Refused by the model's checks, then by 17.
 #[no_mangle]
 pub extern "C" fn astrolabe_book_write(
     n: usize,
@@ -98,14 +107,17 @@ pub extern "C" fn astrolabe_book_write(
     bounds: &[i32],
     coefs: &[i32],
     rhs: &[i32],
+    kinds: &[u8],
     book: &mut [u8],
 ) -> u32
     ensures number { λ r.
-        let M = modelOf n m (now (bounds .entry)) (now (coefs .entry)) (now (rhs .entry)) in
+        let A = rowsOf (now (coefs .entry)) (now (rhs .entry)) (now (kinds .entry)) in
+        let M = modelOf n m (now (bounds .entry)) A in
         ⌜ r ≡ returned (bookReply (writeCall M (now (book .entry)))) ⌝ }
     ensures book_written { λ r.
-        let M = modelOf n m (now (bounds .entry)) (now (coefs .entry)) (now (rhs .entry)) in
+        let A = rowsOf (now (coefs .entry)) (now (rhs .entry)) (now (kinds .entry)) in
+        let M = modelOf n m (now (bounds .entry)) A in
         ⌜ now (book .exit) ≡ bookWritten M (now (book .entry)) ⌝ }
 {
-    write_number(write(n, m, bounds, coefs, rhs, book))
+    write_number(write(n, m, bounds, coefs, rhs, kinds, book))
 }

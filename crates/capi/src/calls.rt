@@ -1,5 +1,5 @@
-// The calls on a model in memory. Every call is refused by the model's checks first, 3, 5, 6, 7, 23, 8 and 9, and then
-// by those that its own comment names.
+// The calls on a model in memory. Every call is refused by the model's checks first, 3, 5, 6, 7, 23, 8, 9 and 16, and
+// then by those that its own comment names. Only removing a row, a list and the rounds write kinds.
 use crate::answers::probe_reply;
 use crate::answers::propagate_reply;
 use crate::answers::remove_reply;
@@ -19,6 +19,7 @@ use reducer::calls::remove_redundant_row;
 use reducer::calls::tighten_coefficient;
 ghost use mathlib.Core.List.{[]};
 ghost use mathlib.Core.Path.{_≡_};
+ghost use Rattle.model.specs.Rows.{rowsOf};
 ghost use Rattle.model.specs.State.{stateOf};
 ghost use Rattle.capi.specs.Exports.{callExport, exported, listExport, restExport, roundsExport};
 
@@ -30,19 +31,21 @@ pub extern "C" fn astrolabe_propagate_row(
     bounds: &mut [i32],
     coefs: &[i32],
     rhs: &[i32],
+    kinds: &[u8],
     row: u32,
     answer: &mut [u64],
 ) -> u32
     ensures { λ r.
-        let s = stateOf n m (now (bounds .entry)) (now (coefs .entry)) (now (rhs .entry)) [] in
-        let r' = stateOf n m (now (bounds .exit)) (now (coefs .entry)) (now (rhs .entry)) [] in
+        let A = rowsOf (now (coefs .entry)) (now (rhs .entry)) (now (kinds .entry)) in
+        let s = stateOf n m (now (bounds .entry)) A [] in
+        let r' = stateOf n m (now (bounds .exit)) A [] in
         ⌜ exported r (now (answer .exit)) r' ≡ callExport (now (answer .entry)) s 1 row 0 0 ⌝ }
 {
     if answer.len() != ANSWER {
         return answer_fault(n, m);
     }
     put(
-        row_reply(propagate_row(n, m, bounds, coefs, rhs, row)),
+        row_reply(propagate_row(n, m, bounds, coefs, rhs, kinds, row)),
         answer,
     )
 }
@@ -55,19 +58,21 @@ pub extern "C" fn astrolabe_propagate(
     bounds: &mut [i32],
     coefs: &[i32],
     rhs: &[i32],
+    kinds: &[u8],
     budget: u32,
     answer: &mut [u64],
 ) -> u32
     ensures { λ r.
-        let s = stateOf n m (now (bounds .entry)) (now (coefs .entry)) (now (rhs .entry)) [] in
-        let r' = stateOf n m (now (bounds .exit)) (now (coefs .entry)) (now (rhs .entry)) [] in
+        let A = rowsOf (now (coefs .entry)) (now (rhs .entry)) (now (kinds .entry)) in
+        let s = stateOf n m (now (bounds .entry)) A [] in
+        let r' = stateOf n m (now (bounds .exit)) A [] in
         ⌜ exported r (now (answer .exit)) r' ≡ callExport (now (answer .entry)) s 2 0 0 budget ⌝ }
 {
     if answer.len() != ANSWER {
         return answer_fault(n, m);
     }
     put(
-        propagate_reply(propagate(n, m, bounds, coefs, rhs, budget)),
+        propagate_reply(propagate(n, m, bounds, coefs, rhs, kinds, budget)),
         answer,
     )
 }
@@ -81,21 +86,23 @@ pub extern "C" fn astrolabe_probe(
     bounds: &mut [i32],
     coefs: &[i32],
     rhs: &[i32],
+    kinds: &[u8],
     table: &mut [u8],
     variable: u32,
     budget: u32,
     answer: &mut [u64],
 ) -> u32
     ensures { λ r.
-        let s = stateOf n m (now (bounds .entry)) (now (coefs .entry)) (now (rhs .entry)) (now (table .entry)) in
-        let r' = stateOf n m (now (bounds .exit)) (now (coefs .entry)) (now (rhs .entry)) (now (table .exit)) in
+        let A = rowsOf (now (coefs .entry)) (now (rhs .entry)) (now (kinds .entry)) in
+        let s = stateOf n m (now (bounds .entry)) A (now (table .entry)) in
+        let r' = stateOf n m (now (bounds .exit)) A (now (table .exit)) in
         ⌜ exported r (now (answer .exit)) r' ≡ callExport (now (answer .entry)) s 3 0 variable budget ⌝ }
 {
     if answer.len() != ANSWER {
         return answer_fault(n, m);
     }
     put(
-        probe_reply(probe(n, m, bounds, coefs, rhs, table, variable, budget)),
+        probe_reply(probe(n, m, bounds, coefs, rhs, kinds, table, variable, budget)),
         answer,
     )
 }
@@ -108,20 +115,23 @@ pub extern "C" fn astrolabe_tighten_coefficient(
     bounds: &[i32],
     coefs: &mut [i32],
     rhs: &mut [i32],
+    kinds: &[u8],
     row: u32,
     variable: u32,
     answer: &mut [u64],
 ) -> u32
     ensures { λ r.
-        let s = stateOf n m (now (bounds .entry)) (now (coefs .entry)) (now (rhs .entry)) [] in
-        let r' = stateOf n m (now (bounds .entry)) (now (coefs .exit)) (now (rhs .exit)) [] in
+        let A = rowsOf (now (coefs .entry)) (now (rhs .entry)) (now (kinds .entry)) in
+        let A' = rowsOf (now (coefs .exit)) (now (rhs .exit)) (now (kinds .entry)) in
+        let s = stateOf n m (now (bounds .entry)) A [] in
+        let r' = stateOf n m (now (bounds .entry)) A' [] in
         ⌜ exported r (now (answer .exit)) r' ≡ callExport (now (answer .entry)) s 4 row variable 0 ⌝ }
 {
     if answer.len() != ANSWER {
         return answer_fault(n, m);
     }
     put(
-        tighten_reply(tighten_coefficient(n, m, bounds, coefs, rhs, row, variable)),
+        tighten_reply(tighten_coefficient(n, m, bounds, coefs, rhs, kinds, row, variable)),
         answer,
     )
 }
@@ -134,19 +144,22 @@ pub extern "C" fn astrolabe_remove_redundant_row(
     bounds: &[i32],
     coefs: &mut [i32],
     rhs: &mut [i32],
+    kinds: &mut [u8],
     row: u32,
     answer: &mut [u64],
 ) -> u32
     ensures { λ r.
-        let s = stateOf n m (now (bounds .entry)) (now (coefs .entry)) (now (rhs .entry)) [] in
-        let r' = stateOf n m (now (bounds .entry)) (now (coefs .exit)) (now (rhs .exit)) [] in
+        let A = rowsOf (now (coefs .entry)) (now (rhs .entry)) (now (kinds .entry)) in
+        let A' = rowsOf (now (coefs .exit)) (now (rhs .exit)) (now (kinds .exit)) in
+        let s = stateOf n m (now (bounds .entry)) A [] in
+        let r' = stateOf n m (now (bounds .entry)) A' [] in
         ⌜ exported r (now (answer .exit)) r' ≡ callExport (now (answer .entry)) s 5 row 0 0 ⌝ }
 {
     if answer.len() != ANSWER {
         return answer_fault(n, m);
     }
     put(
-        remove_reply(remove_redundant_row(n, m, bounds, coefs, rhs, row)),
+        remove_reply(remove_redundant_row(n, m, bounds, coefs, rhs, kinds, row)),
         answer,
     )
 }
@@ -159,17 +172,19 @@ pub extern "C" fn astrolabe_is_probing_fixpoint(
     bounds: &[i32],
     coefs: &[i32],
     rhs: &[i32],
+    kinds: &[u8],
     answer: &mut [u64],
 ) -> u32
     ensures { λ r.
-        let s = stateOf n m (now (bounds .entry)) (now (coefs .entry)) (now (rhs .entry)) [] in
+        let A = rowsOf (now (coefs .entry)) (now (rhs .entry)) (now (kinds .entry)) in
+        let s = stateOf n m (now (bounds .entry)) A [] in
         ⌜ exported r (now (answer .exit)) s ≡ restExport (now (answer .entry)) s ⌝ }
 {
     if answer.len() != ANSWER {
         return answer_fault(n, m);
     }
     put(
-        rest_reply(is_probing_fixpoint(n, m, bounds, coefs, rhs)),
+        rest_reply(is_probing_fixpoint(n, m, bounds, coefs, rhs, kinds)),
         answer,
     )
 }
@@ -182,20 +197,23 @@ pub extern "C" fn astrolabe_run(
     bounds: &mut [i32],
     coefs: &mut [i32],
     rhs: &mut [i32],
+    kinds: &mut [u8],
     table: &mut [u8],
     calls: &[u32],
     answer: &mut [u64],
 ) -> u32
     ensures { λ r.
-        let s = stateOf n m (now (bounds .entry)) (now (coefs .entry)) (now (rhs .entry)) (now (table .entry)) in
-        let r' = stateOf n m (now (bounds .exit)) (now (coefs .exit)) (now (rhs .exit)) (now (table .exit)) in
+        let A = rowsOf (now (coefs .entry)) (now (rhs .entry)) (now (kinds .entry)) in
+        let A' = rowsOf (now (coefs .exit)) (now (rhs .exit)) (now (kinds .exit)) in
+        let s = stateOf n m (now (bounds .entry)) A (now (table .entry)) in
+        let r' = stateOf n m (now (bounds .exit)) A' (now (table .exit)) in
         ⌜ exported r (now (answer .exit)) r' ≡ listExport (now (answer .entry)) s (now (calls .entry)) ⌝ }
 {
     if answer.len() != ANSWER {
         return answer_fault(n, m);
     }
     put(
-        run_reply(reducer::list::run(n, m, bounds, coefs, rhs, table, calls)),
+        run_reply(reducer::list::run(n, m, bounds, coefs, rhs, kinds, table, calls)),
         answer,
     )
 }
@@ -208,20 +226,23 @@ pub extern "C" fn astrolabe_rounds(
     bounds: &mut [i32],
     coefs: &mut [i32],
     rhs: &mut [i32],
+    kinds: &mut [u8],
     table: &mut [u8],
     limit: u32,
     answer: &mut [u64],
 ) -> u32
     ensures { λ r.
-        let s = stateOf n m (now (bounds .entry)) (now (coefs .entry)) (now (rhs .entry)) (now (table .entry)) in
-        let r' = stateOf n m (now (bounds .exit)) (now (coefs .exit)) (now (rhs .exit)) (now (table .exit)) in
+        let A = rowsOf (now (coefs .entry)) (now (rhs .entry)) (now (kinds .entry)) in
+        let A' = rowsOf (now (coefs .exit)) (now (rhs .exit)) (now (kinds .exit)) in
+        let s = stateOf n m (now (bounds .entry)) A (now (table .entry)) in
+        let r' = stateOf n m (now (bounds .exit)) A' (now (table .exit)) in
         ⌜ exported r (now (answer .exit)) r' ≡ roundsExport (now (answer .entry)) s limit ⌝ }
 {
     if answer.len() != ANSWER {
         return answer_fault(n, m);
     }
     put(
-        rounds_reply(rounds::run(n, m, bounds, coefs, rhs, table, limit)),
+        rounds_reply(rounds::run(n, m, bounds, coefs, rhs, kinds, table, limit)),
         answer,
     )
 }

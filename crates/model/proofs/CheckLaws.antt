@@ -104,13 +104,17 @@ size-test n m = all-three (leb 1 n) (leb n maxVariables) (leb m maxRows) (leb-te
 
 -- every buffer of the model has its length
 abbrev pub LengthsFit : Model → Type 0
-LengthsFit M = (length (M .box) ≡ 2 * M .n) × (length (M .rows .coefs) ≡ M .m * M .n) × (length (M .rows .rhs) ≡ M .m)
+LengthsFit M =
+    (length (M .box) ≡ 2 * M .n) × (length (M .rows .coefs) ≡ M .m * M .n) × (length (M .rows .rhs) ≡ M .m) × (length (M .rows .kinds) ≡ M .m)
 
 pub length-test : (M : Model)
-    → T (eqb (length (M .box)) (2 * M .n) && eqb (length (M .rows .coefs)) (M .m * M .n) && eqb (length (M .rows .rhs)) (M .m)) ↔ LengthsFit M
+    → T (eqb (length (M .box)) (2 * M .n) && eqb (length (M .rows .coefs)) (M .m * M .n) && eqb (length (M .rows .rhs)) (M .m) && eqb (length (M .rows .kinds)) (M .m)) ↔ LengthsFit M
 length-test M =
-    all-three (eqb (length (M .box)) (2 * M .n)) (eqb (length (M .rows .coefs)) (M .m * M .n)) (eqb (length (M .rows .rhs)) (M .m))
-    (eqb-test (length (M .box)) (2 * M .n)) (eqb-test (length (M .rows .coefs)) (M .m * M .n)) (eqb-test (length (M .rows .rhs)) (M .m))
+    let three = all-three (eqb (length (M .box)) (2 * M .n)) (eqb (length (M .rows .coefs)) (M .m * M .n)) (eqb (length (M .rows .rhs)) (M .m))
+    (eqb-test (length (M .box)) (2 * M .n)) (eqb-test (length (M .rows .coefs)) (M .m * M .n)) (eqb-test (length (M .rows .rhs)) (M .m)) in
+    let d = both (eqb (length (M .box)) (2 * M .n) && eqb (length (M .rows .coefs)) (M .m * M .n) && eqb (length (M .rows .rhs)) (M .m))
+    (eqb (length (M .rows .kinds)) (M .m)) three (eqb-test (length (M .rows .kinds)) (M .m)) in
+    ((λ t. let h = d .0 t in (h .0 .0, h .0 .1, h .0 .2, h .1)), (λ h. d .1 ((h .0, h .1, h .2), h .3)))
 
 pub between-test : (low high z : ℤ) → T (leZ low z && leZ z high) ↔ Between low high z
 between-test low high z =
@@ -175,12 +179,13 @@ bits-all t = let d = bits-test t in ((λ b. getD-all t 0 (λ x. x < 2) (omega ar
 abbrev Tests : Model → Type 0
 Tests M =
     T (leb 1 (M .n) && leb (M .n) maxVariables && leb (M .m) maxRows)
-    × T (eqb (length (M .box)) (2 * M .n) && eqb (length (M .rows .coefs)) (M .m * M .n) && eqb (length (M .rows .rhs)) (M .m))
+    × T (eqb (length (M .box)) (2 * M .n) && eqb (length (M .rows .coefs)) (M .m * M .n) && eqb (length (M .rows .rhs)) (M .m) && eqb (length (M .rows .kinds)) (M .m))
     × T (inRange minBound maxBound (M .box))
     × T (isEmpty (M .n) (M .box) || ordered (M .box))
     × T (narrow (M .box))
     × T (inRange minCoef maxCoef (M .rows .coefs))
     × T (inRange minRhs maxRhs (M .rows .rhs))
+    × T (bits (M .rows .kinds))
 
 model-test : (M : Model) → Tests M ↔ ValidModel M
 model-test M = (there, back)
@@ -203,17 +208,20 @@ model-test M = (there, back)
           coefs = inRange-all minCoef maxCoef (M .rows .coefs) (omega zarith) (omega zarith) .0 (t .5);
           rhsLen = l .2;
           rhs = inRange-all minRhs maxRhs (M .rows .rhs) (omega zarith) (omega zarith) .0 (t .6);
+          kindsLen = l .3;
+          kinds = bits-all (M .rows .kinds) .0 (t .7);
         }
 
     back : ValidModel M → Tests M
     back v = (
       size-test (M .n) (M .m) .1 (v .some, v .few, v .fewRows),
-      length-test M .1 (v .box .len, v .coefsLen, v .rhsLen),
+      length-test M .1 (v .box .len, v .coefsLen, v .rhsLen, v .kindsLen),
       inRange-all minBound maxBound (M .box) (omega zarith) (omega zarith) .1 (v .box .range),
       shape-test (M .n) (M .box) (v .box .len) .1 (v .box .shape),
       narrow-all (M .n) (M .box) (v .box .len) .1 (v .box .narrow),
       inRange-all minCoef maxCoef (M .rows .coefs) (omega zarith) (omega zarith) .1 (v .coefs),
       inRange-all minRhs maxRhs (M .rows .rhs) (omega zarith) (omega zarith) .1 (v .rhs),
+      bits-all (M .rows .kinds) .1 (v .kinds),
     )
 
 -- a model is accepted exactly if it is valid and everything else that is lent fits
@@ -223,8 +231,8 @@ fits-fault-none M fits =
     let d = first-none (modelChecks M none fits) tt in
     let v = model-test M in (
       (λ e. let h = d .0 e in
-          let k = h .1 .1 .1 in (v .0 (h .0, h .1 .0, k .0, k .1 .0, k .1 .1 .0, k .1 .1 .1 .0, k .1 .1 .1 .1 .0), h .1 .1 .0)),
-      (λ w. let s = v .1 (w .0) in d .1 (s .0, (s .1, (w .1, (s .2, (s .3, (s .4, (s .5, (s .6, tt))))))))),
+          let k = h .1 .1 .1 in (v .0 (h .0, h .1 .0, k .0, k .1 .0, k .1 .1 .0, k .1 .1 .1 .0, k .1 .1 .1 .1 .0, k .1 .1 .1 .1 .1 .0), h .1 .1 .0)),
+      (λ w. let s = v .1 (w .0) in d .1 (s .0, (s .1, (w .1, (s .2, (s .3, (s .4, (s .5, (s .6, (s .7, tt)))))))))),
     )
 
 -- the same with a table
@@ -238,12 +246,12 @@ fits-table-fault-none M t fits =
     let b = bits-all t in (
       (λ e. let h = d .0 e in
           let k = h .1 .1 .1 .1 in (
-            v .0 (h .0, h .1 .0, k .0, k .1 .0, k .1 .1 .0, k .1 .1 .1 .0, k .1 .1 .1 .1 .0),
-            record { len = l .0 (h .1 .1 .0); bits = b .0 (k .1 .1 .1 .1 .1 .0) },
+            v .0 (h .0, h .1 .0, k .0, k .1 .0, k .1 .1 .0, k .1 .1 .1 .0, k .1 .1 .1 .1 .0, k .1 .1 .1 .1 .1 .0),
+            record { len = l .0 (h .1 .1 .0); bits = b .0 (k .1 .1 .1 .1 .1 .1 .0) },
             h .1 .1 .1 .0,
           )),
       (λ w. let s = v .1 (w .0) in
-          d .1 (s .0, (s .1, (l .1 (w .1 .len), (w .2, (s .2, (s .3, (s .4, (s .5, (s .6, (b .1 (w .1 .bits), tt))))))))))),
+          d .1 (s .0, (s .1, (l .1 (w .1 .len), (w .2, (s .2, (s .3, (s .4, (s .5, (s .6, (s .7, (b .1 (w .1 .bits), tt)))))))))))),
     )
 
 -- where nothing else is lent
@@ -275,5 +283,6 @@ unfolding modelFault modelChecks sizeChecks lengthChecks tableLengthChecks boxCh
 table-chain M t fits =
     ap
     (λ r. cond (leb 1 (M .n) && leb (M .n) maxVariables && leb (M .m) maxRows)
-    (cond (eqb (length (M .box)) (2 * M .n) && eqb (length (M .rows .coefs)) (M .m * M .n) && eqb (length (M .rows .rhs)) (M .m)) r 5) 3)
+    (cond (eqb (length (M .box)) (2 * M .n) && eqb (length (M .rows .coefs)) (M .m * M .n) && eqb (length (M .rows .rhs)) (M .m)
+    && eqb (length (M .rows .kinds)) (M .m)) r 5) 3)
     (merge (eqb (length t) (4 * (M .n * M .n))) fits 5 (numberChecks (M .n) (M .box) (M .rows) ++ tableByteChecks (table t)))

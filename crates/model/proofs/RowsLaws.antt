@@ -1,7 +1,7 @@
 -- Laws of rows: where a row's numbers stand in the matrix, and what stays and what is new where one row becomes another.
 use Prim.Native.Nat.{_*_, _+_, _-_, _<_, _≤_, suc, zero, ℕ}
 use lib.IntN.{pos, ℤ}
-use lib.ListN.{List·getD-append, drop, set, length, length-append, length-drop, length-take, take, take-append-drop}
+use lib.ListN.{List·getD-append, drop, getD, set, length, length-append, length-drop, length-take, take, take-append-drop}
 use lib.Seq.{drop-drop, ext-getD, getD-append-add, getD-drop, getD-set-other, getD-set-same, getD-take, length-take-le, set-getD}
 use mathlib.Core.List.{List, [], _++_, _∷_}
 use mathlib.Core.Logic.{_≢_}
@@ -83,14 +83,15 @@ splice-same C n p =
     rw (← drop-drop (length (take n (drop p C))) p C, take-drop-length n (drop p C)) (take-append-drop p C)
 
 -- a row that is as it was
-pub setRow-same : (n : ℕ) (A : Rows) (i : ℕ) (r : Row) → r .coefs ≡ rowAt n A i .coefs → r .rhs ≡ rowAt n A i .rhs → setRow n A i r ≡ A
+pub setRow-same : (n : ℕ) (A : Rows) (i : ℕ) (r : Row) → r ≡ rowAt n A i → setRow n A i r ≡ A
 unfolding setRow rowOf
-setRow-same n A i r e f = rw (e, f, splice-same (A .coefs) n (i * n), set-getD (A .rhs) i (pos 0))
+setRow-same n A i r e =
+    rw (e, splice-same (A .coefs) n (i * n), set-getD (A .rhs) i (pos 0), set-getD (A .kinds) i 0)
 
 -- ---- row i of rows with the right lengths becomes r
 
 module _ (n m : ℕ) (A : Rows) (i : ℕ) (r : Row)
-    (coefsLen : length (A .coefs) ≡ m * n) (rhsLen : length (A .rhs) ≡ m) (im : i < m) (len : length (r .coefs) ≡ n) where
+    (coefsLen : length (A .coefs) ≡ m * n) (rhsLen : length (A .rhs) ≡ m) (kindsLen : length (A .kinds) ≡ m) (im : i < m) (len : length (r .coefs) ≡ n) where
   pub fits : i * n + length (r .coefs) ≤ length (A .coefs)
   fits = let a : suc i * n ≤ m * n = mul-le-mul-right n im in omega arith
 
@@ -122,6 +123,10 @@ module _ (n m : ℕ) (A : Rows) (i : ℕ) (r : Row)
   unfolding setRow
   setRow-rhs k ne = getD-set-other (A .rhs) i k (r .rhs) (pos 0) ne
 
+  pub setRow-kinds : (k : ℕ) → k ≢ i → getD (setRow n A i r .kinds) k 0 ≡ getD (A .kinds) k 0
+  unfolding setRow
+  setRow-kinds k ne = getD-set-other (A .kinds) i k (r .kind) 0 ne
+
   pub setRow-length : length (setRow n A i r .coefs) ≡ m * n
   unfolding setRow
   setRow-length = length-splice (A .coefs) (r .coefs) (i * n) fits ∙ coefsLen
@@ -129,7 +134,7 @@ module _ (n m : ℕ) (A : Rows) (i : ℕ) (r : Row)
   -- the rows then
   pub setRow-row : rowAt n (setRow n A i r) i ≡ r
   unfolding setRow
-  setRow-row = rw (coefs, rhs)
+  setRow-row = rw (coefs, rhs, kind)
     where
       coefs : rowOf n (splice (A .coefs) (r .coefs) (i * n)) i ≡ r .coefs
       coefs =
@@ -141,8 +146,11 @@ module _ (n m : ℕ) (A : Rows) (i : ℕ) (r : Row)
       rhs : at (set (A .rhs) i (r .rhs)) i ≡ r .rhs
       rhs = getD-set-same (A .rhs) i (r .rhs) (pos 0) (omega arith)
 
+      kind : getD (set (A .kinds) i (r .kind)) i 0 ≡ r .kind
+      kind = getD-set-same (A .kinds) i (r .kind) 0 (omega arith)
+
   pub setRow-other : (k : ℕ) → k < m → k ≢ i → rowAt n (setRow n A i r) k ≡ rowAt n A k
-  setRow-other k h ne = rw (coefs, setRow-rhs k ne)
+  setRow-other k h ne = rw (coefs, setRow-rhs k ne, setRow-kinds k ne)
     where
       coefs : rowOf n (setRow n A i r .coefs) k ≡ rowOf n (A .coefs) k
       coefs =

@@ -47,10 +47,11 @@ pub data LentTable : Type 0 where
 unfoldable pub sizeChecks : ℕ → ℕ → List Check
 sizeChecks n m = must (leb 1 n && leb n maxVariables && leb m maxRows) 3 ∷ []
 
--- 5. A lent buffer has not exactly the length needed: 2n bounds, m × n coefficients, m right sides.
+-- 5. A lent buffer has not exactly the length needed: 2n bounds, m × n coefficients, m right sides and (02, C-14) m kinds.
 unfoldable pub lengthChecks : Model → List Check
 lengthChecks M =
-    must (eqb (length (M .box)) (2 * M .n) && eqb (length (M .rows .coefs)) (M .m * M .n) && eqb (length (M .rows .rhs)) (M .m)) 5 ∷ []
+    must (eqb (length (M .box)) (2 * M .n) && eqb (length (M .rows .coefs)) (M .m * M .n) && eqb (length (M .rows .rhs)) (M .m)
+    && eqb (length (M .rows .kinds)) (M .m)) 5 ∷ []
 
 -- 5, of the table: "The implication table has 4n² bytes".
 unfoldable pub tableLengthChecks : ℕ → LentTable → List Check
@@ -62,12 +63,14 @@ tableLengthChecks n (table t) = must (eqb (length t) (4 * (n * n))) 5 ∷ []
 unfoldable pub boxChecks : ℕ → List ℤ → List Check
 boxChecks n B = must (inRange minBound maxBound B) 6 ∷ must (isEmpty n B || ordered B) 7 ∷ must (narrow B) 23 ∷ []
 
--- Those of the box, then: 8. A coefficient is outside its range. 9. A right side is outside its range.
+-- Those of the box, then: 8. A coefficient is outside its range. 9. A right side is outside its range. "16, a kind byte above 1,
+-- after check 9" (02, C-14).
 unfoldable pub numberChecks : ℕ → List ℤ → Rows → List Check
 numberChecks n B A =
     boxChecks n B
     ++ must (inRange minCoef maxCoef (A .coefs)) 8
     ∷ must (inRange minRhs maxRhs (A .rhs)) 9
+    ∷ must (bits (A .kinds)) 16
     ∷ []
 
 -- 10. A table byte is neither 0 nor 1.

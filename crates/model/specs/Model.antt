@@ -2,7 +2,7 @@
 use Prim.Native.Nat.{ℕ}
 use lib.IntN.{ℤ}
 use mathlib.Core.List.{List}
-use Rattle.model.specs.Rows.{Rows, rowsOf}
+use Rattle.model.specs.Rows.{Rows}
 
 pub record Model : Type 0 where
   pub n : ℕ
@@ -10,6 +10,6 @@ pub record Model : Type 0 where
   pub box : List ℤ
   pub rows : Rows
 
--- the model that lent buffers hold: the box B, the matrix C and the right sides R
-abbrev pub modelOf : ℕ → ℕ → List ℤ → List ℤ → List ℤ → Model
-modelOf n m B C R = record { n = n; m = m; box = B; rows = rowsOf C R }
+-- the model that lent buffers hold: the box B and the rows A
+abbrev pub modelOf : ℕ → ℕ → List ℤ → Rows → Model
+modelOf n m B A = record { n = n; m = m; box = B; rows = A }

@@ -1,14 +1,16 @@
--- Points of a model, in whole numbers and in fractions.
+-- Points of a model, in whole numbers and in fractions. Both read the kinds (02, C-14).
 use Prim.Native.Nat.{_<_, ℕ}
+use lib.Dec.{T}
 use lib.IntN.{_*ℤ_, pos, ℤ}
 use lib.ListN.{length}
 use lib.Signed.{_≤ℤ_}
+use mathlib.Core.Bool.{not}
 use mathlib.Core.List.{List}
 use mathlib.Core.Path.{_≡_}
 use Rattle.integer.specs.Index.{sum}
 use Rattle.model.specs.Box.{at, lower, upper}
 use Rattle.model.specs.Model.{Model}
-use Rattle.model.specs.Rows.{Row, rowAt}
+use Rattle.model.specs.Rows.{Row, isEquality, rowAt}
 
 -- the sum of coefficient × variable
 unfoldable pub dot : ℕ → List ℤ → List ℤ → ℤ
@@ -18,12 +20,14 @@ pub record InBox (n : ℕ) (B x : List ℤ) : Type 0 where
   pub low : (j : ℕ) → j < n → lower B j ≤ℤ at x j
   pub high : (j : ℕ) → j < n → at x j ≤ℤ upper B j
 
--- the row with the coefficients A and the right side b holds at x (01: "sum of coefficient × variable ≤ right side b")
+-- the ≤ row with the coefficients A and the right side b holds at x (01: "sum of coefficient × variable ≤ right side b")
 pub record RowHolds (n : ℕ) (A : List ℤ) (b : ℤ) (x : List ℤ) : Type 0 where
   pub le : dot n A x ≤ℤ b
 
-abbrev pub Meets : ℕ → Row → List ℤ → Type 0
-Meets n r x = RowHolds n (r .coefs) (r .rhs) x
+-- the row holds at x, by its kind (02, C-14: "Integer and fractional points read the kind.")
+pub record Meets (n : ℕ) (r : Row) (x : List ℤ) : Type 0 where
+  pub le : T (not (isEquality r)) → dot n (r .coefs) x ≤ℤ r .rhs
+  pub eq : T (isEquality r) → dot n (r .coefs) x ≡ r .rhs
 
 -- 01: "An integer point is a list of whole numbers inside the box that meets every row."
 pub record IntegerPoint (M : Model) (x : List ℤ) : Type 0 where
@@ -39,8 +43,9 @@ pub record InBoxOver (n : ℕ) (B x : List ℤ) (d : ℕ) : Type 0 where
 pub record RowHoldsOver (n : ℕ) (A : List ℤ) (b : ℤ) (x : List ℤ) (d : ℕ) : Type 0 where
   pub le : dot n A x ≤ℤ (b *ℤ pos d)
 
-abbrev pub MeetsOver : ℕ → Row → List ℤ → ℕ → Type 0
-MeetsOver n r x d = RowHoldsOver n (r .coefs) (r .rhs) x d
+pub record MeetsOver (n : ℕ) (r : Row) (x : List ℤ) (d : ℕ) : Type 0 where
+  pub le : T (not (isEquality r)) → dot n (r .coefs) x ≤ℤ (r .rhs *ℤ pos d)
+  pub eq : T (isEquality r) → dot n (r .coefs) x ≡ (r .rhs *ℤ pos d)
 
 -- 01: "A fractional point is the same with whole numerators over one positive denominator."
 -- An integer point is a fractional point over 1 (`integer-fractional`).

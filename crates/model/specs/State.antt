@@ -3,16 +3,16 @@ use Prim.Native.Nat.{ℕ}
 use lib.IntN.{ℤ}
 use mathlib.Core.List.{List}
 use Rattle.model.specs.Model.{Model, modelOf}
-use Rattle.model.specs.Rows.{Row, setRow}
+use Rattle.model.specs.Rows.{Row, Rows, setRow}
 
 -- "The state is the model and the table."
 pub record State : Type 0 where
   pub model : Model
   pub table : List ℕ
 
--- n, m and the lists that the buffers hold; a call that is lent no table has the empty list there, and its checks never look at it
-unfoldable pub stateOf : ℕ → ℕ → List ℤ → List ℤ → List ℤ → List ℕ → State
-stateOf n m B C R t = record { model = modelOf n m B C R; table = t }
+-- n, m, the rows and the lists that the buffers hold; a call that is lent no table has the empty list there, and its checks never look at it
+unfoldable pub stateOf : ℕ → ℕ → List ℤ → Rows → List ℕ → State
+stateOf n m B A t = record { model = modelOf n m B A; table = t }
 
 -- another box and another table
 unfoldable pub withBox : State → List ℤ → List ℕ → State

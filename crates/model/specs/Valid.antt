@@ -1,4 +1,4 @@
--- What the checks come to, index by index: a model that passes 3, 5 to 9 and 23, and a table that passes 5 and 10
+-- What the checks come to, index by index: a model that passes 3, 5 to 9, 16 and 23, and a table that passes 5 and 10
 -- (`fault-none`, `table-fault-none`).
 use Prim.Native.Nat.{_*_, _<_, _≤_, ℕ}
 use lib.IntN.{_-ℤ_, ℤ}
@@ -32,6 +32,8 @@ pub record ValidModel (M : Model) : Type 0 where
   pub coefs : (i : ℕ) → Between minCoef maxCoef (at (M .rows .coefs) i)
   pub rhsLen : length (M .rows .rhs) ≡ M .m
   pub rhs : (i : ℕ) → Between minRhs maxRhs (at (M .rows .rhs) i)
+  pub kindsLen : length (M .rows .kinds) ≡ M .m
+  pub kinds : (i : ℕ) → getD (M .rows .kinds) i 0 < 2
 
 pub record ValidTable (n : ℕ) (t : List ℕ) : Type 0 where
   pub len : length t ≡ 4 * (n * n)

@@ -1,6 +1,6 @@
 // A model in memory: n variables and m rows over flat lent buffers, and the checks that it passes before anything reads
-// it. bounds: l and u of each variable in turn, 2n; coefs: row after row, m · n; rhs: m; table: 4n² bytes. The checks
-// write nothing and require nothing: each answers for every n, m and buffer length. `in_range`, `is_ordered`,
+// it. bounds: l and u of each variable in turn, 2n; coefs: row after row, m · n; rhs and kinds: m; table: 4n² bytes.
+// The checks write nothing and require nothing: each answers for every n, m and buffer length. `in_range`, `is_ordered`,
 // `is_narrow` and `is_bits` go to the buffer's end and keep a flag: a loop without a branch for each number is compiled
 // to take 4 to 16 numbers at a time.
 pub mod boxes;
@@ -68,9 +68,17 @@ pub fn size_fault(n: usize, m: usize) -> u32
 }
 
 // Check 5 for the model's buffers: 5 where one has not the length that n and m give, else 0.
-pub fn length_fault(n: usize, m: usize, bounds: &[i32], coefs: &[i32], rhs: &[i32]) -> u32
+pub fn length_fault(
+    n: usize,
+    m: usize,
+    bounds: &[i32],
+    coefs: &[i32],
+    rhs: &[i32],
+    kinds: &[u8],
+) -> u32
     ensures { λ r.
-        ⌜ r ≡ first (lengthChecks (modelOf n m (now (bounds .entry)) (now (coefs .entry)) (now (rhs .entry)))) ⌝ }
+        let A = rowsOf (now (coefs .entry)) (now (rhs .entry)) (now (kinds .entry)) in
+        ⌜ r ≡ first (lengthChecks (modelOf n m (now (bounds .entry)) A)) ⌝ }
 {
     if !is_product(bounds.len(), 2, n) {
         return 5;
@@ -79,6 +87,9 @@ pub fn length_fault(n: usize, m: usize, bounds: &[i32], coefs: &[i32], rhs: &[i3
         return 5;
     }
     if rhs.len() != m {
+        return 5;
+    }
+    if kinds.len() != m {
         return 5;
     }
     0
@@ -188,11 +199,12 @@ pub fn box_fault(n: usize, bounds: &[i32]) -> u32
     0
 }
 
-// Those of the box, then 8 and 9, each over all its numbers before the next: the number of the first that fails,
+// Those of the box, then 8, 9 and 16, each over all its numbers before the next: the number of the first that fails,
 // else 0.
-pub fn number_fault(n: usize, bounds: &[i32], coefs: &[i32], rhs: &[i32]) -> u32
+pub fn number_fault(n: usize, bounds: &[i32], coefs: &[i32], rhs: &[i32], kinds: &[u8]) -> u32
     ensures { λ r.
-        ⌜ r ≡ first (numberChecks n (now (bounds .entry)) (rowsOf (now (coefs .entry)) (now (rhs .entry)))) ⌝ }
+        let A = rowsOf (now (coefs .entry)) (now (rhs .entry)) (now (kinds .entry)) in
+        ⌜ r ≡ first (numberChecks n (now (bounds .entry)) A) ⌝ }
 {
     let fault = box_fault(n, bounds);
     if fault != 0 {
@@ -203,6 +215,9 @@ pub fn number_fault(n: usize, bounds: &[i32], coefs: &[i32], rhs: &[i32]) -> u32
     }
     if !in_range(rhs, -MAX_RHS, MAX_RHS) {
         return 9;
+    }
+    if !is_bits(kinds) {
+        return 16;
     }
     0
 }
@@ -215,23 +230,25 @@ pub fn model_fault(
     bounds: &[i32],
     coefs: &[i32],
     rhs: &[i32],
+    kinds: &[u8],
     fits: bool,
 ) -> u32
     ensures { λ r.
-        ⌜ r ≡ modelFault (modelOf n m (now (bounds .entry)) (now (coefs .entry)) (now (rhs .entry))) none fits ⌝ }
+        let A = rowsOf (now (coefs .entry)) (now (rhs .entry)) (now (kinds .entry)) in
+        ⌜ r ≡ modelFault (modelOf n m (now (bounds .entry)) A) none fits ⌝ }
 {
     let size = size_fault(n, m);
     if size != 0 {
         return size;
     }
-    let length = length_fault(n, m, bounds, coefs, rhs);
+    let length = length_fault(n, m, bounds, coefs, rhs, kinds);
     if length != 0 {
         return length;
     }
     if !fits {
         return 5;
     }
-    number_fault(n, bounds, coefs, rhs)
+    number_fault(n, bounds, coefs, rhs, kinds)
 }
 
 // The same with a table, whose length is one of those that must fit, and then check 10.
@@ -241,16 +258,18 @@ pub fn model_table_fault(
     bounds: &[i32],
     coefs: &[i32],
     rhs: &[i32],
+    kinds: &[u8],
     table: &[u8],
     fits: bool,
 ) -> u32
     ensures { λ r.
+        let A = rowsOf (now (coefs .entry)) (now (rhs .entry)) (now (kinds .entry)) in
         ⌜ r
-        ≡ modelFault (modelOf n m (now (bounds .entry)) (now (coefs .entry)) (now (rhs .entry)))
+        ≡ modelFault (modelOf n m (now (bounds .entry)) A)
         (lent (now (table .entry))) fits ⌝ }
 {
     let all_fit = is_table_length(n, table.len()) && fits;
-    let fault = model_fault(n, m, bounds, coefs, rhs, all_fit);
+    let fault = model_fault(n, m, bounds, coefs, rhs, kinds, all_fit);
     if fault != 0 {
         return fault;
     }

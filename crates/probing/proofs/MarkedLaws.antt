@@ -11,7 +11,7 @@ use native.Mathlib.Omega.{arith}
 use Rattle.model.specs.Box.{NonEmpty, at, isEmpty, isFree, lower, upper, withBounds}
 use Rattle.model.specs.Valid.{ValidModel}
 use Rattle.model.proofs.BoxLoops.{lower-withBounds, upper-withBounds}
-use Rattle.model.specs.Rows.{rowsOf}
+use Rattle.model.specs.Rows.{Rows, rowAt}
 use Rattle.model.specs.Model.{modelOf}
 use Rattle.semantics.specs.Probe.{Probed, fix, probe}
 use Rattle.semantics.proofs.ProbeLaws.{fix-inside, probe-narrower}
@@ -20,7 +20,7 @@ use Rattle.propagation.specs.Marks.{Unread, Watched}
 use Rattle.propagation.proofs.MarkLaws.{clean-narrower, clean-remarked, unread-at}
 use Rattle.propagation.proofs.LocalBox.{blank}
 use Rattle.propagation.proofs.LocalIndex.{clean-none, index-none}
-use Rattle.row.proofs.PropagationLaws.{box→stable, stable→same}
+use Rattle.row.proofs.KindLaws.{kinded-stays}
 use Rattle.semantics.specs.RestTest.{isFixpoint}
 use Rattle.semantics.proofs.Convergence.{fixpoint-test}
 use Rattle.probing.specs.Marked.{Marked, SideReady}
@@ -31,15 +31,15 @@ use Rattle.probing.proofs.ProbingLoops.{fix-model, fix-stores, free-non
 
 -- ---- a side
 
-module _ {n m : ℕ} {B C R : List ℤ} {k : ℕ} {across signs : List ℕ} {seen : List ℤ} {marks : List ℕ} {side : List ℤ}
-    (g : SideReady n m B C R k across signs seen marks side) where
-  unread-side : {r : ℕ} → Unread n C r B side k → (j : ℕ) → Unread n C r B side j
-  unread-side {r} w j = subst (λ (X : List ℤ). Unread n C r B X j) (sym (g .elsewhere))
-      (unread-at k (lower side k) (upper side k) (subst (λ (X : List ℤ). Unread n C r B X k) (g .elsewhere) w) j)
+module _ {n m : ℕ} {B : List ℤ} {A : Rows} {k : ℕ} {across signs : List ℕ} {seen : List ℤ} {marks : List ℕ} {side : List ℤ}
+    (g : SideReady n m B A k across signs seen marks side) where
+  unread-side : {r : ℕ} → Unread n (A .coefs) (A .kinds) r B side k → (j : ℕ) → Unread n (A .coefs) (A .kinds) r B side j
+  unread-side {r} w j = subst (λ (X : List ℤ). Unread n (A .coefs) (A .kinds) r B X j) (sym (g .elsewhere))
+      (unread-at k (lower side k) (upper side k) (subst (λ (X : List ℤ). Unread n (A .coefs) (A .kinds) r B X k) (g .elsewhere) w) j)
 
   pub side-watched : {P seen′ : List ℤ} {signs′ : List ℕ} (marks′ : List ℕ) → P ≡ B → seen′ ≡ withBounds P k (lower side k) (upper side k)
-      → ((r : ℕ) → r < m → getD marks′ r 0 ≡ 1 → (getD marks r 0 ≡ 1) × Unread n C r P side k)
-      → ColumnSigns n m C signs′ → Watched n m C R side across signs′ seen′ marks′
+      → ((r : ℕ) → r < m → getD marks′ r 0 ≡ 1 → (getD marks r 0 ≡ 1) × Unread n (A .coefs) (A .kinds) r P side k)
+      → ColumnSigns n m (A .coefs) signs′ → Watched n m A side across signs′ seen′ marks′
   side-watched marks′ p e f x = record {
     index = record { rows = g .index .rows; columns = x };
     copied = λ _. (rw p at e) ∙ sym (g .elsewhere);
@@ -47,15 +47,15 @@ module _ {n m : ℕ} {B C R : List ℤ} {k : ℕ} {across signs : List ℕ} {see
         (λ r h t. let w = (rw p at f) r h t in (w .0, λ j _. unread-side (w .1) j));
   }
 
-module _ {n m : ℕ} {B C R : List ℤ} {across signs clean : List ℕ} (p : ValidModel (modelOf n m B C R)) (k w : ℕ) (f : T (isFree B k)) (h : k < n) (b : w < 2)
-    (x : Marked n m B C R across signs clean) where
+module _ {n m : ℕ} {B : List ℤ} {A : Rows} {across signs clean : List ℕ} (p : ValidModel (modelOf n m B A)) (k w : ℕ) (f : T (isFree B k)) (h : k < n) (b : w < 2)
+    (x : Marked n m B A across signs clean) where
   fix-low : lower (fix n B k w) k ≡ pos w
   fix-low = rw (← fix-stores n B k w (p .box .len) h) (lower-withBounds B k (pos w) (pos w) (omega (arith, p .box .len)))
 
   fix-high : upper (fix n B k w) k ≡ pos w
   fix-high = rw (← fix-stores n B k w (p .box .len) h) (upper-withBounds B k (pos w) (pos w) (omega (arith, p .box .len)))
 
-  fixed-ready : (seen : List ℤ) {marks : List ℕ} → length B ≡ length seen → marks ≡ clean → SideReady n m B C R k across signs seen marks (fix n B k w)
+  fixed-ready : (seen : List ℤ) {marks : List ℕ} → length B ≡ length seen → marks ≡ clean → SideReady n m B A k across signs seen marks (fix n B k w)
   fixed-ready seen l e = record {
     valid = fix-model k w p f h b;
     nonEmpty = free-nonEmpty k h f (p .box .shape);
@@ -69,29 +69,29 @@ module _ {n m : ℕ} {B C R : List ℤ} {across signs clean : List ℕ} (p : Val
   }
 
   pub side-ready : (seen : List ℤ) {marks : List ℕ} {side : List ℤ} → length B ≡ length seen → marks ≡ clean → side ≡ fix n B k w
-      → SideReady n m B C R k across signs seen marks side
-  side-ready seen {marks} l e d = subst (λ (X : List ℤ). SideReady n m B C R k across signs seen marks X) (sym d) (fixed-ready seen l e)
+      → SideReady n m B A k across signs seen marks side
+  side-ready seen {marks} l e d = subst (λ (X : List ℤ). SideReady n m B A k across signs seen marks X) (sym d) (fixed-ready seen l e)
 
 -- ---- local arrays
 
 pub front-room : (B : List ℤ) → length B ≤ 256 → length (take (length B) blank) ≡ length B
 front-room B h = length-take-le (length B) blank (rw length-replicate h)
 
-pub marks-from : {n m : ℕ} {C X B Q : List ℤ} (marks marks′ : List ℕ) → X ≡ B
-    → ((r : ℕ) → r < m → getD marks′ r 0 ≡ 1 → (getD marks r 0 ≡ 1) × ((j : ℕ) → j < n → Unread n C r X Q j))
-    → (r : ℕ) → r < m → getD marks′ r 0 ≡ 1 → (getD marks r 0 ≡ 1) × ((j : ℕ) → j < n → Unread n C r B Q j)
+pub marks-from : {n m : ℕ} {C : List ℤ} {K : List ℕ} {X B Q : List ℤ} (marks marks′ : List ℕ) → X ≡ B
+    → ((r : ℕ) → r < m → getD marks′ r 0 ≡ 1 → (getD marks r 0 ≡ 1) × ((j : ℕ) → j < n → Unread n C K r X Q j))
+    → (r : ℕ) → r < m → getD marks′ r 0 ≡ 1 → (getD marks r 0 ≡ 1) × ((j : ℕ) → j < n → Unread n C K r B Q j)
 marks-from marks marks′ e f = rw e at f
 
 -- nothing is known yet
-pub marked-none : {n m : ℕ} {B C R : List ℤ} → ValidModel (modelOf n m B C R) → Marked n m B C R (replicate 15360 0) (replicate 15360 0) (replicate 120 0)
+pub marked-none : {n m : ℕ} {B : List ℤ} {A : Rows} → ValidModel (modelOf n m B A) → Marked n m B A (replicate 15360 0) (replicate 15360 0) (replicate 120 0)
 marked-none v = record { index = index-none v; clean = clean-none 120; len = length-replicate {A = ℕ} 120 0 }
 
 -- every row of a propagation fixpoint is clean
-pub marked-all : {n m : ℕ} {B C R : List ℤ} → ValidModel (modelOf n m B C R) → NonEmpty n B → T (isFixpoint n m (rowsOf C R) B)
-    → Marked n m B C R (replicate 15360 0) (replicate 15360 0) (replicate 120 1)
-marked-all {n} {m} {B} {C} {R} v p t = record {
+pub marked-all : {n m : ℕ} {B : List ℤ} {A : Rows} → ValidModel (modelOf n m B A) → NonEmpty n B → T (isFixpoint n m A B)
+    → Marked n m B A (replicate 15360 0) (replicate 15360 0) (replicate 120 1)
+marked-all {n} {m} {B} {A} v p t = record {
   index = index-none v;
-  clean = record { same = λ _ r h _. stable→same (v .some) p (box→stable (v .some) p (fixpoint-test n m (rowsOf C R) B p .0 t .same r h)) };
+  clean = record { same = λ _ r h _. kinded-stays (rowAt n A r) (v .some) p (fixpoint-test n m A B p .0 t .same r h) };
   len = length-replicate {A = ℕ} 120 1;
 }
 
@@ -103,15 +103,15 @@ probing-box (probing.Infeasible s0 s1) Q t = refl
 probing-box (probing.Fixed v s0 s1) Q t = refl
 probing-box (probing.BothFeasible a s0 s1) Q t = refl
 
-pub marked-probed : {n m : ℕ} {B C R : List ℤ} {across signs marks : List ℕ} (k budget : ℕ) (t t′ : List ℕ) (r : Probing) {Q : List ℤ} {marks′ : List ℕ}
-    → ValidModel (modelOf n m B C R) → NonEmpty n B → T (isEmpty n B || isFree B k) → Marked n m B C R across signs marks
-    → {across′ signs′ : List ℕ} → Index n m C across′ signs′ → probingOf r Q t′ ≡ probe k budget n m (rowsOf C R) B t
-    → ((i : ℕ) → i < m → getD marks′ i 0 ≡ 1 → (getD marks i 0 ≡ 1) × ((j : ℕ) → j < n → Unread n C i B Q j))
-    → length marks′ ≡ length marks → Marked n m Q C R across′ signs′ marks′
-marked-probed {n} {m} {B} {C} {R} {across} {signs} {marks} k budget t t′ r {Q} {marks′} v p f x y e u l =
-    let q : Q ≡ probe k budget n m (rowsOf C R) B t .box = sym (probing-box r Q t′) ∙ ap (λ (w : Probed). w .box) e in
+pub marked-probed : {n m : ℕ} {B : List ℤ} {A : Rows} {across signs marks : List ℕ} (k budget : ℕ) (t t′ : List ℕ) (r : Probing) {Q : List ℤ} {marks′ : List ℕ}
+    → ValidModel (modelOf n m B A) → NonEmpty n B → T (isEmpty n B || isFree B k) → Marked n m B A across signs marks
+    → {across′ signs′ : List ℕ} → Index n m (A .coefs) across′ signs′ → probingOf r Q t′ ≡ probe k budget n m A B t
+    → ((i : ℕ) → i < m → getD marks′ i 0 ≡ 1 → (getD marks i 0 ≡ 1) × ((j : ℕ) → j < n → Unread n (A .coefs) (A .kinds) i B Q j))
+    → length marks′ ≡ length marks → Marked n m Q A across′ signs′ marks′
+marked-probed {n} {m} {B} {A} {across} {signs} {marks} k budget t t′ r {Q} {marks′} v p f x y e u l =
+    let q : Q ≡ probe k budget n m A B t .box = sym (probing-box r Q t′) ∙ ap (λ (w : Probed). w .box) e in
     record {
       index = y;
-      clean = clean-narrower (v .some) p (rw q (probe-narrower k budget m (rowsOf C R) t f p)) (x .clean) u;
+      clean = clean-narrower (v .some) p (rw q (probe-narrower k budget m A t f p)) (x .clean) u;
       len = l ∙ x .len;
     }

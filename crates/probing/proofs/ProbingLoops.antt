@@ -18,7 +18,7 @@ use Rattle.model.specs.Box.{NonEmpty, emptyBox, isEmpty, isFree, lower, upper, 
 use Rattle.model.specs.Valid.{ValidBox, ValidModel}
 use Rattle.model.proofs.BoxLaws.{box-ext, empty-is, free-lower, isEmpty→eq, length-boxOf, lower-boxOf, upper-boxOf}
 use Rattle.model.proofs.BoxLoops.{length-withBounds, lower-withBounds, upper-withBounds, withBounds-other}
-use Rattle.model.specs.Rows.{rowsOf}
+use Rattle.model.specs.Rows.{Rows}
 use Rattle.model.specs.Model.{modelOf}
 use Rattle.semantics.specs.Probe as semantic
 use Rattle.semantics.specs.Probe.{fix, hull, joinSides, recordTo, sideOf}
@@ -57,7 +57,7 @@ free-nonEmpty k {n} {B} h f (inl e) =
     let z : ⊥ = omega (zarith, l, free-lower B k f) in absurd z
 free-nonEmpty k h f (inr p) = p
 
-pub fix-model : (k v : ℕ) {n m : ℕ} {B C R : List ℤ} → ValidModel (modelOf n m B C R) → T (isFree B k) → k < n → v < 2 → ValidModel (modelOf n m (fix n B k v) C R)
+pub fix-model : (k v : ℕ) {n m : ℕ} {B : List ℤ} {A : Rows} → ValidModel (modelOf n m B A) → T (isFree B k) → k < n → v < 2 → ValidModel (modelOf n m (fix n B k v) A)
 fix-model k v p f h b = record {
   some = p .some;
   few = p .few;
@@ -67,6 +67,8 @@ fix-model k v p f h b = record {
   coefs = p .coefs;
   rhsLen = p .rhsLen;
   rhs = p .rhs;
+  kindsLen = p .kindsLen;
+  kinds = p .kinds;
 }
 
 -- ---- a side's answer
@@ -96,19 +98,19 @@ is-some (Converged p k) S h = refl
 is-some (BudgetSpent p k) S h = refl
 
 -- a side that was propagated: its box is valid, and empty exactly if the answer is infeasible
-module _ (budget m : ℕ) (C R : List ℤ) {n : ℕ} {B : List ℤ} (h : 0 < n) (v : ValidBox n B) (s : Propagation) (S : List ℤ)
-    (e : propagationOf s S ≡ propagate budget n m (rowsOf C R) B) where
-  side-box : S ≡ propagate budget n m (rowsOf C R) B .box
+module _ (budget m : ℕ) (A : Rows) {n : ℕ} {B : List ℤ} (h : 0 < n) (v : ValidBox n B) (s : Propagation) (S : List ℤ)
+    (e : propagationOf s S ≡ propagate budget n m A B) where
+  side-box : S ≡ propagate budget n m A B .box
   side-box = sym (box-is s S) ∙ ap (λ r. r .box) e
 
   pub side-valid : ValidBox n S
-  side-valid = subst⁻¹ (ValidBox n) side-box (propagate-valid m (rowsOf C R) budget v)
+  side-valid = subst⁻¹ (ValidBox n) side-box (propagate-valid m A budget v)
 
   pub side-none : isNone (propagationOf s S .ending) ≡ isEmpty n S
   side-none =
-      let i = propagate-infeasible-iff budget m (rowsOf C R) h v in
+      let i = propagate-infeasible-iff budget m A h v in
       rw (e, side-box)
-      (bool-ext (isNone (propagate budget n m (rowsOf C R) B .ending)) (isEmpty n (propagate budget n m (rowsOf C R) B .box))
+      (bool-ext (isNone (propagate budget n m A B .ending)) (isEmpty n (propagate budget n m A B .box))
       (λ t. true→T _ (empty-is n _ (i .0 t))) (λ t. i .1 (isEmpty→eq n _ t)))
 
 -- ---- what two sides come to, by which are infeasible

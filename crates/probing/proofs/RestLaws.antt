@@ -10,11 +10,12 @@ use mathlib.Core.Path.{_∙_, _≡_, ap, refl, subst, sym}
 use Rattle.integer.specs.Order.{maxZ, minZ}
 use Rattle.integer.proofs.Tests.{T→true, true→T}
 use Rattle.model.specs.Box.{NonEmpty, lower, sameList, upper}
+use Rattle.model.specs.Rows.{Row}
 use Rattle.model.proofs.BoxLaws.{box-ext, length-boxOf, lower-boxOf, sameList-refl, sameList→eq, upper-boxOf}
 use Rattle.row.specs.Outcome.{isUnchanged}
-use Rattle.row.specs.Propagation.{propagateRow, rowMoves}
-use Rattle.row.proofs.PropagationLaws.{box→stable, stable→same}
-use Rattle.row.proofs.ReachLaws.{moves-not}
+use Rattle.row.specs.Kinds.{propagateRowOf, rowMovesOf}
+use Rattle.row.proofs.KindLaws.{kinded-stays}
+use Rattle.propagation.proofs.MarkLaws.{moves-none}
 use Rattle.semantics.specs.Probe.{hull}
 use Rattle.semantics.specs.Propagate.{Propagated, isNone}
 use Rattle.propagation.specs.Results.{propagationOf}
@@ -45,16 +46,16 @@ hull-test n P Q B l = (
 
 -- ---- a row of a fixpoint
 
-module _ (n : ℕ) (A : List ℤ) (b : ℤ) (B : List ℤ) where
-  pub row-stays : length B ≡ 2 * n → rowMoves n A b B ≡ false → sameList (propagateRow n A b B .box) B ≡ true
-  row-stays l e = rw (moves-not n A b B l e) (T→true (sameList B B) (sameList-refl B))
+module _ (n : ℕ) (r : Row) (B : List ℤ) (h : 0 < n) (p : NonEmpty n B) where
+  pub row-stays : rowMovesOf n r B ≡ false → sameList (propagateRowOf n r B .box) B ≡ true
+  row-stays e = rw (moves-none r h e p) (T→true (sameList B B) (sameList-refl B))
 
-  pub row-moved : 0 < n → NonEmpty n B → rowMoves n A b B ≡ true → sameList (propagateRow n A b B .box) B ≡ false
-  unfolding rowMoves isUnchanged
-  row-moved h p e = go (sameList (propagateRow n A b B .box) B) refl
+  pub row-moved : rowMovesOf n r B ≡ true → sameList (propagateRowOf n r B .box) B ≡ false
+  unfolding rowMovesOf isUnchanged
+  row-moved e = go (sameList (propagateRowOf n r B .box) B) refl
     where
-      go : (x : Bool) → sameList (propagateRow n A b B .box) B ≡ x → x ≡ false
+      go : (x : Bool) → sameList (propagateRowOf n r B .box) B ≡ x → x ≡ false
       go false f = refl
       go true f =
-          let q = sameList→eq (propagateRow n A b B .box) B (true→T (sameList (propagateRow n A b B .box) B) f) in
-          sym e ∙ rw (stable→same {A = A} {b = b} h p (box→stable h p q)) refl
+          let q = sameList→eq (propagateRowOf n r B .box) B (true→T (sameList (propagateRowOf n r B .box) B) f) in
+          sym e ∙ rw (kinded-stays r h p q) refl

@@ -27,14 +27,16 @@ ghost use Rattle.propagation.specs.Results.{propagationOf};
 ghost use Rattle.semantics.specs.RestTest.{isFixpoint, isProbingFixpoint, sidesSpan};
 
 // Whether no row moves a bound: the first that would ends it.
-fn is_fixpoint(n: usize, m: usize, bounds: &[i32], coefs: &[i32], rhs: &[i32]) -> bool
-    requires { ⌜ ValidModel (modelOf n m (now bounds) (now coefs) (now rhs)) ⌝ }
+fn is_fixpoint(n: usize, m: usize, bounds: &[i32], coefs: &[i32], rhs: &[i32], kinds: &[u8]) -> bool
+    requires { ⌜ ValidModel (modelOf n m (now bounds) (rowsOf (now coefs) (now rhs) (now kinds))) ⌝ }
     requires { ⌜ NonEmpty n (now bounds) ⌝ }
-    ensures { λ r. ⌜ r ≡ isFixpoint n m (rowsOf (now (coefs .entry)) (now (rhs .entry))) (now (bounds .entry)) ⌝ }
+    ensures { λ r.
+        let A = rowsOf (now (coefs .entry)) (now (rhs .entry)) (now (kinds .entry)) in
+        ⌜ r ≡ isFixpoint n m A (now (bounds .entry)) ⌝ }
 {
     let mut r = 0;
     while r < m {
-        if row_moves_at(n, coefs, rhs, r, bounds) {
+        if row_moves_at(n, coefs, rhs, kinds, r, bounds) {
             return false;
         }
         r += 1;
@@ -80,17 +82,20 @@ fn sides_span(
     bounds: &[i32],
     coefs: &[i32],
     rhs: &[i32],
+    kinds: &[u8],
     k: usize,
     across: &mut [u8],
     signs: &mut [u8],
     marks: &[u8],
 ) -> bool
-    requires { ⌜ ValidModel (modelOf n m (now bounds) (now coefs) (now rhs)) ⌝ }
+    requires { ⌜ ValidModel (modelOf n m (now bounds) (rowsOf (now coefs) (now rhs) (now kinds))) ⌝ }
     requires { ⌜ T (isFree (now bounds) k) ⌝ }
     requires { ⌜ k < n ⌝ }
-    requires { ⌜ Marked n m (now bounds) (now coefs) (now rhs) (now across) (now signs) (now marks) ⌝ }
+    requires { let A = rowsOf (now coefs) (now rhs) (now kinds) in
+        ⌜ Marked n m (now bounds) A (now across) (now signs) (now marks) ⌝ }
     ensures answer { λ r.
-        ⌜ r ≡ sidesSpan n m (rowsOf (now (coefs .entry)) (now (rhs .entry))) (now (bounds .entry)) k ⌝ }
+        let A = rowsOf (now (coefs .entry)) (now (rhs .entry)) (now (kinds .entry)) in
+        ⌜ r ≡ sidesSpan n m A (now (bounds .entry)) k ⌝ }
     ensures index { λ r. ⌜ Index n m (now (coefs .entry)) (now (across .exit)) (now (signs .exit)) ⌝ }
 {
     let len = bounds.len();
@@ -101,6 +106,7 @@ fn sides_span(
         bounds,
         coefs,
         rhs,
+        kinds,
         k,
         0,
         MAX_BUDGET,
@@ -119,6 +125,7 @@ fn sides_span(
         bounds,
         coefs,
         rhs,
+        kinds,
         k,
         1,
         MAX_BUDGET,
@@ -140,24 +147,27 @@ fn spans_at(
     bounds: &[i32],
     coefs: &[i32],
     rhs: &[i32],
+    kinds: &[u8],
     k: usize,
     across: &mut [u8],
     signs: &mut [u8],
     marks: &[u8],
 ) -> bool
-    requires { ⌜ ValidModel (modelOf n m (now bounds) (now coefs) (now rhs)) ⌝ }
+    requires { ⌜ ValidModel (modelOf n m (now bounds) (rowsOf (now coefs) (now rhs) (now kinds))) ⌝ }
     requires { ⌜ k < n ⌝ }
-    requires { ⌜ Marked n m (now bounds) (now coefs) (now rhs) (now across) (now signs) (now marks) ⌝ }
+    requires { let A = rowsOf (now coefs) (now rhs) (now kinds) in
+        ⌜ Marked n m (now bounds) A (now across) (now signs) (now marks) ⌝ }
     ensures answer { λ r.
+        let A = rowsOf (now (coefs .entry)) (now (rhs .entry)) (now (kinds .entry)) in
         ⌜ r
-        ≡ (not (isFree (now (bounds .entry)) k) || sidesSpan n m (rowsOf (now (coefs .entry)) (now (rhs .entry)))
+        ≡ (not (isFree (now (bounds .entry)) k) || sidesSpan n m A
         (now (bounds .entry)) k) ⌝ }
     ensures index { λ r. ⌜ Index n m (now (coefs .entry)) (now (across .exit)) (now (signs .exit)) ⌝ }
 {
     if !is_free(bounds, k) {
         return true;
     }
-    sides_span(n, m, bounds, coefs, rhs, k, across, signs, marks)
+    sides_span(n, m, bounds, coefs, rhs, kinds, k, across, signs, marks)
 }
 
 // Whether the sides of each free variable span the box.
@@ -167,21 +177,24 @@ fn all_span(
     bounds: &[i32],
     coefs: &[i32],
     rhs: &[i32],
+    kinds: &[u8],
     across: &mut [u8],
     signs: &mut [u8],
     marks: &[u8],
 ) -> bool
-    requires { ⌜ ValidModel (modelOf n m (now bounds) (now coefs) (now rhs)) ⌝ }
-    requires { ⌜ Marked n m (now bounds) (now coefs) (now rhs) (now across) (now signs) (now marks) ⌝ }
+    requires { ⌜ ValidModel (modelOf n m (now bounds) (rowsOf (now coefs) (now rhs) (now kinds))) ⌝ }
+    requires { let A = rowsOf (now coefs) (now rhs) (now kinds) in
+        ⌜ Marked n m (now bounds) A (now across) (now signs) (now marks) ⌝ }
     ensures { λ r.
+        let A = rowsOf (now (coefs .entry)) (now (rhs .entry)) (now (kinds .entry)) in
         ⌜ r
         ≡ all n
         (λ k. not (isFree (now (bounds .entry)) k) || sidesSpan n m
-        (rowsOf (now (coefs .entry)) (now (rhs .entry))) (now (bounds .entry)) k) ⌝ }
+        A (now (bounds .entry)) k) ⌝ }
 {
     let mut k = 0;
     while k < n {
-        if !spans_at(n, m, bounds, coefs, rhs, k, across, signs, marks) {
+        if !spans_at(n, m, bounds, coefs, rhs, kinds, k, across, signs, marks) {
             return false;
         }
         k += 1;
@@ -190,32 +203,59 @@ fn all_span(
 }
 
 // The same of a propagation fixpoint: each row is clean.
-fn every_side_spans(n: usize, m: usize, bounds: &[i32], coefs: &[i32], rhs: &[i32]) -> bool
-    requires { ⌜ ValidModel (modelOf n m (now bounds) (now coefs) (now rhs)) ⌝ }
-    requires { ⌜ NonEmpty n (now bounds) × T (isFixpoint n m (rowsOf (now coefs) (now rhs)) (now bounds)) ⌝ }
+fn every_side_spans(
+    n: usize,
+    m: usize,
+    bounds: &[i32],
+    coefs: &[i32],
+    rhs: &[i32],
+    kinds: &[u8],
+) -> bool
+    requires { ⌜ ValidModel (modelOf n m (now bounds) (rowsOf (now coefs) (now rhs) (now kinds))) ⌝ }
+    requires { let A = rowsOf (now coefs) (now rhs) (now kinds) in
+        ⌜ NonEmpty n (now bounds) × T (isFixpoint n m A (now bounds)) ⌝ }
     ensures { λ r.
+        let A = rowsOf (now (coefs .entry)) (now (rhs .entry)) (now (kinds .entry)) in
         ⌜ r
         ≡ all n
         (λ k. not (isFree (now (bounds .entry)) k) || sidesSpan n m
-        (rowsOf (now (coefs .entry)) (now (rhs .entry))) (now (bounds .entry)) k) ⌝ }
+        A (now (bounds .entry)) k) ⌝ }
 {
     let mut across = [0u8; MAX_MATRIX];
     let mut signs = [0u8; MAX_MATRIX];
     let marks = [1u8; MAX_ROWS];
-    all_span(n, m, bounds, coefs, rhs, &mut across, &mut signs, &marks)
+    all_span(
+        n,
+        m,
+        bounds,
+        coefs,
+        rhs,
+        kinds,
+        &mut across,
+        &mut signs,
+        &marks,
+    )
 }
 
 // Whether the box of a model that passed the checks is a probing fixpoint.
-pub fn is_probing_fixpoint(n: usize, m: usize, bounds: &[i32], coefs: &[i32], rhs: &[i32]) -> bool
-    requires { ⌜ ValidModel (modelOf n m (now bounds) (now coefs) (now rhs)) ⌝ }
+pub fn is_probing_fixpoint(
+    n: usize,
+    m: usize,
+    bounds: &[i32],
+    coefs: &[i32],
+    rhs: &[i32],
+    kinds: &[u8],
+) -> bool
+    requires { ⌜ ValidModel (modelOf n m (now bounds) (rowsOf (now coefs) (now rhs) (now kinds))) ⌝ }
     ensures { λ r.
-        ⌜ r ≡ isProbingFixpoint n m (rowsOf (now (coefs .entry)) (now (rhs .entry))) (now (bounds .entry)) ⌝ }
+        let A = rowsOf (now (coefs .entry)) (now (rhs .entry)) (now (kinds .entry)) in
+        ⌜ r ≡ isProbingFixpoint n m A (now (bounds .entry)) ⌝ }
 {
     if model::is_empty(bounds) {
         return true;
     }
-    if !is_fixpoint(n, m, bounds, coefs, rhs) {
+    if !is_fixpoint(n, m, bounds, coefs, rhs, kinds) {
         return false;
     }
-    every_side_spans(n, m, bounds, coefs, rhs)
+    every_side_spans(n, m, bounds, coefs, rhs, kinds)
 }

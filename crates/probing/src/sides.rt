@@ -69,13 +69,14 @@ fn side_of(p: Propagation) -> Side
 }
 
 // The box of a side, fixed already, propagated. It lies inside the box before, so rows clean there are clean here, but
-// for those that read the bound of k that moved (`same-kept`).
+// for those that read the bound of k that moved (`kinded-kept`).
 fn propagate_side(
     n: usize,
     m: usize,
     bounds: &[i32],
     coefs: &[i32],
     rhs: &[i32],
+    kinds: &[u8],
     k: usize,
     budget: u32,
     across: &mut [u8],
@@ -84,16 +85,29 @@ fn propagate_side(
     marks: &mut [u8],
     side: &mut [i32],
 ) -> Propagation
-    requires { ⌜ SideReady n m (now bounds) (now coefs) (now rhs) k (now across) (now signs) (now seen) (now marks)
-        (now side) ⌝ }
+    requires { let A = rowsOf (now coefs) (now rhs) (now kinds) in
+        ⌜ SideReady n m (now bounds) A k (now across) (now signs) (now seen) (now marks) (now side) ⌝ }
     ensures answer { λ r.
+        let A = rowsOf (now (coefs .entry)) (now (rhs .entry)) (now (kinds .entry)) in
         ⌜ propagationOf r (now (side .exit))
-        ≡ propagated budget n m (rowsOf (now (coefs .entry)) (now (rhs .entry))) (now (side .entry)) ⌝ }
+        ≡ propagated budget n m A (now (side .entry)) ⌝ }
     ensures index { λ r. ⌜ Index n m (now (coefs .entry)) (now (across .exit)) (now (signs .exit)) ⌝ }
 {
     copy_box(bounds, seen);
-    remark_at(n, m, coefs, k, signs, seen, side, marks);
-    propagate_marked(n, m, side, coefs, rhs, budget, across, signs, seen, marks)
+    remark_at(n, m, coefs, kinds, k, signs, seen, side, marks);
+    propagate_marked(
+        n,
+        m,
+        side,
+        coefs,
+        rhs,
+        kinds,
+        budget,
+        across,
+        signs,
+        seen,
+        marks,
+    )
 }
 
 // Side v of k, in the lent buffer: the box with k fixed at v, propagated with the budget, by the index and the marks of
@@ -104,6 +118,7 @@ pub fn try_side(
     bounds: &[i32],
     coefs: &[i32],
     rhs: &[i32],
+    kinds: &[u8],
     k: usize,
     v: i32,
     budget: u32,
@@ -112,15 +127,17 @@ pub fn try_side(
     clean: &[u8],
     side: &mut [i32],
 ) -> Propagation
-    requires { ⌜ ValidModel (modelOf n m (now bounds) (now coefs) (now rhs)) ⌝ }
+    requires { ⌜ ValidModel (modelOf n m (now bounds) (rowsOf (now coefs) (now rhs) (now kinds))) ⌝ }
     requires { ⌜ T (isFree (now bounds) k) ⌝ }
     requires { ⌜ k < n ⌝ }
     requires { ⌜ (v ≡ pos 0) ⊎ (v ≡ pos 1) ⌝ }
     requires { ⌜ length (now side) ≡ length (now bounds) ⌝ }
-    requires { ⌜ Marked n m (now bounds) (now coefs) (now rhs) (now across) (now signs) (now clean) ⌝ }
+    requires { let A = rowsOf (now coefs) (now rhs) (now kinds) in
+        ⌜ Marked n m (now bounds) A (now across) (now signs) (now clean) ⌝ }
     ensures answer { λ r.
+        let A = rowsOf (now (coefs .entry)) (now (rhs .entry)) (now (kinds .entry)) in
         ⌜ ((w : ℕ) → v ≡ pos w → propagationOf r (now (side .exit))
-        ≡ propagated budget n m (rowsOf (now (coefs .entry)) (now (rhs .entry)))
+        ≡ propagated budget n m A
         (fix n (now (bounds .entry)) k w)) ⌝ }
     ensures index { λ r. ⌜ Index n m (now (coefs .entry)) (now (across .exit)) (now (signs .exit)) ⌝ }
 {
@@ -137,6 +154,7 @@ pub fn try_side(
         bounds,
         coefs,
         rhs,
+        kinds,
         k,
         budget,
         across,
@@ -211,11 +229,12 @@ fn join_marked<'a>(
     bounds: &mut [i32],
     table: &mut [u8],
     coefs: &[i32],
+    kinds: &[u8],
     signs: &mut [u8],
     marks: &mut [u8],
 ) -> Probing
     requires { ⌜ Joinable n k s0 s1 (now zero) (now one) (now bounds) (now table) ⌝ }
-    requires { ⌜ ColumnSigns n m (now coefs) (now signs) × (m ≤ length (now marks)) ⌝ }
+    requires { ⌜ ColumnSigns n m (now coefs) (now signs) × (m ≤ length (now kinds)) × (m ≤ length (now marks)) ⌝ }
     ensures answer { λ r.
         ⌜ probingOf r (now (bounds .exit)) (now (table .exit))
         ≡ joinSides n k (now (bounds .entry)) (now (table .entry))
@@ -223,14 +242,15 @@ fn join_marked<'a>(
         (propagationOf s1 (take (2 * n) (now (one .entry)))) ⌝ }
     ensures marks { λ _.
         ⌜ ((r : ℕ) → r < m → getD (now (marks .exit)) r 0 ≡ 1 → (getD (now (marks .entry)) r 0 ≡ 1)
-        × ((j : ℕ) → j < n → Unread n (now (coefs .entry)) r (now (bounds .entry)) (now (bounds .exit)) j)) ⌝ }
+        × ((j : ℕ) → j < n → Unread n (now (coefs .entry)) (now (kinds .entry)) r (now (bounds .entry))
+        (now (bounds .exit)) j)) ⌝ }
     ensures signs { λ _. ⌜ ColumnSigns n m (now (coefs .entry)) (now (signs .exit)) ⌝ }
 {
     let len = bounds.len();
     let mut old = [0i32; MAX_BOX];
     copy_box(bounds, &mut old[..len]);
     let answer = join(n, k, s0, s1, zero, one, bounds, table);
-    remark_all(n, m, coefs, signs, &mut old[..len], bounds, marks);
+    remark_all(n, m, coefs, kinds, signs, &mut old[..len], bounds, marks);
     answer
 }
 
@@ -241,6 +261,7 @@ fn finish_probe<'a>(
     bounds: &mut [i32],
     coefs: &[i32],
     rhs: &[i32],
+    kinds: &[u8],
     table: &mut [u8],
     k: usize,
     budget: u32,
@@ -250,19 +271,22 @@ fn finish_probe<'a>(
     signs: &mut [u8],
     marks: &mut [u8],
 ) -> Probing
-    requires { ⌜ ValidModel (modelOf n m (now bounds) (now coefs) (now rhs)) ⌝ }
+    requires { ⌜ ValidModel (modelOf n m (now bounds) (rowsOf (now coefs) (now rhs) (now kinds))) ⌝ }
     requires { ⌜ ValidTable n (now table) ⌝ }
     requires { ⌜ T (isFree (now bounds) k) ⌝ }
     requires { ⌜ k < n ⌝ }
     requires { ⌜ (length (now zero) ≡ 256) × (propagationOf s0 (take (2 * n) (now zero))
-        ≡ propagated budget n m (rowsOf (now coefs) (now rhs)) (fix n (now bounds) k 0)) ⌝ }
-    requires { ⌜ Marked n m (now bounds) (now coefs) (now rhs) (now across) (now signs) (now marks) ⌝ }
+        ≡ propagated budget n m (rowsOf (now coefs) (now rhs) (now kinds)) (fix n (now bounds) k 0)) ⌝ }
+    requires { let A = rowsOf (now coefs) (now rhs) (now kinds) in
+        ⌜ Marked n m (now bounds) A (now across) (now signs) (now marks) ⌝ }
     ensures answer { λ r.
+        let A = rowsOf (now (coefs .entry)) (now (rhs .entry)) (now (kinds .entry)) in
         ⌜ probingOf r (now (bounds .exit)) (now (table .exit))
-        ≡ probed k budget n m (rowsOf (now (coefs .entry)) (now (rhs .entry))) (now (bounds .entry))
+        ≡ probed k budget n m A (now (bounds .entry))
         (now (table .entry)) ⌝ }
     ensures marks { λ r.
-        ⌜ Marked n m (now (bounds .exit)) (now (coefs .entry)) (now (rhs .entry)) (now (across .exit))
+        let A = rowsOf (now (coefs .entry)) (now (rhs .entry)) (now (kinds .entry)) in
+        ⌜ Marked n m (now (bounds .exit)) A (now (across .exit))
         (now (signs .exit)) (now (marks .exit)) ⌝ }
 {
     let len = bounds.len();
@@ -273,6 +297,7 @@ fn finish_probe<'a>(
         bounds,
         coefs,
         rhs,
+        kinds,
         k,
         1,
         budget,
@@ -292,6 +317,7 @@ fn finish_probe<'a>(
         bounds,
         table,
         coefs,
+        kinds,
         signs,
         marks,
     )
@@ -316,6 +342,7 @@ pub fn probe_marked(
     bounds: &mut [i32],
     coefs: &[i32],
     rhs: &[i32],
+    kinds: &[u8],
     table: &mut [u8],
     k: usize,
     budget: u32,
@@ -323,23 +350,26 @@ pub fn probe_marked(
     signs: &mut [u8],
     marks: &mut [u8],
 ) -> Probing
-    requires { ⌜ ValidModel (modelOf n m (now bounds) (now coefs) (now rhs)) ⌝ }
+    requires { ⌜ ValidModel (modelOf n m (now bounds) (rowsOf (now coefs) (now rhs) (now kinds))) ⌝ }
     requires { ⌜ ValidTable n (now table) ⌝ }
     requires { ⌜ T (isEmpty n (now bounds) || isFree (now bounds) k) ⌝ }
     requires { ⌜ k < n ⌝ }
-    requires { ⌜ Marked n m (now bounds) (now coefs) (now rhs) (now across) (now signs) (now marks) ⌝ }
+    requires { let A = rowsOf (now coefs) (now rhs) (now kinds) in
+        ⌜ Marked n m (now bounds) A (now across) (now signs) (now marks) ⌝ }
     ensures answer { λ r.
+        let A = rowsOf (now (coefs .entry)) (now (rhs .entry)) (now (kinds .entry)) in
         ⌜ probingOf r (now (bounds .exit)) (now (table .exit))
-        ≡ probed k budget n m (rowsOf (now (coefs .entry)) (now (rhs .entry))) (now (bounds .entry))
+        ≡ probed k budget n m A (now (bounds .entry))
         (now (table .entry)) ⌝ }
     ensures marks { λ r.
-        ⌜ Marked n m (now (bounds .exit)) (now (coefs .entry)) (now (rhs .entry)) (now (across .exit))
+        let A = rowsOf (now (coefs .entry)) (now (rhs .entry)) (now (kinds .entry)) in
+        ⌜ Marked n m (now (bounds .exit)) A (now (across .exit))
         (now (signs .exit)) (now (marks .exit)) ⌝ }
 {
     if model::is_empty(bounds) {
         return Probing::Infeasible(untried(), untried());
     }
-    find_clean(n, m, bounds, coefs, rhs, across, marks);
+    find_clean(n, m, bounds, coefs, rhs, kinds, across, marks);
     let len = bounds.len();
     let mut zero = [0i32; MAX_BOX];
     let s0 = try_side(
@@ -348,6 +378,7 @@ pub fn probe_marked(
         bounds,
         coefs,
         rhs,
+        kinds,
         k,
         0,
         budget,
@@ -362,6 +393,7 @@ pub fn probe_marked(
         bounds,
         coefs,
         rhs,
+        kinds,
         table,
         k,
         budget,
@@ -380,17 +412,19 @@ pub fn probe(
     bounds: &mut [i32],
     coefs: &[i32],
     rhs: &[i32],
+    kinds: &[u8],
     table: &mut [u8],
     k: usize,
     budget: u32,
 ) -> Probing
-    requires { ⌜ ValidModel (modelOf n m (now bounds) (now coefs) (now rhs)) ⌝ }
+    requires { ⌜ ValidModel (modelOf n m (now bounds) (rowsOf (now coefs) (now rhs) (now kinds))) ⌝ }
     requires { ⌜ ValidTable n (now table) ⌝ }
     requires { ⌜ T (isEmpty n (now bounds) || isFree (now bounds) k) ⌝ }
     requires { ⌜ k < n ⌝ }
     ensures { λ r.
+        let A = rowsOf (now (coefs .entry)) (now (rhs .entry)) (now (kinds .entry)) in
         ⌜ probingOf r (now (bounds .exit)) (now (table .exit))
-        ≡ probed k budget n m (rowsOf (now (coefs .entry)) (now (rhs .entry))) (now (bounds .entry))
+        ≡ probed k budget n m A (now (bounds .entry))
         (now (table .entry)) ⌝ }
 {
     let mut across = [0u8; MAX_MATRIX];
@@ -402,6 +436,7 @@ pub fn probe(
         bounds,
         coefs,
         rhs,
+        kinds,
         table,
         k,
         budget,

@@ -8,15 +8,16 @@ use mathlib.Core.Path.{_∙_, _≡_, ap}
 use native.Mathlib.Omega.{arith}
 use Rattle.model.specs.Valid.{ValidModel}
 use Rattle.model.specs.Model.{modelOf}
+use Rattle.model.specs.Rows.{Rows}
 
 -- the array as it is made
 abbrev pub blank : List ℤ
 blank = replicate 256 (pos 0)
 
-pub box-small : {n m : ℕ} {B C R : List ℤ} → ValidModel (modelOf n m B C R) → length B ≤ 256
+pub box-small : {n m : ℕ} {B : List ℤ} {A : Rows} → ValidModel (modelOf n m B A) → length B ≤ 256
 box-small v = omega (arith, v .few, v .box .len)
 
-pub box-room : {n m : ℕ} {B C R : List ℤ} → ValidModel (modelOf n m B C R) → length (take (length B) blank) ≡ length B
+pub box-room : {n m : ℕ} {B : List ℤ} {A : Rows} → ValidModel (modelOf n m B A) → length (take (length B) blank) ≡ length B
 box-room {B = B} v = length-take-le (length B) blank (rw length-replicate (box-small v))
 
 module _ (P : List ℤ) (k : ℕ) (e : length P ≡ k) where

@@ -9,6 +9,7 @@ use native.Mathlib.Nat.{mul-le-mul-right}
 use native.Mathlib.Omega.{arith}
 use Rattle.model.specs.Valid.{ValidModel}
 use Rattle.model.specs.Model.{modelOf}
+use Rattle.model.specs.Rows.{Rows}
 use Rattle.propagation.specs.Index.{Index}
 use Rattle.propagation.specs.Marks.{Clean, Watched}
 
@@ -19,17 +20,17 @@ all-zero k i = go (decLt i k)
     go (yes h) = getD-replicate k i 0 0 h
     go (no h) = let o : length {A = ℕ} (replicate k 0) ≤ i = omega (arith, length-replicate {A = ℕ} k 0) in rw List·getD-eq-default
 
-pub clean-none : {n m : ℕ} {C R B : List ℤ} (k : ℕ) → Clean n m C R B (replicate k 0)
+pub clean-none : {n m : ℕ} {A : Rows} {B : List ℤ} (k : ℕ) → Clean n m A B (replicate k 0)
 clean-none k = record { same = λ _ r _ e. absurd (let z : _≡_ {A = ℕ} 0 1 = sym (all-zero k r) ∙ e in let w : ⊥ = omega arith in w) }
 
-module _ {n m : ℕ} {B C R : List ℤ} (v : ValidModel (modelOf n m B C R)) where
+module _ {n m : ℕ} {B : List ℤ} {A : Rows} (v : ValidModel (modelOf n m B A)) where
   cells : m * n ≤ 15360
   cells = omega (arith, mul-le-mul-right n (v .fewRows), v .few)
 
   cells-across : n * m ≤ 15360
   cells-across = omega (arith, mul-le-mul-right m (v .few), v .fewRows)
 
-  pub index-none : Index n m C (replicate 15360 0) (replicate 15360 0)
+  pub index-none : Index n m (A .coefs) (replicate 15360 0) (replicate 15360 0)
   index-none = record {
     rows = record {
       some = v .some;
@@ -46,5 +47,5 @@ module _ {n m : ℕ} {B C R : List ℤ} (v : ValidModel (modelOf n m B C R)) whe
     };
   }
 
-  pub watched-none : {seen : List ℤ} → seen ≡ B → Watched n m C R B (replicate 15360 0) (replicate 15360 0) seen (replicate 120 0)
+  pub watched-none : {seen : List ℤ} → seen ≡ B → Watched n m A B (replicate 15360 0) (replicate 15360 0) seen (replicate 120 0)
   watched-none e = record { index = index-none; copied = λ _. e; clean = clean-none 120 }

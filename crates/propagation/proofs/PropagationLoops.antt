@@ -20,12 +20,12 @@ use Rattle.integer.proofs.Parts.{zarith}
 use Rattle.integer.proofs.RangeLaws.{within-fits}
 use Rattle.model.specs.Box.{NonEmpty, at, width}
 use Rattle.model.specs.Limits.{maxCoef, minCoef}
-use Rattle.model.specs.Rows.{rowOf, rowsOf}
+use Rattle.model.specs.Rows.{Rows, rowAt, rowOf}
 use Rattle.model.specs.Valid.{Between, ValidBox, ValidModel}
 use Rattle.model.specs.Model.{modelOf}
 use Rattle.row.specs.Answers.{propagatedRowOf}
 use Rattle.row.specs.Outcome.{isInfeasible}
-use Rattle.row.specs.Propagation.{propagateRow}
+use Rattle.row.specs.Kinds.{propagateRowOf}
 use Rattle.row.specs.ValidRow.{ValidRow}
 use Rattle.row.specs.declared.propagation.RowPropagation.{RowPropagation}
 use Rattle.row.specs.declared.propagation.RowPropagation.the-variants.{Infeasible, Tightened, Unchanged}
@@ -42,113 +42,113 @@ use Rattle.semantics.proofs.PropagateLaws.{moved-at-most, moved-then, pass-ende
 row-end : (r m n : ℕ) → r < m → r * n + n ≤ m * n
 row-end r m n h = omega (arith, mul-le-mul-right n h, suc-mul r n)
 
-module _ {n m : ℕ} {B₀ C R : List ℤ} (v : ValidModel (modelOf n m B₀ C R)) (r : ℕ) (h : r < m) where
-  pub row-fits : r * n + n ≤ length C
+module _ {n m : ℕ} {B₀ : List ℤ} {A : Rows} (v : ValidModel (modelOf n m B₀ A)) (r : ℕ) (h : r < m) where
+  pub row-fits : r * n + n ≤ length (A .coefs)
   row-fits = rw (v .coefsLen) (row-end r m n h)
 
-  pub row-length : length (rowOf n C r) ≡ n
+  pub row-length : length (rowOf n (A .coefs) r) ≡ n
   unfolding rowOf
-  row-length = length-take-le n (drop (r * n) C) (omega (arith, row-fits, length-drop (r * n) C))
+  row-length = length-take-le n (drop (r * n) (A .coefs)) (omega (arith, row-fits, length-drop (r * n) (A .coefs)))
 
-  row-range : (j : ℕ) → Between minCoef maxCoef (at (rowOf n C r) j)
+  row-range : (j : ℕ) → Between minCoef maxCoef (at (rowOf n (A .coefs) r) j)
   unfolding rowOf
-  row-range = getD-all (rowOf n C r) (pos 0) (Between minCoef maxCoef) (record { above = omega zarith; below = omega zarith })
-      (λ j k. rw (getD-take n (drop (r * n) C) j (pos 0) (omega (arith, row-length)), getD-drop (r * n) C j (pos 0)) (v .coefs (r * n + j)))
+  row-range = getD-all (rowOf n (A .coefs) r) (pos 0) (Between minCoef maxCoef) (record { above = omega zarith; below = omega zarith })
+      (λ j k. rw (getD-take n (drop (r * n) (A .coefs)) j (pos 0) (omega (arith, row-length)), getD-drop (r * n) (A .coefs) j (pos 0)) (v .coefs (r * n + j)))
 
-  pub valid-row : {B : List ℤ} → ValidBox n B → ValidRow n (rowOf n C r) (at R r) B
+  pub valid-row : {B : List ℤ} → ValidBox n B → ValidRow n (rowAt n A r .coefs) (rowAt n A r .rhs) B
   valid-row b = record { coefs = record { some = v .some; few = v .few; len = row-length; range = row-range; box = b }; rhs = v .rhs r }
 
-  pub row-in : RowIn n C R r
-  row-in = record { coefs = row-fits; rhs = rw (v .rhsLen) h }
+  pub row-in : RowIn n A r
+  row-in = record { coefs = row-fits; rhs = rw (v .rhsLen) h; kinds = rw (v .kindsLen) h }
 
   -- its right side, as the machine has it
-  pub row-rhs : toZ w32 (ofZ w32 (at R r)) ≡ at R r
+  pub row-rhs : toZ w32 (ofZ w32 (at (A .rhs) r)) ≡ at (A .rhs) r
   row-rhs = toZ-ofZ {w = w32} (within-fits w32 tt (rhs-within (v .rhs r)))
 
 -- ---- one row more of the pass over the box B
 
 -- rows 0 to r − 1 left the box P; `before` bounds moved before the pass, and with those that these rows moved they are `sum`
-pub record PassIs (n r : ℕ) (C R B : List ℤ) (before : ℕ) (over : Bool) (sum : ℕ) (P : List ℤ) : Type 0 where
-  pub ended : passTo n r (rowsOf C R) B .ended ≡ over
-  pub moved : before + passTo n r (rowsOf C R) B .moved ≡ sum
-  pub box : passTo n r (rowsOf C R) B .box ≡ P
+pub record PassIs (n r : ℕ) (A : Rows) (B : List ℤ) (before : ℕ) (over : Bool) (sum : ℕ) (P : List ℤ) : Type 0 where
+  pub ended : passTo n r A B .ended ≡ over
+  pub moved : before + passTo n r A B .moved ≡ sum
+  pub box : passTo n r A B .box ≡ P
 
-pub pass-begins : (n : ℕ) (C R B : List ℤ) (before : ℕ) → PassIs n 0 C R B before false before B
+pub pass-begins : (n : ℕ) (A : Rows) (B : List ℤ) (before : ℕ) → PassIs n 0 A B before false before B
 unfolding passTo
-pass-begins n C R B before = record { ended = refl; moved = omega arith; box = refl }
+pass-begins n A B before = record { ended = refl; moved = omega arith; box = refl }
 
 -- and on it row r answered v and left Q
-module _ (n r : ℕ) (C R B : List ℤ) (before : ℕ) (v : RowPropagation) {sum : ℕ} {P : List ℤ} (Q : List ℤ) (i : PassIs n r C R B before false sum P)
-    (a : propagatedRowOf v Q ≡ propagateRow n (rowOf n C r) (at R r) P) where
-  row-more : passTo n (r + 1) (rowsOf C R) B
-      ≡ record { ended = isInfeasible (propagatedRowOf v Q .outcome); moved = passTo n r (rowsOf C R) B .moved + propagatedRowOf v Q .moved; box = propagatedRowOf v Q .box }
-  row-more = rw a (rw (i .box) at (pass-next n r (rowsOf C R) B (rw (i .ended) tt)))
+module _ (n r : ℕ) (A : Rows) (B : List ℤ) (before : ℕ) (v : RowPropagation) {sum : ℕ} {P : List ℤ} (Q : List ℤ) (i : PassIs n r A B before false sum P)
+    (a : propagatedRowOf v Q ≡ propagateRowOf n (rowAt n A r) P) where
+  row-more : passTo n (r + 1) A B
+      ≡ record { ended = isInfeasible (propagatedRowOf v Q .outcome); moved = passTo n r A B .moved + propagatedRowOf v Q .moved; box = propagatedRowOf v Q .box }
+  row-more = rw a (rw (i .box) at (pass-next n r A B (rw (i .ended) tt)))
 
-  pub row-feasible : {k now : ℕ} → ((v ≡ Tightened k) × (now ≡ sum + k)) ⊎ ((v ≡ Unchanged) × (now ≡ sum)) → PassIs n (r + 1) C R B before false now Q
+  pub row-feasible : {k now : ℕ} → ((v ≡ Tightened k) × (now ≡ sum + k)) ⊎ ((v ≡ Unchanged) × (now ≡ sum)) → PassIs n (r + 1) A B before false now Q
   unfolding propagatedRowOf isInfeasible
   row-feasible (inl w) = let e = rw (w .0) at row-more in record { ended = rw e; moved = rw e (omega (arith, i .moved, w .1)); box = rw e }
   row-feasible (inr w) = let e = rw (w .0) at row-more in record { ended = rw e; moved = rw e (omega (arith, i .moved, w .1)); box = rw e }
 
   -- no later row changes what an infeasible one left
-  pub row-infeasible : (m : ℕ) → r < m → v ≡ Infeasible → PassIs n m C R B before true sum Q
+  pub row-infeasible : (m : ℕ) → r < m → v ≡ Infeasible → PassIs n m A B before true sum Q
   unfolding propagatedRowOf isInfeasible
   row-infeasible m h w =
       let e = rw w at row-more in
-      let f = pass-ended n (r + 1) (rowsOf C R) B m (omega arith) (rw e tt) in
+      let f = pass-ended n (r + 1) A B m (omega arith) (rw e tt) in
       record { ended = rw (f, e); moved = rw (f, e) (omega (arith, i .moved)); box = rw (f, e) }
 
 -- clean rows are passed over
-pub pass-over : {n m : ℕ} {C R : List ℤ} (B : List ℤ) {before sum : ℕ} {P : List ℤ} {marks : List ℕ} (r s : ℕ)
-    → PassIs n r C R B before false sum P → NonEmpty n P → Clean n m C R P marks
+pub pass-over : {n m : ℕ} {A : Rows} (B : List ℤ) {before sum : ℕ} {P : List ℤ} {marks : List ℕ} (r s : ℕ)
+    → PassIs n r A B before false sum P → NonEmpty n P → Clean n m A P marks
     → r ≤ s → s ≤ m → ((i : ℕ) → r ≤ i → i < s → getD marks i 0 ≡ 1)
-    → PassIs n s C R B before false sum P
+    → PassIs n s A B before false sum P
 unfolding propagatedRowOf
 pass-over B r zero e p c h k f = let z : r ≡ 0 = omega arith in rw z at e
-pass-over {n} {m} {C} {R} B {before} {sum} {P} {marks} r (suc s) e p c h k f =
+pass-over {n} {m} {A} B {before} {sum} {P} {marks} r (suc s) e p c h k f =
     go (ℕ-discrete r (suc s)) (λ d. pass-over B r s e p c d (omega arith) (λ i a b. f i a (omega arith)))
   where
-    go : Dec (r ≡ suc s) → (r ≤ s → PassIs n s C R B before false sum P) → PassIs n (suc s) C R B before false sum P
+    go : Dec (r ≡ suc s) → (r ≤ s → PassIs n s A B before false sum P) → PassIs n (suc s) A B before false sum P
     go (yes d) w = rw d at e
     go (no d) w =
         let v = c .same p s (omega arith) (f s (omega arith) (omega arith)) in
-        rw (add-one s) at (row-feasible n s C R B before Unchanged P (w (omega arith)) (sym v) {k = 0} (inr (refl, refl)))
+        rw (add-one s) at (row-feasible n s A B before Unchanged P (w (omega arith)) (sym v) {k = 0} (inr (refl, refl)))
 
 -- ---- the bounds moved are no more than the width that was lost since the box B₀, so their number fits
 
-module _ {n r : ℕ} {C R B : List ℤ} {before sum : ℕ} {Q : List ℤ} (i : PassIs n r C R B before false sum Q) (B₀ : List ℤ)
+module _ {n r : ℕ} {A : Rows} {B : List ℤ} {before sum : ℕ} {Q : List ℤ} (i : PassIs n r A B before false sum Q) (B₀ : List ℤ)
     (w : (pos before +ℤ width n B) ≤ℤ width n B₀) where
   pub pass-width : (pos sum +ℤ width n Q) ≤ℤ width n B₀
-  pass-width = rw (i .moved, i .box) at (moved-then n before _ B₀ B _ w (pass-moved-width n (rowsOf C R) r B (rw (i .ended) tt)))
+  pass-width = rw (i .moved, i .box) at (moved-then n before _ B₀ B _ w (pass-moved-width n A r B (rw (i .ended) tt)))
 
-  pub sum-fits : {m : ℕ} → ValidModel (modelOf n m B₀ C R) → NonEmpty n Q → sum < 2 ^ 32
+  pub sum-fits : {m : ℕ} → ValidModel (modelOf n m B₀ A) → NonEmpty n Q → sum < 2 ^ 32
   unfolding LargestBudget
-  sum-fits {m} v p = let a = moved-at-most n sum B₀ p pass-width in let b = width-limit (modelOf n m B₀ C R) v .0 in omega zarith
+  sum-fits {m} v p = let a = moved-at-most n sum B₀ p pass-width in let b = width-limit (modelOf n m B₀ A) v .0 in omega zarith
 
 -- ---- one pass more, after `made` of `budget` that moved `before` bounds; W is what the whole comes to
 
-module _ (budget made before n m : ℕ) (C R B : List ℤ) {W : Propagated} (h : made < budget)
-    (w : propagateFrom (budget - made) made before n m (rowsOf C R) B ≡ W) where
-  left-one : propagateFrom (suc (budget - (made + 1))) made before n m (rowsOf C R) B ≡ W
+module _ (budget made before n m : ℕ) (A : Rows) (B : List ℤ) {W : Propagated} (h : made < budget)
+    (w : propagateFrom (budget - made) made before n m A B ≡ W) where
+  left-one : propagateFrom (suc (budget - (made + 1))) made before n m A B ≡ W
   left-one = let k : suc (budget - (made + 1)) ≡ budget - made = omega arith in rw k w
 
-  pub pass-infeasible : {sum : ℕ} {Q : List ℤ} → PassIs n m C R B before true sum Q
+  pub pass-infeasible : {sum : ℕ} {Q : List ℤ} → PassIs n m A B before true sum Q
       → W ≡ record { ending = infeasible; passes = made + 1; moved = sum; box = Q }
-  pass-infeasible i = sym left-one ∙ propagate-none-now (budget - (made + 1)) made before n m (rowsOf C R) B (rw (i .ended) tt) ∙ rw (i .moved, i .box, add-one)
+  pass-infeasible i = sym left-one ∙ propagate-none-now (budget - (made + 1)) made before n m A B (rw (i .ended) tt) ∙ rw (i .moved, i .box, add-one)
 
-  pub pass-converged : {Q : List ℤ} → PassIs n m C R B before false before Q
+  pub pass-converged : {Q : List ℤ} → PassIs n m A B before false before Q
       → W ≡ record { ending = converged; passes = made + 1; moved = before; box = Q }
   pass-converged i =
-      let e : passTo n m (rowsOf C R) B .moved ≡ 0 = omega (arith, i .moved) in
-      sym left-one ∙ propagate-converged (budget - (made + 1)) made before n m (rowsOf C R) B (rw (i .ended) tt) e ∙ rw (i .box, add-one)
+      let e : passTo n m A B .moved ≡ 0 = omega (arith, i .moved) in
+      sym left-one ∙ propagate-converged (budget - (made + 1)) made before n m A B (rw (i .ended) tt) e ∙ rw (i .box, add-one)
 
-  pub pass-moved : {sum : ℕ} {Q : List ℤ} → PassIs n m C R B before false sum Q → (sum ≡ before → ⊥)
-      → propagateFrom (budget - (made + 1)) (made + 1) sum n m (rowsOf C R) Q ≡ W
+  pub pass-moved : {sum : ℕ} {Q : List ℤ} → PassIs n m A B before false sum Q → (sum ≡ before → ⊥)
+      → propagateFrom (budget - (made + 1)) (made + 1) sum n m A Q ≡ W
   pass-moved i d =
-      let e : 0 < passTo n m (rowsOf C R) B .moved = omega (arith, i .moved) in
-      sym (sym left-one ∙ propagate-again (budget - (made + 1)) made before n m (rowsOf C R) B (rw (i .ended) tt) e ∙ rw (i .moved, i .box, add-one made))
+      let e : 0 < passTo n m A B .moved = omega (arith, i .moved) in
+      sym (sym left-one ∙ propagate-again (budget - (made + 1)) made before n m A B (rw (i .ended) tt) e ∙ rw (i .moved, i .box, add-one made))
 
-pub budget-spent : (budget made sum n m : ℕ) (C R B : List ℤ) {W : Propagated} → budget ≤ made
-    → propagateFrom (budget - made) made sum n m (rowsOf C R) B ≡ W → W ≡ record { ending = budgetSpent; passes = made; moved = sum; box = B }
-budget-spent budget made sum n m C R B h w =
+pub budget-spent : (budget made sum n m : ℕ) (A : Rows) (B : List ℤ) {W : Propagated} → budget ≤ made
+    → propagateFrom (budget - made) made sum n m A B ≡ W → W ≡ record { ending = budgetSpent; passes = made; moved = sum; box = B }
+budget-spent budget made sum n m A B h w =
     let k : budget - made ≡ 0 = omega arith in
-    sym w ∙ rw (k, propagate-spent made sum n m (rowsOf C R) B)
+    sym w ∙ rw (k, propagate-spent made sum n m A B)

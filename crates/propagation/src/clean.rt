@@ -5,9 +5,8 @@ use row_view::row_moves_at;
 use row_view::row_moves_at_by;
 ghost use mathlib.Core.Path.{_≡_};
 ghost use Prim.Native.Nat.{_<_};
-ghost use Rattle.model.specs.Box.{at};
-ghost use Rattle.model.specs.Rows.{rowOf};
-ghost use Rattle.row.specs.Propagation.{rowMoves};
+ghost use Rattle.model.specs.Rows.{rowAt, rowsOf};
+ghost use Rattle.row.specs.Kinds.{rowMovesOf};
 ghost use Rattle.row.specs.ValidRow.{ValidRow};
 ghost use Rattle.row_view.specs.RowIn.{RowIn};
 ghost use Rattle.propagation.specs.Index.{RowSteps};
@@ -20,21 +19,24 @@ fn test_row(
     bounds: &[i32],
     coefs: &[i32],
     rhs: &[i32],
+    kinds: &[u8],
     r: usize,
     mark: u8,
     across: &mut [u8],
 ) -> bool
-    requires { ⌜ RowIn n (now coefs) (now rhs) r × ValidRow n (rowOf n (now coefs) r) (at (now rhs) r) (now bounds) ⌝ }
+    requires { let A = rowsOf (now coefs) (now rhs) (now kinds) in
+        ⌜ RowIn n A r × ValidRow n (rowAt n A r .coefs) (rowAt n A r .rhs) (now bounds) ⌝ }
     requires { ⌜ RowSteps n m (now coefs) (now across) × (r < m) ⌝ }
     ensures answer { λ b.
-        ⌜ b ≡ rowMoves n (rowOf n (now (coefs .entry)) r) (at (now (rhs .entry)) r) (now (bounds .entry)) ⌝ }
+        let A = rowsOf (now (coefs .entry)) (now (rhs .entry)) (now (kinds .entry)) in
+        ⌜ b ≡ rowMovesOf n (rowAt n A r) (now (bounds .entry)) ⌝ }
     ensures steps { λ _. ⌜ RowSteps n m (now (coefs .entry)) (now (across .exit)) ⌝ }
 {
     if mark == 0 {
-        return row_moves_at(n, coefs, rhs, r, bounds);
+        return row_moves_at(n, coefs, rhs, kinds, r, bounds);
     }
     know_steps(n, m, coefs, r, across);
-    row_moves_at_by(n, coefs, rhs, r, across, bounds)
+    row_moves_at_by(n, coefs, rhs, kinds, r, across, bounds)
 }
 
 // Marks row r clean or dirty.
@@ -44,21 +46,23 @@ fn find_clean_row(
     bounds: &[i32],
     coefs: &[i32],
     rhs: &[i32],
+    kinds: &[u8],
     r: usize,
     across: &mut [u8],
     marks: &mut [u8],
 )
-    requires { ⌜ Testable n m (now bounds) (now coefs) (now rhs) (now across) (now marks) ⌝ }
+    requires { ⌜ Testable n m (now bounds) (rowsOf (now coefs) (now rhs) (now kinds)) (now across) (now marks) ⌝ }
     requires { ⌜ r < m ⌝ }
     ensures clean { λ _.
-        ⌜ Clean n m (now (coefs .entry)) (now (rhs .entry)) (now (bounds .entry)) (now (marks .exit)) ⌝ }
+        let A = rowsOf (now (coefs .entry)) (now (rhs .entry)) (now (kinds .entry)) in
+        ⌜ Clean n m A (now (bounds .entry)) (now (marks .exit)) ⌝ }
     ensures steps { λ _. ⌜ RowSteps n m (now (coefs .entry)) (now (across .exit)) ⌝ }
 {
     let mark = marks[r];
     if mark == 1 {
         return;
     }
-    if test_row(n, m, bounds, coefs, rhs, r, mark, across) {
+    if test_row(n, m, bounds, coefs, rhs, kinds, r, mark, across) {
         marks[r] = 2;
         return;
     }
@@ -72,17 +76,19 @@ pub fn find_clean(
     bounds: &[i32],
     coefs: &[i32],
     rhs: &[i32],
+    kinds: &[u8],
     across: &mut [u8],
     marks: &mut [u8],
 )
-    requires { ⌜ Testable n m (now bounds) (now coefs) (now rhs) (now across) (now marks) ⌝ }
+    requires { ⌜ Testable n m (now bounds) (rowsOf (now coefs) (now rhs) (now kinds)) (now across) (now marks) ⌝ }
     ensures clean { λ _.
-        ⌜ Clean n m (now (coefs .entry)) (now (rhs .entry)) (now (bounds .entry)) (now (marks .exit)) ⌝ }
+        let A = rowsOf (now (coefs .entry)) (now (rhs .entry)) (now (kinds .entry)) in
+        ⌜ Clean n m A (now (bounds .entry)) (now (marks .exit)) ⌝ }
     ensures steps { λ _. ⌜ RowSteps n m (now (coefs .entry)) (now (across .exit)) ⌝ }
 {
     let mut r = 0;
     while r < m {
-        find_clean_row(n, m, bounds, coefs, rhs, r, across, marks);
+        find_clean_row(n, m, bounds, coefs, rhs, kinds, r, across, marks);
         r += 1;
     }
 }

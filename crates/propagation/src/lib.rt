@@ -57,20 +57,24 @@ pub fn propagate_marked(
     bounds: &mut [i32],
     coefs: &[i32],
     rhs: &[i32],
+    kinds: &[u8],
     budget: u32,
     across: &mut [u8],
     signs: &mut [u8],
     seen: &mut [i32],
     marks: &mut [u8],
 ) -> Propagation
-    requires { ⌜ ValidModel (modelOf n m (now bounds) (now coefs) (now rhs)) ⌝ }
-    requires { ⌜ Watched n m (now coefs) (now rhs) (now bounds) (now across) (now signs) (now seen) (now marks) ⌝ }
+    requires { ⌜ ValidModel (modelOf n m (now bounds) (rowsOf (now coefs) (now rhs) (now kinds))) ⌝ }
+    requires { let A = rowsOf (now coefs) (now rhs) (now kinds) in
+        ⌜ Watched n m A (now bounds) (now across) (now signs) (now seen) (now marks) ⌝ }
     requires { ⌜ m ≤ length (now marks) ⌝ }
     ensures answer { λ r.
+        let A = rowsOf (now (coefs .entry)) (now (rhs .entry)) (now (kinds .entry)) in
         ⌜ propagationOf r (now (bounds .exit))
-        ≡ propagated budget n m (rowsOf (now (coefs .entry)) (now (rhs .entry))) (now (bounds .entry)) ⌝ }
+        ≡ propagated budget n m A (now (bounds .entry)) ⌝ }
     ensures watched { λ r.
-        ⌜ Watched n m (now (coefs .entry)) (now (rhs .entry)) (now (bounds .exit)) (now (across .exit))
+        let A = rowsOf (now (coefs .entry)) (now (rhs .entry)) (now (kinds .entry)) in
+        ⌜ Watched n m A (now (bounds .exit)) (now (across .exit))
         (now (signs .exit)) (now (seen .exit)) (now (marks .exit)) ⌝ }
 {
     if model::is_empty(bounds) {
@@ -84,7 +88,19 @@ pub fn propagate_marked(
         let before = tally.moved;
         let mut r = next_row(m, marks, 0);
         'rows: while r < m {
-            match propagate_row_marked(n, m, bounds, coefs, rhs, r, across, signs, seen, marks) {
+            match propagate_row_marked(
+                n,
+                m,
+                bounds,
+                coefs,
+                rhs,
+                kinds,
+                r,
+                across,
+                signs,
+                seen,
+                marks,
+            ) {
                 RowPropagation::Infeasible => {
                     infeasible = true;
                     break 'passes;
@@ -113,12 +129,14 @@ pub fn propagate(
     bounds: &mut [i32],
     coefs: &[i32],
     rhs: &[i32],
+    kinds: &[u8],
     budget: u32,
 ) -> Propagation
-    requires { ⌜ ValidModel (modelOf n m (now bounds) (now coefs) (now rhs)) ⌝ }
+    requires { ⌜ ValidModel (modelOf n m (now bounds) (rowsOf (now coefs) (now rhs) (now kinds))) ⌝ }
     ensures { λ r.
+        let A = rowsOf (now (coefs .entry)) (now (rhs .entry)) (now (kinds .entry)) in
         ⌜ propagationOf r (now (bounds .exit))
-        ≡ propagated budget n m (rowsOf (now (coefs .entry)) (now (rhs .entry))) (now (bounds .entry)) ⌝ }
+        ≡ propagated budget n m A (now (bounds .entry)) ⌝ }
 {
     let len = bounds.len();
     let mut across = [0u8; MAX_MATRIX];
@@ -132,6 +150,7 @@ pub fn propagate(
         bounds,
         coefs,
         rhs,
+        kinds,
         budget,
         &mut across,
         &mut signs,

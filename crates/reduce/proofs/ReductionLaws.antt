@@ -13,7 +13,7 @@ use native.Mathlib.Omega.{arith}
 use Rattle.model.specs.Checks.{first, lengthChecks}
 use Rattle.model.specs.Limits.{maxRows, maxVariables}
 use Rattle.model.proofs.CheckLaws.{first-go, first-none, first-stop, length-test}
-use Rattle.book.specs.Answers.{boundsRead, coefsRead, readCall, readFault, refused, rhsRead, sizesAre, unless}
+use Rattle.book.specs.Answers.{boundsRead, coefsRead, kindsRead, readCall, readFault, refused, rhsRead, sizesAre, unless}
 use Rattle.book.specs.Book.{decode, modelIn, rows, trailerOf, variables}
 use Rattle.book.specs.BookChecks.{bookChecks, bookFault, headChecks, modelNumberChecks, readChecks}
 use Rattle.book.proofs.AcceptLaws.{head-numbered}
@@ -24,6 +24,7 @@ use Rattle.intake.proofs.CheckLaws.{accepted}
 use Rattle.report.specs.Report.{refusedLine}
 use Rattle.model.specs.State.{stateOf}
 use Rattle.model.specs.Model.{modelOf}
+use Rattle.model.specs.Rows.{Rows, rowsOf}
 use Rattle.reduce.specs.Answers.{Ready, RefusedSoFar, Sized}
 use Rattle.reduce.specs.Output.{output, roundsText, stateRead, zeros}
 
@@ -42,51 +43,53 @@ sized-head : (bs : List ℕ) {n m : ℕ} → first (headChecks bs) ≡ 0 → var
 unfolding decode modelIn
 sized-head bs z v w = record { head = z; variables = sym v; rows = sym w }
 
-module _ {n m : ℕ} {bs : List ℕ} {B C R : List ℤ} {t : List ℕ} (h : Ready n m bs B C R t) where
+module _ {n m : ℕ} {bs : List ℕ} {B : List ℤ} {A : Rows} {t : List ℕ} (h : Ready n m bs B A t) where
   -- the lengths pass check 5
-  lengths-pass : first (lengthChecks (modelOf (decode bs .n) (decode bs .m) B C R)) ≡ 0
+  lengths-pass : first (lengthChecks (modelOf (decode bs .n) (decode bs .m) B A)) ≡ 0
   unfolding lengthChecks
   lengths-pass =
       let s = h .sized in
       let l = h .lengths in
-      rw (← s .variables, ← s .rows) (first-none (lengthChecks (modelOf n m B C R)) tt .1 (length-test (modelOf n m B C R) .1 (l .box, l .coefs, l .rhs), tt))
+      rw (← s .variables, ← s .rows) (first-none (lengthChecks (modelOf n m B A)) tt .1 (length-test (modelOf n m B A) .1 (l .box, l .coefs, l .rhs, h .kinds), tt))
 
-  read-fault : readFault bs B C R ≡ bookFault bs
+  read-fault : readFault bs B A ≡ bookFault bs
   unfolding readFault bookFault readChecks bookChecks lengthChecks
   read-fault =
       let head = h .sized .head in
-      let lengths = lengthChecks (modelOf (decode bs .n) (decode bs .m) B C R) in
+      let lengths = lengthChecks (modelOf (decode bs .n) (decode bs .m) B A) in
       let numbers = modelNumberChecks (decode bs) in
       first-go (headChecks bs) (lengths ++ numbers) (head-numbered bs) head
       ∙ first-go lengths numbers tt lengths-pass
       ∙ sym (first-go (headChecks bs) numbers (head-numbered bs) head)
 
   -- reading is refused: so is the book
-  pub refused-output : (number : ℕ) → refused number ≡ readCall bs B C R → refusedLine number ≡ output bs
+  pub refused-output : (number : ℕ) → refused number ≡ readCall bs B A → refusedLine number ≡ output bs
   unfolding readCall output
   refused-output number e =
-      let r = refused-fault (readFault bs B C R) number _ _ e in
+      let r = refused-fault (readFault bs B A) number _ _ e in
       let k : bookFault bs ≡ 0 → ⊥ = λ z. r .1 (read-fault ∙ z) in
       rw (ne-eqb (bookFault bs) 0 k) (ap refusedLine (r .0 ∙ read-fault))
 
   -- reading is accepted: so is the book, and what is read is its model
-  module _ (p q : ℕ) (e : sizesAre p q ≡ readCall bs B C R) where
-    passed : readFault bs B C R ≡ 0
+  module _ (p q : ℕ) (e : sizesAre p q ≡ readCall bs B A) where
+    passed : readFault bs B A ≡ 0
     unfolding readCall
-    passed = accepted (readFault bs B C R) _ _ p q (sym e) .0
+    passed = accepted (readFault bs B A) _ _ p q (sym e) .0
 
     pub accepted-output : output bs ≡ roundsText (stateRead bs)
     unfolding output
     accepted-output = rw (eq-eqb (bookFault bs) 0 (sym read-fault ∙ passed))
 
-    pub accepted-state : {B′ C′ R′ : List ℤ} → B′ ≡ boundsRead bs B C R → C′ ≡ coefsRead bs B C R → R′ ≡ rhsRead bs B C R
-        → stateOf n m B′ C′ R′ t ≡ stateRead bs
-    unfolding stateRead stateOf boundsRead coefsRead rhsRead
-    accepted-state b c r =
+    pub accepted-state : {B′ C′ R′ : List ℤ} {K′ : List ℕ}
+        → B′ ≡ boundsRead bs B A → C′ ≡ coefsRead bs B A → R′ ≡ rhsRead bs B A → K′ ≡ kindsRead bs B A
+        → stateOf n m B′ (rowsOf C′ R′ K′) t ≡ stateRead bs
+    unfolding stateRead stateOf boundsRead coefsRead rhsRead kindsRead
+    accepted-state b c r k =
         let b′ = b ∙ sym (becomes passed B (decode bs .box)) in
-        let c′ = c ∙ sym (becomes passed C (decode bs .rows .coefs)) in
-        let r′ = r ∙ sym (becomes passed R (decode bs .rows .rhs)) in
-        rw (b′, c′, r′, h .table, h .sized .variables, h .sized .rows)
+        let c′ = c ∙ sym (becomes passed (A .coefs) (decode bs .rows .coefs)) in
+        let r′ = r ∙ sym (becomes passed (A .rhs) (decode bs .rows .rhs)) in
+        let k′ = k ∙ sym (becomes passed (A .kinds) (decode bs .rows .kinds)) in
+        rw (b′, c′, r′, k′, h .table, h .sized .variables, h .sized .rows)
 
 -- an input that is refused by its last 16 bytes and its length: so is the book
 pub head-output : (bs : List ℕ) (number : ℕ) → refused number ≡ headCall bs → refusedLine number ≡ output bs
@@ -134,9 +137,10 @@ module _ {n m : ℕ} (few : n ≤ maxVariables) (fewRows : m ≤ maxRows) where
   pub table-fits : 4 * (n * n) ≤ 65_536
   table-fits = omega (arith, mul-le-mul-right n few)
 
-  pub parts-ready : {bs : List ℕ} (B C R : List ℤ) {t : List ℕ} → Sized n m bs → 256 ≡ length B → 15_360 ≡ length C → 120 ≡ length R → t ≡ zeros 65_536
-      → Ready n m bs (take (2 * n) B) (take (m * n) C) (take m R) (take (4 * (n * n)) t)
-  parts-ready B C R s b c r e =
+  pub parts-ready : {bs : List ℕ} (B C R : List ℤ) (K : List ℕ) {t : List ℕ} → Sized n m bs
+      → 256 ≡ length B → 15_360 ≡ length C → 120 ≡ length R → 120 ≡ length K → t ≡ zeros 65_536
+      → Ready n m bs (take (2 * n) B) (rowsOf (take (m * n) C) (take m R) (take m K)) (take (4 * (n * n)) t)
+  parts-ready B C R K s b c r k e =
       let z : take (4 * (n * n)) _ ≡ zeros (4 * (n * n)) = ap (take (4 * (n * n))) e ∙ take-zeros (4 * (n * n)) 65_536 table-fits in
       record {
         sized = s;
@@ -148,5 +152,6 @@ module _ {n m : ℕ} (few : n ≤ maxVariables) (fewRows : m ≤ maxRows) where
           rhs = length-take-le _ _ (omega arith);
           table = ap length z ∙ length-zeros (4 * (n * n));
         };
+        kinds = length-take-le _ _ (omega arith);
         table = z;
       }

@@ -7,7 +7,8 @@ use Rattle.integer.specs.Index.{all, sum}
 use Rattle.integer.specs.Order.{eqZ, maxZ, minZ}
 use Rattle.model.specs.Box.{boxOf, emptyBox, isEmpty, isFree, sameList}
 use Rattle.model.specs.Checks.{bits, boxChecks, first, inRange, lengthChecks, modelChecks, modelFault, narrow, numberChecks, ordered, sizeChecks, tableByteChecks, tableLengthChecks}
-use Rattle.model.specs.Rows.{rowOf, setRow, splice}
+use Rattle.model.specs.Rows.{isEquality, negated, negatedCoefs, rowOf, setRow, splice}
+use Rattle.row.specs.Kinds.{andThen as bothForms, propagateRowOf, removeRowOf, tightenRowOf}
 use Rattle.row.specs.Activity.{maxActivity, maxTerm, minActivity, minTerm}
 use Rattle.row.specs.Moved.{differs, movedBounds}
 use Rattle.row.specs.Outcome.{isChanged, isInfeasible}
@@ -21,7 +22,7 @@ use Rattle.semantics.specs.Propagate.{isNone, isSpent, passRow, passTo, propaga
 use Rattle.semantics.specs.Run.{answersNone, classOf, isRefused, probeInfeasible, run, sameBytes, sameState, step}
 use Rattle.semantics.specs.Call.{callOf, hasBudget, hasRow, hasTable, hasVariable, isUnknown, kindOf, lengthsOf}
 use Rattle.model.specs.State.{stateOf, withBox, withRow}
-use Rattle.book.specs.Book.{bookLength, boundsOf, coefsOf, decode, modelIn, rhsOf, rowPlace, trailerOf}
+use Rattle.book.specs.Book.{bookLength, boundsOf, coefsOf, decode, kindsOf, modelIn, rhsOf, rowPlace, trailerOf}
 use Rattle.book.specs.BookChecks.{bookChecks, bookFault, givenLengthChecks, headChecks, layoutChecks, offsetChecks}
 use Rattle.book.specs.Bytes.{integerAt, integersAt, numberAt, numberOf, signedOf}
 use Rattle.book.specs.Pieces.{joined}
@@ -51,5 +52,5 @@ example-output : output book ≡
     ∷ 105 ∷ 32 ∷ 48 ∷ 32 ∷ 49 ∷ 32 ∷ 49 ∷ 32 ∷ 48 ∷ 10
     ∷ 105 ∷ 32 ∷ 49 ∷ 32 ∷ 49 ∷ 32 ∷ 48 ∷ 32 ∷ 48 ∷ 10
     ∷ []
-unfolding movedBounds differs book output roundsText stateRead textOf zeros floorDiv ceilDiv sum all minZ maxZ eqZ boxOf sameList emptyBox isEmpty isFree first inRange ordered bits sizeChecks lengthChecks tableLengthChecks boxChecks narrow numberChecks tableByteChecks modelChecks modelFault rowOf minTerm maxTerm minActivity maxActivity isInfeasible isChanged newUpper newLower impliedBox stays propagateRow zeroRow removeRedundantRow tightenAt tightenCoefficient lentTable givenModel isLent recordChecks callChecks callFault act perform fix hull literal byteOf put implies isFixed recordSide recordTo sideOf joinSides probe passRow passTo propagateFrom propagate isNone isSpent step run probeInfeasible answersNone isRefused sameBytes sameState classOf lengthsOf kindOf hasRow hasVariable hasBudget hasTable isUnknown stateOf callOf withBox splice withRow setRow bookLength rowPlace trailerOf boundsOf rhsOf coefsOf modelIn decode offsetChecks layoutChecks givenLengthChecks headChecks bookChecks bookFault numberOf signedOf numberAt integerAt integersAt joined andThen upwards unlessEmpty probeCall probes round isChange anyChange after roundsFrom roundsFault runRounds field fields refusedLine noneLine reducedLine variableLine rowLine implicationLine variableAt isZeroRow rowAt byteLine implicationAt report digits decimal signed texts propagateCall removeCall tightenCall removals tightenRow tightenings
+unfolding movedBounds differs book output roundsText stateRead textOf zeros floorDiv ceilDiv sum all minZ maxZ eqZ boxOf sameList emptyBox isEmpty isFree first inRange ordered bits sizeChecks lengthChecks tableLengthChecks boxChecks narrow numberChecks tableByteChecks modelChecks modelFault rowOf minTerm maxTerm minActivity maxActivity isInfeasible isChanged newUpper newLower impliedBox stays propagateRow zeroRow removeRedundantRow tightenAt tightenCoefficient lentTable givenModel isLent recordChecks callChecks callFault act perform fix hull literal byteOf put implies isFixed recordSide recordTo sideOf joinSides probe passRow passTo propagateFrom propagate isNone isSpent step run probeInfeasible answersNone isRefused sameBytes sameState classOf lengthsOf kindOf hasRow hasVariable hasBudget hasTable isUnknown stateOf callOf withBox splice withRow setRow bookLength rowPlace trailerOf boundsOf rhsOf coefsOf modelIn decode offsetChecks layoutChecks givenLengthChecks headChecks bookChecks bookFault numberOf signedOf numberAt integerAt integersAt joined andThen upwards unlessEmpty probeCall probes round isChange anyChange after roundsFrom roundsFault runRounds field fields refusedLine noneLine reducedLine variableLine rowLine implicationLine variableAt isZeroRow rowAt byteLine implicationAt report digits decimal signed texts propagateCall removeCall tightenCall removals tightenRow tightenings isEquality negated negatedCoefs bothForms propagateRowOf removeRowOf tightenRowOf kindsOf
 example-output = refl

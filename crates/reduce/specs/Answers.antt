@@ -1,9 +1,11 @@
 -- What the enums of the program stand for, and what its parts hand on to each other.
 use Prim.Native.Nat.{_*_, ℕ}
 use lib.IntN.{ℤ}
+use lib.ListN.{length}
 use mathlib.Core.List.{List, _++_}
 use mathlib.Core.Path.{_≡_}
 use Rattle.model.specs.Checks.{first}
+use Rattle.model.specs.Rows.{Rows}
 use Rattle.book.specs.Book.{decode}
 use Rattle.book.specs.BookChecks.{headChecks}
 use Rattle.book.specs.Bytes.{Bytes}
@@ -41,8 +43,9 @@ pub record Sized (n m : ℕ) (bs : List ℕ) : Type 0 where
   pub variables : n ≡ decode bs .n
   pub rows : m ≡ decode bs .m
 
--- buffers as the book needs them, and a table all 0
-pub record Ready (n m : ℕ) (bs : List ℕ) (B C R : List ℤ) (t : List ℕ) : Type 0 where
+-- buffers as the book needs them, and a table all 0; A is what the buffers of the rows hold
+pub record Ready (n m : ℕ) (bs : List ℕ) (B : List ℤ) (A : Rows) (t : List ℕ) : Type 0 where
   pub sized : Sized n m bs
-  pub lengths : Printable n m B C R t
+  pub lengths : Printable n m B (A .coefs) (A .rhs) t
+  pub kinds : length (A .kinds) ≡ m
   pub table : t ≡ zeros (4 * (n * n))

@@ -1,4 +1,5 @@
 -- What `reduce` prints for an input, as a text (01, "Book"): "It prints `refused N`, or `none`, or: `reduced n m rounds`; .."
+-- No kind is printed: a first-edition book has none.
 use Prim.Native.Nat.{_*_, ℕ}
 use lib.Dec.{eqb}
 use lib.ListN.{replicate}
@@ -14,7 +15,7 @@ use Rattle.rounds.specs.Rounds.{RoundsAnswer, atLimit, ended, infeasible, nothi
 unfoldable pub zeros : ℕ → List ℕ
 zeros k = replicate k 0
 
--- the model of a book, with a table all 0 (D-13)
+-- the model of a book, whose kinds are all 0 (`kindsOf`), with a table all 0 (D-13)
 unfoldable pub stateRead : List ℕ → State
 stateRead bs = let M = decode bs in record { model = M; table = zeros (4 * (M .n * M .n)) }
 

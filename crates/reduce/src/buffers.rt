@@ -30,6 +30,12 @@ pub fn most_rhs() -> [i32; 120]
     [0; 120]
 }
 
+pub fn most_kinds() -> [u8; 120]
+    ensures { λ r. ⌜ 120 ≡ length r ⌝ }
+{
+    [0; 120]
+}
+
 pub fn largest_table() -> [u8; 65536]
     ensures { λ r. ⌜ r ≡ zeros 65_536 ⌝ }
 {

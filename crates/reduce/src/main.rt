@@ -13,6 +13,7 @@ use buffers::largest_table;
 use buffers::longest_book;
 use buffers::most_bounds;
 use buffers::most_coefs;
+use buffers::most_kinds;
 use buffers::most_rhs;
 use input::Input;
 use reduction::Answer;
@@ -23,6 +24,7 @@ ghost use mathlib.Core.List.{List};
 ghost use Prim.Native.Nat.{ℕ, _≤_};
 ghost use lib.ListN.{length};
 ghost use Rattle.model.specs.Limits.{maxRows, maxVariables};
+ghost use Rattle.model.specs.Rows.{rowsOf};
 ghost use Rattle.intake.specs.Checks.{maxBook};
 ghost use Rattle.intake.specs.Intake.{Held};
 ghost use Rattle.reduce.specs.Answers.{Ready, Sized};
@@ -68,6 +70,7 @@ fn reduce(n: usize, m: usize, book: &[u8], printed: &mut usize) -> bool
     let mut bounds = most_bounds();
     let mut coefs = most_coefs();
     let mut rhs = most_rhs();
+    let mut kinds = most_kinds();
     let mut table = largest_table();
     let bounds_len = 2 * n;
     let coefs_len = m * n;
@@ -79,6 +82,7 @@ fn reduce(n: usize, m: usize, book: &[u8], printed: &mut usize) -> bool
         &mut bounds[..bounds_len],
         &mut coefs[..coefs_len],
         &mut rhs[..m],
+        &mut kinds[..m],
         &mut table[..table_len],
         printed,
     )
@@ -91,14 +95,15 @@ fn reduce_in(
     bounds: &mut [i32],
     coefs: &mut [i32],
     rhs: &mut [i32],
+    kinds: &mut [u8],
     table: &mut [u8],
     printed: &mut usize,
 ) -> bool
-    requires { ⌜ Ready n m (now book) (now bounds) (now coefs) (now rhs) (now table) ⌝ }
+    requires { ⌜ Ready n m (now book) (now bounds) (rowsOf (now coefs) (now rhs) (now kinds)) (now table) ⌝ }
     requires { ⌜ now printed ≡ 0 ⌝ }
     ensures { λ r. ⌜ (r ≡ true → now (printed .exit) ≡ length (printedText (now (book .entry)))) ⌝ }
 {
-    match solve(n, m, book, bounds, coefs, rhs, table) {
+    match solve(n, m, book, bounds, coefs, rhs, kinds, table) {
         Answer::Refused(number) => output::refused(number, printed),
         Answer::Infeasible => output::none(printed),
         Answer::Reduced(made) => output::reduced(n, m, made, bounds, coefs, rhs, table, printed),

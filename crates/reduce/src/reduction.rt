@@ -3,6 +3,7 @@ use book::SizesAnswer;
 use book::reading::read;
 use rounds::RoundsAnswer;
 ghost use mathlib.Core.Path.{_≡_};
+ghost use Rattle.model.specs.Rows.{rowsOf};
 ghost use Rattle.model.specs.State.{State};
 ghost use Rattle.rounds.specs.Answers.{roundsAnswer};
 ghost use Rattle.reduce.specs.Answers.{Ready, answerText};
@@ -43,16 +44,17 @@ pub fn solve(
     bounds: &mut [i32],
     coefs: &mut [i32],
     rhs: &mut [i32],
+    kinds: &mut [u8],
     table: &mut [u8],
 ) -> Answer
-    requires { ⌜ Ready n m (now book) (now bounds) (now coefs) (now rhs) (now table) ⌝ }
+    requires { ⌜ Ready n m (now book) (now bounds) (rowsOf (now coefs) (now rhs) (now kinds)) (now table) ⌝ }
     ensures text { λ r.
         ⌜ answerText r n m (now (bounds .exit)) (now (coefs .exit)) (now (rhs .exit)) (now (table .exit)) ≡
         output (now (book .entry)) ⌝ }
     ensures meaning { λ r. ⌜ OutputMeans (now (book .entry)) ⌝ }
 {
-    if let SizesAnswer::Refused(number) = read(book, bounds, coefs, rhs) {
+    if let SizesAnswer::Refused(number) = read(book, bounds, coefs, rhs, kinds) {
         return Answer::Refused(number);
     }
-    answer_of(rounds::run(n, m, bounds, coefs, rhs, table, ROUNDS))
+    answer_of(rounds::run(n, m, bounds, coefs, rhs, kinds, table, ROUNDS))
 }

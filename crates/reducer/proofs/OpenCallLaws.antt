@@ -8,14 +8,13 @@ use mathlib.Core.List.{List, []}
 use mathlib.Core.Logic.{_↔_, ⊎-elim}
 use mathlib.Core.Path.{_∙_, _≡_, ap, refl, subst, sym}
 use Rattle.integer.proofs.Tests.{T→false, decide, eqb-test, test-false, test-true}
-use Rattle.model.specs.Box.{at}
 use Rattle.model.specs.Checks.{first, none}
-use Rattle.model.specs.Rows.{Rows, rowOf, rowsOf, setRow}
+use Rattle.model.specs.Rows.{Rows, rowAt, setRow}
 use Rattle.model.specs.Valid.{ValidModel}
 use Rattle.model.proofs.CheckLaws.{fault-none}
 use Rattle.row.specs.Outcome.{Outcome}
-use Rattle.row.specs.Propagation.{PropagatedRow, propagateRow}
-use Rattle.row.specs.Tightening.{NewRow, rowLeft}
+use Rattle.row.specs.Kinds.{ChangedRow, propagateRowOf}
+use Rattle.row.specs.Propagation.{PropagatedRow}
 use Rattle.semantics.specs.CallList.{ListRun, runList}
 use Rattle.semantics.specs.CallChecks.{callFault, lentTable, recordChecks}
 use Rattle.semantics.specs.Convergence.{RestIsTested}
@@ -67,44 +66,44 @@ unfolding perform performed
 perform-refused s c e n = rw (e, test-false (eqb (callFault s c) 0) (eqb-test (callFault s c) 0) (λ z. n (e ∙ z)))
 
 -- an accepted call with a row
-pub on-row : (n m : ℕ) (B C R : List ℤ) (kind row variable : ℕ) → T (hasRow (kindOf kind))
-    → callFault (stateOf n m B C R []) (callOf (stateOf n m B C R []) kind row variable 0) ≡ 0 → ValidModel (modelOf n m B C R) × (row < m)
+pub on-row : (n m : ℕ) (B : List ℤ) (A : Rows) (kind row variable : ℕ) → T (hasRow (kindOf kind))
+    → callFault (stateOf n m B A []) (callOf (stateOf n m B A []) kind row variable 0) ≡ 0 → ValidModel (modelOf n m B A) × (row < m)
 unfolding stateOf callOf
-on-row n m B C R kind row variable t e =
-    let a = accepted (stateOf n m B C R []) (callOf (stateOf n m B C R []) kind row variable 0) e in (a .model, a .row t)
+on-row n m B A kind row variable t e =
+    let a = accepted (stateOf n m B A []) (callOf (stateOf n m B A []) kind row variable 0) e in (a .model, a .row t)
 
--- what a call c that may change its row performs: p is what its rule says of the row, and D and S are the rows with it
-module _ (n m : ℕ) (B C R : List ℤ) (row : ℕ) (p : NewRow) (F : Outcome → Answer) (c : Call) {x : Answer} {o : Outcome} {D S : List ℤ} where
-  pub row-changed : let s = stateOf n m B C R [] in
-      act (kindOf (c .kind)) s c ≡ record { answer = F (p .outcome); state = withRow s row (rowLeft p) }
-      → callFault s c ≡ 0 → x ≡ F o → (o ≡ p .outcome) × (rowsOf D S ≡ setRow n (rowsOf C R) row (rowLeft p))
-      → performed x (stateOf n m B D S []) ≡ perform s c
+-- what a call c that may change its row performs: p is what its rule says of the row, and A′ are the rows with it
+module _ (n m : ℕ) (B : List ℤ) (A : Rows) (row : ℕ) (p : ChangedRow) (F : Outcome → Answer) (c : Call) {x : Answer} {o : Outcome} {A′ : Rows} where
+  pub row-changed : let s = stateOf n m B A [] in
+      act (kindOf (c .kind)) s c ≡ record { answer = F (p .outcome); state = withRow s row (p .row) }
+      → callFault s c ≡ 0 → x ≡ F o → (o ≡ p .outcome) × (A′ ≡ setRow n A row (p .row))
+      → performed x (stateOf n m B A′ []) ≡ perform s c
   unfolding stateOf performed withRow
   row-changed k f e h =
-      sym (perform-accepted (stateOf n m B C R []) c f ∙ k ∙ rw (e, h .0) (ap (λ (A : Rows). record {
+      sym (perform-accepted (stateOf n m B A []) c f ∙ k ∙ rw (e, h .0) (ap (λ (X : Rows). record {
         answer = F (p .outcome);
-        state = record { model = record { n = n; m = m; box = B; rows = A }; table = [] };
+        state = record { model = record { n = n; m = m; box = B; rows = X }; table = [] };
       }) (sym (h .1))))
 
 -- the same of a visit, a settle and a probe: w is what the row's or the rows' propagation, or the probing, came to
-pub row-propagated : (n m : ℕ) (B C R : List ℤ) (row : ℕ) → let s = stateOf n m B C R [] in
-    callFault s (callOf s 1 row 0 0) ≡ 0 → (w : PropagatedRow) → w ≡ propagateRow n (rowOf n C row) (at R row) B
-    → performed (propagatedRow (w .outcome) (w .moved)) (stateOf n m (w .box) C R []) ≡ perform s (callOf s 1 row 0 0)
+pub row-propagated : (n m : ℕ) (B : List ℤ) (A : Rows) (row : ℕ) → let s = stateOf n m B A [] in
+    callFault s (callOf s 1 row 0 0) ≡ 0 → (w : PropagatedRow) → w ≡ propagateRowOf n (rowAt n A row) B
+    → performed (propagatedRow (w .outcome) (w .moved)) (stateOf n m (w .box) A []) ≡ perform s (callOf s 1 row 0 0)
 unfolding stateOf callOf performed act kindOf withBox
-row-propagated n m B C R row f w h = let s = stateOf n m B C R [] in sym (perform-accepted s (callOf s 1 row 0 0) f ∙ rw h)
+row-propagated n m B A row f w h = let s = stateOf n m B A [] in sym (perform-accepted s (callOf s 1 row 0 0) f ∙ rw h)
 
-module _ (n m : ℕ) (B C R : List ℤ) (budget : ℕ) where
-  pub rows-propagated : let s = stateOf n m B C R [] in
-      callFault s (callOf s 2 0 0 budget) ≡ 0 → (w : Propagated) → w ≡ propagate budget n m (rowsOf C R) B
-      → performed (propagated (w .ending) (w .passes) (w .moved)) (stateOf n m (w .box) C R []) ≡ perform s (callOf s 2 0 0 budget)
+module _ (n m : ℕ) (B : List ℤ) (A : Rows) (budget : ℕ) where
+  pub rows-propagated : let s = stateOf n m B A [] in
+      callFault s (callOf s 2 0 0 budget) ≡ 0 → (w : Propagated) → w ≡ propagate budget n m A B
+      → performed (propagated (w .ending) (w .passes) (w .moved)) (stateOf n m (w .box) A []) ≡ perform s (callOf s 2 0 0 budget)
   unfolding stateOf callOf performed act kindOf withBox
-  rows-propagated f w h = let s = stateOf n m B C R [] in sym (perform-accepted s (callOf s 2 0 0 budget) f ∙ rw h)
+  rows-propagated f w h = let s = stateOf n m B A [] in sym (perform-accepted s (callOf s 2 0 0 budget) f ∙ rw h)
 
-  pub variable-probed : (t : List ℕ) (variable : ℕ) → let s = stateOf n m B C R t in
-      callFault s (callOf s 3 0 variable budget) ≡ 0 → (w : Probed) → w ≡ probe variable budget n m (rowsOf C R) B t
-      → performed (probed (w .ending) (w .side0) (w .side1)) (stateOf n m (w .box) C R (w .table)) ≡ perform s (callOf s 3 0 variable budget)
+  pub variable-probed : (t : List ℕ) (variable : ℕ) → let s = stateOf n m B A t in
+      callFault s (callOf s 3 0 variable budget) ≡ 0 → (w : Probed) → w ≡ probe variable budget n m A B t
+      → performed (probed (w .ending) (w .side0) (w .side1)) (stateOf n m (w .box) A (w .table)) ≡ perform s (callOf s 3 0 variable budget)
   unfolding stateOf callOf performed act kindOf withBox
-  variable-probed t variable f w h = let s = stateOf n m B C R t in sym (perform-accepted s (callOf s 3 0 variable budget) f ∙ rw h)
+  variable-probed t variable f w h = let s = stateOf n m B A t in sym (perform-accepted s (callOf s 3 0 variable budget) f ∙ rw h)
 
 -- ---- what its answer means, refused or not
 

@@ -27,6 +27,7 @@ ghost use Rattle.semantics.specs.Perform.{perform};
 ghost use Rattle.semantics.specs.Points.{AtRest};
 ghost use Rattle.semantics.specs.RestTest.{restFault};
 ghost use Rattle.semantics.specs.Call.{callOf};
+ghost use Rattle.model.specs.Rows.{rowsOf};
 ghost use Rattle.model.specs.State.{stateOf};
 ghost use Rattle.reducer.specs.OpenCalls.{Ends, Means, atRest, performed, probeAnswer, propagateAnswer};
 ghost use Rattle.reducer.specs.OpenCalls.{removeAnswer, rest, restVerdict, rowAnswer, tightenAnswer};
@@ -86,15 +87,18 @@ pub fn propagate_row(
     bounds: &mut [i32],
     coefs: &[i32],
     rhs: &[i32],
+    kinds: &[u8],
     row: u32,
 ) -> PropagateRowAnswer
     ensures defined { λ r.
-        let s = stateOf n m (now (bounds .entry)) (now (coefs .entry)) (now (rhs .entry)) [] in
-        let r' = stateOf n m (now (bounds .exit)) (now (coefs .entry)) (now (rhs .entry)) [] in
+        let A = rowsOf (now (coefs .entry)) (now (rhs .entry)) (now (kinds .entry)) in
+        let s = stateOf n m (now (bounds .entry)) A [] in
+        let r' = stateOf n m (now (bounds .exit)) A [] in
         ⌜ performed (rowAnswer r) r' ≡ perform s (callOf s 1 row 0 0) ⌝ }
     ensures meaning { λ r.
-        let s = stateOf n m (now (bounds .entry)) (now (coefs .entry)) (now (rhs .entry)) [] in
-        let r' = stateOf n m (now (bounds .exit)) (now (coefs .entry)) (now (rhs .entry)) [] in
+        let A = rowsOf (now (coefs .entry)) (now (rhs .entry)) (now (kinds .entry)) in
+        let s = stateOf n m (now (bounds .entry)) A [] in
+        let r' = stateOf n m (now (bounds .exit)) A [] in
         ⌜ Means s r' (rowAnswer r) ⌝ }
 {
     let call = Call {
@@ -103,11 +107,11 @@ pub fn propagate_row(
         variable: 0,
         budget: 0,
     };
-    let fault = call_fault(n, m, bounds, coefs, rhs, call);
+    let fault = call_fault(n, m, bounds, coefs, rhs, kinds, call);
     if fault != 0 {
         return PropagateRowAnswer::Refused(fault);
     }
-    match propagate_row_at(n, coefs, rhs, row as usize, bounds) {
+    match propagate_row_at(n, coefs, rhs, kinds, row as usize, bounds) {
         RowPropagation::Infeasible => PropagateRowAnswer::Infeasible,
         RowPropagation::Tightened(moved) => PropagateRowAnswer::Tightened(moved),
         RowPropagation::Unchanged => PropagateRowAnswer::Unchanged,
@@ -121,18 +125,22 @@ pub fn propagate(
     bounds: &mut [i32],
     coefs: &[i32],
     rhs: &[i32],
+    kinds: &[u8],
     budget: u32,
 ) -> PropagateAnswer
     ensures defined { λ r.
-        let s = stateOf n m (now (bounds .entry)) (now (coefs .entry)) (now (rhs .entry)) [] in
-        let r' = stateOf n m (now (bounds .exit)) (now (coefs .entry)) (now (rhs .entry)) [] in
+        let A = rowsOf (now (coefs .entry)) (now (rhs .entry)) (now (kinds .entry)) in
+        let s = stateOf n m (now (bounds .entry)) A [] in
+        let r' = stateOf n m (now (bounds .exit)) A [] in
         ⌜ performed (propagateAnswer r) r' ≡ perform s (callOf s 2 0 0 budget) ⌝ }
     ensures meaning { λ r.
-        let s = stateOf n m (now (bounds .entry)) (now (coefs .entry)) (now (rhs .entry)) [] in
-        let r' = stateOf n m (now (bounds .exit)) (now (coefs .entry)) (now (rhs .entry)) [] in
+        let A = rowsOf (now (coefs .entry)) (now (rhs .entry)) (now (kinds .entry)) in
+        let s = stateOf n m (now (bounds .entry)) A [] in
+        let r' = stateOf n m (now (bounds .exit)) A [] in
         ⌜ Means s r' (propagateAnswer r) ⌝ }
     ensures ending { λ r.
-        let s = stateOf n m (now (bounds .entry)) (now (coefs .entry)) (now (rhs .entry)) [] in
+        let A = rowsOf (now (coefs .entry)) (now (rhs .entry)) (now (kinds .entry)) in
+        let s = stateOf n m (now (bounds .entry)) A [] in
         ⌜ Ends budget s (propagateAnswer r) ⌝ }
 {
     let call = Call {
@@ -141,11 +149,11 @@ pub fn propagate(
         variable: 0,
         budget,
     };
-    let fault = call_fault(n, m, bounds, coefs, rhs, call);
+    let fault = call_fault(n, m, bounds, coefs, rhs, kinds, call);
     if fault != 0 {
         return PropagateAnswer::Refused(fault);
     }
-    match propagation::propagate(n, m, bounds, coefs, rhs, budget) {
+    match propagation::propagate(n, m, bounds, coefs, rhs, kinds, budget) {
         Propagation::Infeasible(passes, moved) => PropagateAnswer::Infeasible(passes, moved),
         Propagation::Converged(passes, moved) => PropagateAnswer::Converged(passes, moved),
         Propagation::BudgetSpent(passes, moved) => PropagateAnswer::BudgetSpent(passes, moved),
@@ -160,27 +168,41 @@ pub fn probe(
     bounds: &mut [i32],
     coefs: &[i32],
     rhs: &[i32],
+    kinds: &[u8],
     table: &mut [u8],
     variable: u32,
     budget: u32,
 ) -> ProbeAnswer
     ensures defined { λ r.
-        let s = stateOf n m (now (bounds .entry)) (now (coefs .entry)) (now (rhs .entry)) (now (table .entry)) in
-        let r' = stateOf n m (now (bounds .exit)) (now (coefs .entry)) (now (rhs .entry)) (now (table .exit)) in
+        let A = rowsOf (now (coefs .entry)) (now (rhs .entry)) (now (kinds .entry)) in
+        let s = stateOf n m (now (bounds .entry)) A (now (table .entry)) in
+        let r' = stateOf n m (now (bounds .exit)) A (now (table .exit)) in
         ⌜ performed (probeAnswer r) r' ≡ perform s (callOf s 3 0 variable budget) ⌝ }
     ensures meaning { λ r.
-        let s = stateOf n m (now (bounds .entry)) (now (coefs .entry)) (now (rhs .entry)) (now (table .entry)) in
-        let r' = stateOf n m (now (bounds .exit)) (now (coefs .entry)) (now (rhs .entry)) (now (table .exit)) in
+        let A = rowsOf (now (coefs .entry)) (now (rhs .entry)) (now (kinds .entry)) in
+        let s = stateOf n m (now (bounds .entry)) A (now (table .entry)) in
+        let r' = stateOf n m (now (bounds .exit)) A (now (table .exit)) in
         ⌜ Means s r' (probeAnswer r) ⌝ }
     ensures ending { λ r.
-        let s = stateOf n m (now (bounds .entry)) (now (coefs .entry)) (now (rhs .entry)) (now (table .entry)) in
+        let A = rowsOf (now (coefs .entry)) (now (rhs .entry)) (now (kinds .entry)) in
+        let s = stateOf n m (now (bounds .entry)) A (now (table .entry)) in
         ⌜ Ends budget s (probeAnswer r) ⌝ }
 {
-    let fault = probe_fault(n, m, bounds, coefs, rhs, table, variable, budget);
+    let fault = probe_fault(n, m, bounds, coefs, rhs, kinds, table, variable, budget);
     if fault != 0 {
         return ProbeAnswer::Refused(fault);
     }
-    match probing::sides::probe(n, m, bounds, coefs, rhs, table, variable as usize, budget) {
+    match probing::sides::probe(
+        n,
+        m,
+        bounds,
+        coefs,
+        rhs,
+        kinds,
+        table,
+        variable as usize,
+        budget,
+    ) {
         Probing::Infeasible(side0, side1) => ProbeAnswer::Infeasible(side0, side1),
         Probing::Fixed(value, side0, side1) => ProbeAnswer::Fixed(value, side0, side1),
         Probing::BothFeasible(added, side0, side1) => ProbeAnswer::BothFeasible(
@@ -198,16 +220,21 @@ pub fn tighten_coefficient(
     bounds: &[i32],
     coefs: &mut [i32],
     rhs: &mut [i32],
+    kinds: &[u8],
     row: u32,
     variable: u32,
 ) -> TightenAnswer
     ensures defined { λ r.
-        let s = stateOf n m (now (bounds .entry)) (now (coefs .entry)) (now (rhs .entry)) [] in
-        let r' = stateOf n m (now (bounds .entry)) (now (coefs .exit)) (now (rhs .exit)) [] in
+        let A = rowsOf (now (coefs .entry)) (now (rhs .entry)) (now (kinds .entry)) in
+        let A' = rowsOf (now (coefs .exit)) (now (rhs .exit)) (now (kinds .entry)) in
+        let s = stateOf n m (now (bounds .entry)) A [] in
+        let r' = stateOf n m (now (bounds .entry)) A' [] in
         ⌜ performed (tightenAnswer r) r' ≡ perform s (callOf s 4 row variable 0) ⌝ }
     ensures meaning { λ r.
-        let s = stateOf n m (now (bounds .entry)) (now (coefs .entry)) (now (rhs .entry)) [] in
-        let r' = stateOf n m (now (bounds .entry)) (now (coefs .exit)) (now (rhs .exit)) [] in
+        let A = rowsOf (now (coefs .entry)) (now (rhs .entry)) (now (kinds .entry)) in
+        let A' = rowsOf (now (coefs .exit)) (now (rhs .exit)) (now (kinds .entry)) in
+        let s = stateOf n m (now (bounds .entry)) A [] in
+        let r' = stateOf n m (now (bounds .entry)) A' [] in
         ⌜ Means s r' (tightenAnswer r) ⌝ }
 {
     let call = Call {
@@ -216,11 +243,19 @@ pub fn tighten_coefficient(
         variable,
         budget: 0,
     };
-    let fault = call_fault(n, m, bounds, coefs, rhs, call);
+    let fault = call_fault(n, m, bounds, coefs, rhs, kinds, call);
     if fault != 0 {
         return TightenAnswer::Refused(fault);
     }
-    match tighten_coefficient_at(n, coefs, rhs, row as usize, bounds, variable as usize) {
+    match tighten_coefficient_at(
+        n,
+        coefs,
+        rhs,
+        kinds,
+        row as usize,
+        bounds,
+        variable as usize,
+    ) {
         CoefficientTightening::Infeasible => TightenAnswer::Infeasible,
         CoefficientTightening::Tightened => TightenAnswer::Tightened,
         CoefficientTightening::Unchanged => TightenAnswer::Unchanged,
@@ -234,15 +269,20 @@ pub fn remove_redundant_row(
     bounds: &[i32],
     coefs: &mut [i32],
     rhs: &mut [i32],
+    kinds: &mut [u8],
     row: u32,
 ) -> RemoveAnswer
     ensures defined { λ r.
-        let s = stateOf n m (now (bounds .entry)) (now (coefs .entry)) (now (rhs .entry)) [] in
-        let r' = stateOf n m (now (bounds .entry)) (now (coefs .exit)) (now (rhs .exit)) [] in
+        let A = rowsOf (now (coefs .entry)) (now (rhs .entry)) (now (kinds .entry)) in
+        let A' = rowsOf (now (coefs .exit)) (now (rhs .exit)) (now (kinds .exit)) in
+        let s = stateOf n m (now (bounds .entry)) A [] in
+        let r' = stateOf n m (now (bounds .entry)) A' [] in
         ⌜ performed (removeAnswer r) r' ≡ perform s (callOf s 5 row 0 0) ⌝ }
     ensures meaning { λ r.
-        let s = stateOf n m (now (bounds .entry)) (now (coefs .entry)) (now (rhs .entry)) [] in
-        let r' = stateOf n m (now (bounds .entry)) (now (coefs .exit)) (now (rhs .exit)) [] in
+        let A = rowsOf (now (coefs .entry)) (now (rhs .entry)) (now (kinds .entry)) in
+        let A' = rowsOf (now (coefs .exit)) (now (rhs .exit)) (now (kinds .exit)) in
+        let s = stateOf n m (now (bounds .entry)) A [] in
+        let r' = stateOf n m (now (bounds .entry)) A' [] in
         ⌜ Means s r' (removeAnswer r) ⌝ }
 {
     let call = Call {
@@ -251,11 +291,11 @@ pub fn remove_redundant_row(
         variable: 0,
         budget: 0,
     };
-    let fault = call_fault(n, m, bounds, coefs, rhs, call);
+    let fault = call_fault(n, m, bounds, coefs, rhs, kinds, call);
     if fault != 0 {
         return RemoveAnswer::Refused(fault);
     }
-    match remove_redundant_row_at(n, coefs, rhs, row as usize, bounds) {
+    match remove_redundant_row_at(n, coefs, rhs, kinds, row as usize, bounds) {
         RowRemoval::Infeasible => RemoveAnswer::Infeasible,
         RowRemoval::Removed => RemoveAnswer::Removed,
         RowRemoval::Unchanged => RemoveAnswer::Unchanged,
@@ -269,19 +309,22 @@ pub fn is_probing_fixpoint(
     bounds: &[i32],
     coefs: &[i32],
     rhs: &[i32],
+    kinds: &[u8],
 ) -> RestAnswer
     ensures defined { λ r.
-        let s = stateOf n m (now (bounds .entry)) (now (coefs .entry)) (now (rhs .entry)) [] in
+        let A = rowsOf (now (coefs .entry)) (now (rhs .entry)) (now (kinds .entry)) in
+        let s = stateOf n m (now (bounds .entry)) A [] in
         ⌜ restVerdict r ≡ rest s ⌝ }
     ensures meaning { λ r.
-        let s = stateOf n m (now (bounds .entry)) (now (coefs .entry)) (now (rhs .entry)) [] in
+        let A = rowsOf (now (coefs .entry)) (now (rhs .entry)) (now (kinds .entry)) in
+        let s = stateOf n m (now (bounds .entry)) A [] in
         ⌜ (restVerdict r ≡ atRest) ↔ ((restFault s ≡ 0) × AtRest s) ⌝ }
 {
-    let fault = model::model_fault(n, m, bounds, coefs, rhs, true);
+    let fault = model::model_fault(n, m, bounds, coefs, rhs, kinds, true);
     if fault != 0 {
         return RestAnswer::Refused(fault);
     }
-    if probing::rest::is_probing_fixpoint(n, m, bounds, coefs, rhs) {
+    if probing::rest::is_probing_fixpoint(n, m, bounds, coefs, rhs, kinds) {
         return RestAnswer::Yes;
     }
     RestAnswer::No

@@ -8,17 +8,27 @@ ghost use mathlib.Core.Path.{_≡_};
 ghost use lib.Dec.{T};
 ghost use Rattle.semantics.specs.CallChecks.{callFault};
 ghost use Rattle.semantics.specs.Call.{callOf, hasTable, kindOf};
+ghost use Rattle.model.specs.Rows.{rowsOf};
 ghost use Rattle.model.specs.State.{stateOf};
 ghost use Rattle.step.specs.Calls.{callOn};
 
 // The number by which a call that is lent no table is refused, 0 where it is accepted.
-pub fn call_fault(n: usize, m: usize, bounds: &[i32], coefs: &[i32], rhs: &[i32], call: Call) -> u32
+pub fn call_fault(
+    n: usize,
+    m: usize,
+    bounds: &[i32],
+    coefs: &[i32],
+    rhs: &[i32],
+    kinds: &[u8],
+    call: Call,
+) -> u32
     requires { ⌜ T (not (hasTable (kindOf (call .kind)))) ⌝ }
     ensures { λ r.
-        let s = stateOf n m (now (bounds .entry)) (now (coefs .entry)) (now (rhs .entry)) [] in
+        let A = rowsOf (now (coefs .entry)) (now (rhs .entry)) (now (kinds .entry)) in
+        let s = stateOf n m (now (bounds .entry)) A [] in
         ⌜ r ≡ callFault s (callOn s call) ⌝ }
 {
-    let fault = model::model_fault(n, m, bounds, coefs, rhs, true);
+    let fault = model::model_fault(n, m, bounds, coefs, rhs, kinds, true);
     if fault != 0 {
         return fault;
     }
@@ -32,15 +42,17 @@ pub fn probe_fault(
     bounds: &[i32],
     coefs: &[i32],
     rhs: &[i32],
+    kinds: &[u8],
     table: &[u8],
     variable: u32,
     budget: u32,
 ) -> u32
     ensures { λ r.
-        let s = stateOf n m (now (bounds .entry)) (now (coefs .entry)) (now (rhs .entry)) (now (table .entry)) in
+        let A = rowsOf (now (coefs .entry)) (now (rhs .entry)) (now (kinds .entry)) in
+        let s = stateOf n m (now (bounds .entry)) A (now (table .entry)) in
         ⌜ r ≡ callFault s (callOf s 3 0 variable budget) ⌝ }
 {
-    let fault = model::model_table_fault(n, m, bounds, coefs, rhs, table, true);
+    let fault = model::model_table_fault(n, m, bounds, coefs, rhs, kinds, table, true);
     if fault != 0 {
         return fault;
     }

@@ -6,6 +6,7 @@ use step::count;
 use step::run_record;
 ghost use mathlib.Core.Path.{_≡_};
 ghost use Rattle.semantics.specs.CallList.{listFault, runList};
+ghost use Rattle.model.specs.Rows.{rowsOf};
 ghost use Rattle.model.specs.State.{stateOf};
 ghost use Rattle.semantics.specs.TwoLists.{CountsAddUp, Demand3Lists, ListMeans};
 ghost use Rattle.semantics.specs.TwoRuns.{EveryModelHandedIn};
@@ -25,14 +26,16 @@ fn list_fault(
     bounds: &[i32],
     coefs: &[i32],
     rhs: &[i32],
+    kinds: &[u8],
     table: &[u8],
     calls: &[u32],
 ) -> u32
     ensures { λ r.
-        let s = stateOf n m (now (bounds .entry)) (now (coefs .entry)) (now (rhs .entry)) (now (table .entry)) in
+        let A = rowsOf (now (coefs .entry)) (now (rhs .entry)) (now (kinds .entry)) in
+        let s = stateOf n m (now (bounds .entry)) A (now (table .entry)) in
         ⌜ r ≡ listFault s (now (calls .entry)) ⌝ }
 {
-    model::model_table_fault(n, m, bounds, coefs, rhs, table, calls.len() % 4 == 0)
+    model::model_table_fault(n, m, bounds, coefs, rhs, kinds, table, calls.len() % 4 == 0)
 }
 
 // Runs a flat list of call records, four numbers each: kind, row, variable, budget. It goes on after a refused call.
@@ -44,21 +47,26 @@ pub fn run(
     bounds: &mut [i32],
     coefs: &mut [i32],
     rhs: &mut [i32],
+    kinds: &mut [u8],
     table: &mut [u8],
     calls: &[u32],
 ) -> RunAnswer
     ensures defined { λ r.
-        let s = stateOf n m (now (bounds .entry)) (now (coefs .entry)) (now (rhs .entry)) (now (table .entry)) in
-        let r' = stateOf n m (now (bounds .exit)) (now (coefs .exit)) (now (rhs .exit)) (now (table .exit)) in
+        let A = rowsOf (now (coefs .entry)) (now (rhs .entry)) (now (kinds .entry)) in
+        let A' = rowsOf (now (coefs .exit)) (now (rhs .exit)) (now (kinds .exit)) in
+        let s = stateOf n m (now (bounds .entry)) A (now (table .entry)) in
+        let r' = stateOf n m (now (bounds .exit)) A' (now (table .exit)) in
         ⌜ listRun r r' ≡ runList s (now (calls .entry)) ⌝ }
     ensures meaning { λ r.
-        let s = stateOf n m (now (bounds .entry)) (now (coefs .entry)) (now (rhs .entry)) (now (table .entry)) in
-        let r' = stateOf n m (now (bounds .exit)) (now (coefs .exit)) (now (rhs .exit)) (now (table .exit)) in
+        let A = rowsOf (now (coefs .entry)) (now (rhs .entry)) (now (kinds .entry)) in
+        let A' = rowsOf (now (coefs .exit)) (now (rhs .exit)) (now (kinds .exit)) in
+        let s = stateOf n m (now (bounds .entry)) A (now (table .entry)) in
+        let r' = stateOf n m (now (bounds .exit)) A' (now (table .exit)) in
         ⌜ ListMeans s (listRun r r') ⌝ }
     ensures demand3 { λ r. ⌜ EveryModelHandedIn × Demand3Lists ⌝ }
     ensures sum { λ r. ⌜ CountsAddUp ⌝ }
 {
-    let fault = list_fault(n, m, bounds, coefs, rhs, table, calls);
+    let fault = list_fault(n, m, bounds, coefs, rhs, kinds, table, calls);
     if fault != 0 {
         return RunAnswer::Refused(fault);
     }
@@ -81,7 +89,7 @@ pub fn run(
             variable,
             budget,
         };
-        let class = run_record(n, m, bounds, coefs, rhs, table, call);
+        let class = run_record(n, m, bounds, coefs, rhs, kinds, table, call);
         counts = count(counts, class);
         i += 1;
     }

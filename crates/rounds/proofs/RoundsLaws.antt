@@ -18,13 +18,16 @@ use Rattle.semantics.specs.Perform.{act, perform}
 use Rattle.semantics.specs.Points.{PointOf, TableHolds}
 use Rattle.model.specs.Valid.{ValidState}
 use Rattle.semantics.specs.Run.{CallClass, classOf, run, step, isRefused}
-use Rattle.model.specs.Rows.{rowOf, setRow}
+use Rattle.model.specs.Rows.{rowAt, rowOf, setRow}
 use Rattle.row.specs.Activity.{maxActivity}
+use Rattle.row.specs.Outcome as outcomes
 use Rattle.row.specs.Outcome.{isChanged, isInfeasible}
-use Rattle.row.specs.Tightening.{NewRow, mayTighten, rowLeft, tightenCoefficient}
+use Rattle.row.specs.Kinds.{ChangedRow, tightenRowOf}
+use Rattle.row.specs.Tightening.{mayTighten}
 use Rattle.row.specs.ValidRow.{ValidCoefs}
 use Rattle.row.proofs.RowLoops.{coefs-small, max-activity-small}
-use Rattle.row.proofs.TighteningLaws.{tighten-coefficient-unchanged, tighten-fails}
+use Rattle.row.proofs.KindChangeLaws.{tighten-kinded-ind, tighten-kinded-unchanged}
+use Rattle.row.proofs.TighteningLaws.{tighten-fails}
 use Rattle.semantics.specs.CallChecks.{callFault}
 use Rattle.semantics.specs.Call.{Call, callOf, kindOf}
 use Rattle.model.specs.State.{State, withRow}
@@ -67,6 +70,7 @@ pub record SameLengths (s t : State) : Type 0 where
   pub box : length (t .model .box) ≡ length (s .model .box)
   pub coefs : length (t .model .rows .coefs) ≡ length (s .model .rows .coefs)
   pub rhs : length (t .model .rows .rhs) ≡ length (s .model .rows .rhs)
+  pub kinds : length (t .model .rows .kinds) ≡ length (s .model .rows .kinds)
   pub table : length (t .table) ≡ length (s .table)
 
 pub valid-lengths : {s t : State} → ValidState s → ValidState t → (t .model .n ≡ s .model .n) × (t .model .m ≡ s .model .m) → SameLengths s t
@@ -74,6 +78,7 @@ valid-lengths v w e = record {
   box = w .model .box .len ∙ ap (λ (x : ℕ). 2 * x) (e .0) ∙ sym (v .model .box .len);
   coefs = w .model .coefsLen ∙ ap₂ _*_ (e .1) (e .0) ∙ sym (v .model .coefsLen);
   rhs = w .model .rhsLen ∙ e .1 ∙ sym (v .model .rhsLen);
+  kinds = w .model .kindsLen ∙ e .1 ∙ sym (v .model .kindsLen);
   table = w .table .len ∙ ap (λ (x : ℕ). 4 * (x * x)) (e .0) ∙ sym (v .table .len);
 }
 
@@ -155,8 +160,15 @@ module _ (s : State) (r k : ℕ) where
   abbrev row : List ℤ
   row = rowOf (s .model .n) (s .model .rows .coefs) r
 
-  abbrev tightening : NewRow
-  tightening = tightenCoefficient (s .model .n) row (at (s .model .rows .rhs) r) (s .model .box) k
+  abbrev tightening : ChangedRow
+  tightening = tightenRowOf (s .model .n) (rowAt (s .model .n) (s .model .rows) r) (s .model .box) k
+
+  -- it stays; a coefficient of an = row does anyway
+  quiet : mayTighten (at row k) (maxActivity (s .model .n) row (s .model .box)) (at (s .model .rows .rhs) r) ≡ false → T (not (isChanged (tightening .outcome)))
+  unfolding isChanged
+  quiet h = tighten-kinded-ind (s .model .n) (rowAt (s .model .n) (s .model .rows) r) (s .model .box) k (λ q. T (not (isChanged (q .outcome))))
+      (λ _. cond-ind (isEmpty (s .model .n) (s .model .box)) outcomes.infeasible outcomes.unchanged (λ o. T (not (isChanged o))) (λ _. tt) (λ _. tt))
+      (λ _. tighten-fails (s .model .n) row (at (s .model .rows .rhs) r) (s .model .box) k h)
 
   -- the call to tighten it leaves the state and changes nothing, refused or not
   quiet-class : T (not (isChanged (tightening .outcome))) → isChange (classOf s (callOf s 4 r k 0)) ≡ false
@@ -171,10 +183,10 @@ module _ (s : State) (r k : ℕ) where
   quiet-call : mayTighten (at row k) (maxActivity (s .model .n) row (s .model .box)) (at (s .model .rows .rhs) r) ≡ false → Leads s (callOf s 4 r k 0 ∷ []) s false
   unfolding run anyChange act callOf kindOf
   quiet-call h =
-      let t = tighten-fails (s .model .n) row (at (s .model .rows .rhs) r) (s .model .box) k h in
-      let u = tighten-coefficient-unchanged (s .model .n) row (at (s .model .rows .rhs) r) (s .model .box) k t in
+      let t = quiet h in
+      let u = tighten-kinded-unchanged (s .model .n) (rowAt (s .model .n) (s .model .rows) r) (s .model .box) k t in
       record {
-        left = sym (step-ind s (callOf s 4 r k 0) (λ x. x ≡ s) (λ _. withRow-same s r (rowLeft tightening) (u .0) (u .1)) refl);
+        left = sym (step-ind s (callOf s 4 r k 0) (λ x. x ≡ s) (λ _. withRow-same s r (tightening .row) u) refl);
         changed = sym (or-false (isChange (classOf s (callOf s 4 r k 0))) ∙ quiet-class t);
       }
 

@@ -69,7 +69,7 @@ isChange infeasibleCall = false
 isChange changedCall = true
 isChange unchangedCall = false
 
--- some call of the list, from s, changed a bound, row or table byte
+-- some call of the list, from s, changed a bound, row (its kind too) or table byte
 unfoldable pub anyChange : State → List Call → Bool
 anyChange s [] = false
 anyChange s (c ∷ cs) = isChange (classOf s c) || anyChange (step s c) cs

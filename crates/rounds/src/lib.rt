@@ -21,6 +21,7 @@ ghost use Rattle.row.specs.Tightening.{mayTighten};
 ghost use Rattle.model.specs.Valid.{ValidState};
 ghost use Rattle.semantics.specs.Run.{run as ran};
 ghost use Rattle.step.specs.Classes.{classIs};
+ghost use Rattle.model.specs.Rows.{rowsOf};
 ghost use Rattle.model.specs.State.{stateOf};
 ghost use Rattle.rounds.specs.Answers.{roundsAnswer};
 ghost use Rattle.rounds.specs.TightenedAt.{TightenedAt};
@@ -39,7 +40,7 @@ pub enum RoundsAnswer {
     AtLimit(u32),
 }
 
-// Whether a call changed a bound, row or table byte.
+// Whether a call changed a bound, row (its kind too) or table byte.
 fn is_changed(class: CallClass) -> bool
     ensures { λ r. ⌜ r ≡ isChange (classIs class) ⌝ }
 {
@@ -56,15 +57,19 @@ fn remove_rows(
     bounds: &mut [i32],
     coefs: &mut [i32],
     rhs: &mut [i32],
+    kinds: &mut [u8],
     table: &mut [u8],
 ) -> bool
-    requires { ⌜ ValidState (stateOf n m (now bounds) (now coefs) (now rhs) (now table)) ⌝ }
+    requires { ⌜ ValidState (stateOf n m (now bounds) (rowsOf (now coefs) (now rhs) (now kinds)) (now table)) ⌝ }
     ensures left { λ r.
-        let s = stateOf n m (now (bounds .entry)) (now (coefs .entry)) (now (rhs .entry)) (now (table .entry)) in
-        let r' = stateOf n m (now (bounds .exit)) (now (coefs .exit)) (now (rhs .exit)) (now (table .exit)) in
+        let A = rowsOf (now (coefs .entry)) (now (rhs .entry)) (now (kinds .entry)) in
+        let A' = rowsOf (now (coefs .exit)) (now (rhs .exit)) (now (kinds .exit)) in
+        let s = stateOf n m (now (bounds .entry)) A (now (table .entry)) in
+        let r' = stateOf n m (now (bounds .exit)) A' (now (table .exit)) in
         ⌜ r' ≡ ran s (removals s) ⌝ }
     ensures changed { λ r.
-        let s = stateOf n m (now (bounds .entry)) (now (coefs .entry)) (now (rhs .entry)) (now (table .entry)) in
+        let A = rowsOf (now (coefs .entry)) (now (rhs .entry)) (now (kinds .entry)) in
+        let s = stateOf n m (now (bounds .entry)) A (now (table .entry)) in
         ⌜ r ≡ anyChange s (removals s) ⌝ }
 {
     if model::is_empty(bounds) {
@@ -79,7 +84,7 @@ fn remove_rows(
             variable: 0,
             budget: 0,
         };
-        if is_changed(run_record(n, m, bounds, coefs, rhs, table, call)) {
+        if is_changed(run_record(n, m, bounds, coefs, rhs, kinds, table, call)) {
             changed = true;
         }
         r += 1;
@@ -118,17 +123,21 @@ fn tighten_row(
     bounds: &mut [i32],
     coefs: &mut [i32],
     rhs: &mut [i32],
+    kinds: &mut [u8],
     table: &mut [u8],
     row: u32,
 ) -> bool
     requires { ⌜ row < m ⌝ }
-    requires { ⌜ ValidState (stateOf n m (now bounds) (now coefs) (now rhs) (now table)) ⌝ }
+    requires { ⌜ ValidState (stateOf n m (now bounds) (rowsOf (now coefs) (now rhs) (now kinds)) (now table)) ⌝ }
     ensures left { λ r.
-        let s = stateOf n m (now (bounds .entry)) (now (coefs .entry)) (now (rhs .entry)) (now (table .entry)) in
-        let r' = stateOf n m (now (bounds .exit)) (now (coefs .exit)) (now (rhs .exit)) (now (table .exit)) in
+        let A = rowsOf (now (coefs .entry)) (now (rhs .entry)) (now (kinds .entry)) in
+        let A' = rowsOf (now (coefs .exit)) (now (rhs .exit)) (now (kinds .exit)) in
+        let s = stateOf n m (now (bounds .entry)) A (now (table .entry)) in
+        let r' = stateOf n m (now (bounds .exit)) A' (now (table .exit)) in
         ⌜ r' ≡ ran s (tightenRow row s) ⌝ }
     ensures changed { λ r.
-        let s = stateOf n m (now (bounds .entry)) (now (coefs .entry)) (now (rhs .entry)) (now (table .entry)) in
+        let A = rowsOf (now (coefs .entry)) (now (rhs .entry)) (now (kinds .entry)) in
+        let s = stateOf n m (now (bounds .entry)) A (now (table .entry)) in
         ⌜ r ≡ anyChange s (tightenRow row s) ⌝ }
 {
     let mut most = maximum_activity_at(n, coefs, row as usize, bounds);
@@ -142,7 +151,7 @@ fn tighten_row(
                 variable: k,
                 budget: 0,
             };
-            if is_changed(run_record(n, m, bounds, coefs, rhs, table, call)) {
+            if is_changed(run_record(n, m, bounds, coefs, rhs, kinds, table, call)) {
                 changed = true;
             }
             most = maximum_activity_at(n, coefs, row as usize, bounds);
@@ -159,21 +168,25 @@ fn tighten_rows(
     bounds: &mut [i32],
     coefs: &mut [i32],
     rhs: &mut [i32],
+    kinds: &mut [u8],
     table: &mut [u8],
 ) -> bool
-    requires { ⌜ ValidState (stateOf n m (now bounds) (now coefs) (now rhs) (now table)) ⌝ }
+    requires { ⌜ ValidState (stateOf n m (now bounds) (rowsOf (now coefs) (now rhs) (now kinds)) (now table)) ⌝ }
     ensures left { λ r.
-        let s = stateOf n m (now (bounds .entry)) (now (coefs .entry)) (now (rhs .entry)) (now (table .entry)) in
-        let r' = stateOf n m (now (bounds .exit)) (now (coefs .exit)) (now (rhs .exit)) (now (table .exit)) in
+        let A = rowsOf (now (coefs .entry)) (now (rhs .entry)) (now (kinds .entry)) in
+        let A' = rowsOf (now (coefs .exit)) (now (rhs .exit)) (now (kinds .exit)) in
+        let s = stateOf n m (now (bounds .entry)) A (now (table .entry)) in
+        let r' = stateOf n m (now (bounds .exit)) A' (now (table .exit)) in
         ⌜ r' ≡ ran s (tightenings s) ⌝ }
     ensures changed { λ r.
-        let s = stateOf n m (now (bounds .entry)) (now (coefs .entry)) (now (rhs .entry)) (now (table .entry)) in
+        let A = rowsOf (now (coefs .entry)) (now (rhs .entry)) (now (kinds .entry)) in
+        let s = stateOf n m (now (bounds .entry)) A (now (table .entry)) in
         ⌜ r ≡ anyChange s (tightenings s) ⌝ }
 {
     let mut changed = false;
     let mut r: u32 = 0;
     while (r as usize) < m {
-        if tighten_row(n, m, bounds, coefs, rhs, table, r) {
+        if tighten_row(n, m, bounds, coefs, rhs, kinds, table, r) {
             changed = true;
         }
         r += 1;
@@ -189,19 +202,23 @@ fn probe_variables_marked(
     bounds: &mut [i32],
     coefs: &[i32],
     rhs: &[i32],
+    kinds: &[u8],
     table: &mut [u8],
     across: &mut [u8],
     signs: &mut [u8],
     marks: &mut [u8],
 ) -> bool
-    requires { ⌜ ValidState (stateOf n m (now bounds) (now coefs) (now rhs) (now table)) ⌝ }
-    requires { ⌜ Marked n m (now bounds) (now coefs) (now rhs) (now across) (now signs) (now marks) ⌝ }
+    requires { ⌜ ValidState (stateOf n m (now bounds) (rowsOf (now coefs) (now rhs) (now kinds)) (now table)) ⌝ }
+    requires { let A = rowsOf (now coefs) (now rhs) (now kinds) in
+        ⌜ Marked n m (now bounds) A (now across) (now signs) (now marks) ⌝ }
     ensures left { λ r.
-        let s = stateOf n m (now (bounds .entry)) (now (coefs .entry)) (now (rhs .entry)) (now (table .entry)) in
-        let r' = stateOf n m (now (bounds .exit)) (now (coefs .entry)) (now (rhs .entry)) (now (table .exit)) in
+        let A = rowsOf (now (coefs .entry)) (now (rhs .entry)) (now (kinds .entry)) in
+        let s = stateOf n m (now (bounds .entry)) A (now (table .entry)) in
+        let r' = stateOf n m (now (bounds .exit)) A (now (table .exit)) in
         ⌜ r' ≡ ran s (probes s) ⌝ }
     ensures changed { λ r.
-        let s = stateOf n m (now (bounds .entry)) (now (coefs .entry)) (now (rhs .entry)) (now (table .entry)) in
+        let A = rowsOf (now (coefs .entry)) (now (rhs .entry)) (now (kinds .entry)) in
+        let s = stateOf n m (now (bounds .entry)) A (now (table .entry)) in
         ⌜ r ≡ anyChange s (probes s) ⌝ }
 {
     let mut changed = false;
@@ -214,6 +231,7 @@ fn probe_variables_marked(
                 bounds,
                 coefs,
                 rhs,
+                kinds,
                 table,
                 k,
                 PASSES,
@@ -237,15 +255,19 @@ fn probe_variables(
     bounds: &mut [i32],
     coefs: &mut [i32],
     rhs: &mut [i32],
+    kinds: &mut [u8],
     table: &mut [u8],
 ) -> bool
-    requires { ⌜ ValidState (stateOf n m (now bounds) (now coefs) (now rhs) (now table)) ⌝ }
+    requires { ⌜ ValidState (stateOf n m (now bounds) (rowsOf (now coefs) (now rhs) (now kinds)) (now table)) ⌝ }
     ensures left { λ r.
-        let s = stateOf n m (now (bounds .entry)) (now (coefs .entry)) (now (rhs .entry)) (now (table .entry)) in
-        let r' = stateOf n m (now (bounds .exit)) (now (coefs .exit)) (now (rhs .exit)) (now (table .exit)) in
+        let A = rowsOf (now (coefs .entry)) (now (rhs .entry)) (now (kinds .entry)) in
+        let A' = rowsOf (now (coefs .exit)) (now (rhs .exit)) (now (kinds .exit)) in
+        let s = stateOf n m (now (bounds .entry)) A (now (table .entry)) in
+        let r' = stateOf n m (now (bounds .exit)) A' (now (table .exit)) in
         ⌜ r' ≡ ran s (probes s) ⌝ }
     ensures changed { λ r.
-        let s = stateOf n m (now (bounds .entry)) (now (coefs .entry)) (now (rhs .entry)) (now (table .entry)) in
+        let A = rowsOf (now (coefs .entry)) (now (rhs .entry)) (now (kinds .entry)) in
+        let s = stateOf n m (now (bounds .entry)) A (now (table .entry)) in
         ⌜ r ≡ anyChange s (probes s) ⌝ }
 {
     let mut across = [0u8; MAX_ROWS * MAX_VARIABLES];
@@ -257,6 +279,7 @@ fn probe_variables(
         bounds,
         coefs,
         rhs,
+        kinds,
         table,
         &mut across,
         &mut signs,
@@ -271,15 +294,19 @@ fn round(
     bounds: &mut [i32],
     coefs: &mut [i32],
     rhs: &mut [i32],
+    kinds: &mut [u8],
     table: &mut [u8],
 ) -> bool
-    requires { ⌜ ValidState (stateOf n m (now bounds) (now coefs) (now rhs) (now table)) ⌝ }
+    requires { ⌜ ValidState (stateOf n m (now bounds) (rowsOf (now coefs) (now rhs) (now kinds)) (now table)) ⌝ }
     ensures left { λ r.
-        let s = stateOf n m (now (bounds .entry)) (now (coefs .entry)) (now (rhs .entry)) (now (table .entry)) in
-        let r' = stateOf n m (now (bounds .exit)) (now (coefs .exit)) (now (rhs .exit)) (now (table .exit)) in
+        let A = rowsOf (now (coefs .entry)) (now (rhs .entry)) (now (kinds .entry)) in
+        let A' = rowsOf (now (coefs .exit)) (now (rhs .exit)) (now (kinds .exit)) in
+        let s = stateOf n m (now (bounds .entry)) A (now (table .entry)) in
+        let r' = stateOf n m (now (bounds .exit)) A' (now (table .exit)) in
         ⌜ r' ≡ ran s (roundOf s) ⌝ }
     ensures changed { λ r.
-        let s = stateOf n m (now (bounds .entry)) (now (coefs .entry)) (now (rhs .entry)) (now (table .entry)) in
+        let A = rowsOf (now (coefs .entry)) (now (rhs .entry)) (now (kinds .entry)) in
+        let s = stateOf n m (now (bounds .entry)) A (now (table .entry)) in
         ⌜ r ≡ anyChange s (roundOf s) ⌝ }
 {
     let call = Call {
@@ -288,14 +315,14 @@ fn round(
         variable: 0,
         budget: PASSES,
     };
-    let mut changed = is_changed(run_record(n, m, bounds, coefs, rhs, table, call));
-    if remove_rows(n, m, bounds, coefs, rhs, table) {
+    let mut changed = is_changed(run_record(n, m, bounds, coefs, rhs, kinds, table, call));
+    if remove_rows(n, m, bounds, coefs, rhs, kinds, table) {
         changed = true;
     }
-    if tighten_rows(n, m, bounds, coefs, rhs, table) {
+    if tighten_rows(n, m, bounds, coefs, rhs, kinds, table) {
         changed = true;
     }
-    if probe_variables(n, m, bounds, coefs, rhs, table) {
+    if probe_variables(n, m, bounds, coefs, rhs, kinds, table) {
         changed = true;
     }
     changed
@@ -309,29 +336,35 @@ pub fn run(
     bounds: &mut [i32],
     coefs: &mut [i32],
     rhs: &mut [i32],
+    kinds: &mut [u8],
     table: &mut [u8],
     limit: u32,
 ) -> RoundsAnswer
     ensures answer { λ r.
-        let s = stateOf n m (now (bounds .entry)) (now (coefs .entry)) (now (rhs .entry)) (now (table .entry)) in
+        let A = rowsOf (now (coefs .entry)) (now (rhs .entry)) (now (kinds .entry)) in
+        let s = stateOf n m (now (bounds .entry)) A (now (table .entry)) in
         ⌜ roundsAnswer r ≡ runRounds limit s .answer ⌝ }
     ensures left { λ r.
-        let s = stateOf n m (now (bounds .entry)) (now (coefs .entry)) (now (rhs .entry)) (now (table .entry)) in
-        let r' = stateOf n m (now (bounds .exit)) (now (coefs .exit)) (now (rhs .exit)) (now (table .exit)) in
+        let A = rowsOf (now (coefs .entry)) (now (rhs .entry)) (now (kinds .entry)) in
+        let A' = rowsOf (now (coefs .exit)) (now (rhs .exit)) (now (kinds .exit)) in
+        let s = stateOf n m (now (bounds .entry)) A (now (table .entry)) in
+        let r' = stateOf n m (now (bounds .exit)) A' (now (table .exit)) in
         ⌜ r' ≡ ran s (runRounds limit s .calls) ⌝ }
     ensures meaning { λ r.
-        let s = stateOf n m (now (bounds .entry)) (now (coefs .entry)) (now (rhs .entry)) (now (table .entry)) in
-        let r' = stateOf n m (now (bounds .exit)) (now (coefs .exit)) (now (rhs .exit)) (now (table .exit)) in
+        let A = rowsOf (now (coefs .entry)) (now (rhs .entry)) (now (kinds .entry)) in
+        let A' = rowsOf (now (coefs .exit)) (now (rhs .exit)) (now (kinds .exit)) in
+        let s = stateOf n m (now (bounds .entry)) A (now (table .entry)) in
+        let r' = stateOf n m (now (bounds .exit)) A' (now (table .exit)) in
         ⌜ SamePoints s r' (roundsAnswer r) ⌝ }
 {
-    let fault = model::model_table_fault(n, m, bounds, coefs, rhs, table, true);
+    let fault = model::model_table_fault(n, m, bounds, coefs, rhs, kinds, table, true);
     if fault != 0 {
         return RoundsAnswer::Refused(fault);
     }
     let mut made: u32 = 0;
     while made < limit {
         made += 1;
-        let changed = round(n, m, bounds, coefs, rhs, table);
+        let changed = round(n, m, bounds, coefs, rhs, kinds, table);
         if model::is_empty(bounds) {
             return RoundsAnswer::Infeasible(made);
         }

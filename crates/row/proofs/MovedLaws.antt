@@ -64,6 +64,23 @@ moved-half (suc n) B P f = one (f n (omega arith)) (moved-half n B P (λ j h. f 
     one (inl e) h = rw (e, differs-same (lower B n)) (omega (arith, differs-le (upper B n) (upper P n)))
     one (inr e) h = rw (e, differs-same (upper B n)) (omega (arith, differs-le (lower B n) (lower P n)))
 
+-- by two steps, of which for each bound one leaves it
+differs-once : (a b c : ℤ) → (b ≡ a) ⊎ (c ≡ b) → differs a c ≡ differs a b + differs b c
+differs-once a b c (inl e) = rw (e, differs-same a) (omega arith)
+differs-once a b c (inr e) = rw (e, differs-same b) (omega arith)
+
+pub moved-once : (n : ℕ) (B P Q : List ℤ)
+    → ((j : ℕ) → j < n → (lower P j ≡ lower B j) ⊎ (lower Q j ≡ lower P j))
+    → ((j : ℕ) → j < n → (upper P j ≡ upper B j) ⊎ (upper Q j ≡ upper P j))
+    → movedBounds n B Q ≡ movedBounds n B P + movedBounds n P Q
+unfolding movedBounds
+moved-once zero B P Q f g = refl
+moved-once (suc n) B P Q f g =
+    let e = moved-once n B P Q (λ j h. f j (omega arith)) (λ j h. g j (omega arith)) in
+    let l = differs-once (lower B n) (lower P n) (lower Q n) (f n (omega arith)) in
+    let u = differs-once (upper B n) (upper P n) (upper Q n) (g n (omega arith)) in
+    omega arith
+
 -- ---- no more than the width that the box lost
 
 gap : (a b : ℤ) → a ≤ℤ b → pos (differs a b) ≤ℤ (b -ℤ a)

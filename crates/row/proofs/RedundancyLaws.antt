@@ -97,7 +97,7 @@ module _ (n : ℕ) (A : List ℤ) (b : ℤ) (B : List ℤ) where
 
 -- ---- the limits
 
-valid-zeroRow : {n : ℕ} {A : List ℤ} {b : ℤ} {B : List ℤ} → ValidRow n A b B → ValidRow n (zeroRow n) (pos 0) B
+pub valid-zeroRow : {n : ℕ} {A : List ℤ} {b : ℤ} {B : List ℤ} → ValidRow n A b B → ValidRow n (zeroRow n) (pos 0) B
 valid-zeroRow {n} v = record {
   coefs = record {
     some = v .coefs .some;

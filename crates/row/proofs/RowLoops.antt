@@ -104,14 +104,14 @@ module _ {n : ℕ} {A B : List ℤ} (v : ValidCoefs n A B) where
   max-activity-small = sum-small _ (max-terms .small) n (v .few)
 
 -- a row that the box can meet has all that its new bounds are found by
-pub implies-box : {n : ℕ} {A : List ℤ} {b : ℤ} {B : List ℤ} → ValidRow n A b B → minActivity n A B ≤ℤ b → ImpliesBox n A b (minActivity n A B) B
-implies-box v met = record {
+pub implies-box : {n : ℕ} {A : List ℤ} {b L : ℤ} {B : List ℤ} → ValidRow n A b B → Within 5_000_000_000_000 L → L ≤ℤ b → ImpliesBox n A b L B
+implies-box v small met = record {
   len = v .coefs .len;
   boxLen = v .coefs .box .len;
   few = v .coefs .few;
   coefs = coefs-small (v .coefs);
   rhs = rhs-within (v .rhs);
-  activity = min-activity-small (v .coefs);
+  activity = small;
   met = met;
   bounds = bounds-small (v .coefs);
 }

@@ -1,6 +1,8 @@
 -- What the enums that the code returns stand for among 01's answers. Each is injective: no answer hides another (`answers-injective`).
+use Prim.Native.Nat.{_+_, _<_, _^_, ℕ}
 use lib.IntN.{ℤ}
 use mathlib.Core.List.{List}
+use mathlib.Core.Path.{_≡_}
 use Rattle.row.specs.Outcome.{Outcome, changed, infeasible, unchanged}
 use Rattle.row.specs.Propagation.{PropagatedRow}
 use Rattle.row.specs.declared.propagation.RowPropagation.{RowPropagation}
@@ -27,3 +29,15 @@ unfoldable pub removalOutcome : RowRemoval → Outcome
 removalOutcome removal.Infeasible = infeasible
 removalOutcome removal.Removed = changed
 removalOutcome removal.Unchanged = unchanged
+
+-- the bounds that two forms of an = row moved, at most n each: together they fit in 32 bits
+pub record BothForms (first second : RowPropagation) : Type 0 where
+  pub few : (k i : ℕ) → first ≡ propagation.Tightened k → second ≡ propagation.Tightened i → k + i < 2 ^ 32
+
+-- what the answers of the two forms come to, the first not infeasible
+unfoldable pub bothForms : RowPropagation → RowPropagation → RowPropagation
+bothForms propagation.Infeasible s = s
+bothForms (propagation.Tightened k) propagation.Infeasible = propagation.Infeasible
+bothForms (propagation.Tightened k) (propagation.Tightened i) = propagation.Tightened (k + i)
+bothForms (propagation.Tightened k) propagation.Unchanged = propagation.Tightened k
+bothForms propagation.Unchanged s = s

@@ -4,6 +4,7 @@ pub mod Moved
 pub mod Propagation
 pub mod Tightening
 pub mod Redundancy
+pub mod Kinds
 pub mod ValidRow
 pub mod Answers
 pub mod WorkedBooks

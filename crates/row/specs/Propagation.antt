@@ -8,7 +8,6 @@ use Rattle.integer.specs.Division.{ceilDiv, floorDiv}
 use Rattle.integer.specs.Index.{all}
 use Rattle.integer.specs.Order.{eqZ, maxZ, minZ}
 use Rattle.model.specs.Box.{at, boxOf, emptyBox, isEmpty, lower, upper}
-use Rattle.model.specs.Rows.{Row}
 use Rattle.row.specs.Activity.{minActivity}
 use Rattle.row.specs.Moved.{movedBounds}
 use Rattle.row.specs.Outcome.{Outcome, changed, infeasible, isUnchanged, unchanged}
@@ -55,7 +54,3 @@ propagateRow n A b B =
 -- whether propagating the row answers other than Same: it moves a bound, or no point of the box meets it
 unfoldable pub rowMoves : ℕ → List ℤ → ℤ → List ℤ → Bool
 rowMoves n A b B = not (isUnchanged (propagateRow n A b B .outcome))
-
--- of a row as one thing
-abbrev pub propagateRowOf : ℕ → Row → List ℤ → PropagatedRow
-propagateRowOf n r B = propagateRow n (r .coefs) (r .rhs) B

@@ -7,7 +7,6 @@ use mathlib.Core.Bool.{_&&_, cond}
 use mathlib.Core.List.{List}
 use Rattle.integer.specs.Order.{eqZ}
 use Rattle.model.specs.Box.{isEmpty, sameList}
-use Rattle.model.specs.Rows.{Row}
 use Rattle.row.specs.Activity.{maxActivity}
 use Rattle.row.specs.Outcome.{changed, infeasible, unchanged}
 use Rattle.row.specs.Tightening.{NewRow}
@@ -23,7 +22,3 @@ removeRedundantRow n A b B =
     (cond (leZ (maxActivity n A B) b)
     (record { outcome = cond (eqZ b (pos 0) && sameList A (zeroRow n)) unchanged changed; coefs = zeroRow n; rhs = pos 0 })
     (record { outcome = unchanged; coefs = A; rhs = b }))
-
--- of a row as one thing
-abbrev pub removeRowOf : ℕ → Row → List ℤ → NewRow
-removeRowOf n r B = removeRedundantRow n (r .coefs) (r .rhs) B

@@ -7,7 +7,6 @@ use mathlib.Core.Bool.{Bool, _&&_, cond}
 use mathlib.Core.List.{List}
 use Rattle.model.specs.Box.{at, isEmpty}
 use Rattle.model.specs.Limits.{minRhs}
-use Rattle.model.specs.Rows.{Row}
 use Rattle.row.specs.Activity.{maxActivity}
 use Rattle.row.specs.Outcome.{Outcome, changed, infeasible, unchanged}
 
@@ -20,9 +19,6 @@ pub record NewRow : Type 0 where
 -- "if Lmax > b and Lmax − |a| < b": the row can be broken, but not with the variable at its other bound; L is Lmax
 abbrev pub mayTighten : ℤ → ℤ → ℤ → Bool
 mayTighten a L b = ltZ b L && ltZ (L -ℤ pos (natAbs a)) b
-
-abbrev pub rowLeft : NewRow → Row
-rowLeft v = record { coefs = v .coefs; rhs = v .rhs }
 
 -- "if Lmax > b and Lmax − |a| < b, then for a > 0 the coefficient becomes Lmax − b and b becomes Lmax − a (old values on the
 -- right); for a < 0 the coefficient becomes b − Lmax and b stays. For a > 0 it is not made if the new b is under
@@ -41,7 +37,3 @@ tightenAt a L A b k =
 unfoldable pub tightenCoefficient : ℕ → List ℤ → ℤ → List ℤ → ℕ → NewRow
 tightenCoefficient n A b B k =
     cond (isEmpty n B) (record { outcome = infeasible; coefs = A; rhs = b }) (tightenAt (at A k) (maxActivity n A B) A b k)
-
--- of a row as one thing
-abbrev pub tightenRowOf : ℕ → Row → List ℤ → ℕ → NewRow
-tightenRowOf n r B k = tightenCoefficient n (r .coefs) (r .rhs) B k

@@ -1,9 +1,10 @@
 -- One row of a valid model, with the box: what the functions of this crate ask for.
 use Prim.Native.Nat.{_*_, _<_, _≤_, ℕ}
-use lib.IntN.{ℤ}
+use lib.IntN.{negsuc, pos, ℤ}
 use lib.ListN.{length}
 use lib.Signed.{_≤ℤ_}
 use mathlib.Core.List.{List}
+use mathlib.Core.Logic.{_⊎_}
 use mathlib.Core.Path.{_≡_}
 use Rattle.integer.specs.Range.{Within}
 use Rattle.model.specs.Box.{at}
@@ -17,6 +18,10 @@ pub record ValidCoefs (n : ℕ) (A B : List ℤ) : Type 0 where
   pub len : length A ≡ n
   pub range : (j : ℕ) → Between minCoef maxCoef (at A j)
   pub box : ValidBox n B
+
+-- 1 or −1: the row itself, or its negated form
+abbrev pub IsSign : ℤ → Type 0
+IsSign s = (s ≡ pos 1) ⊎ (s ≡ negsuc 0)
 
 -- with its right side
 pub record ValidRow (n : ℕ) (A : List ℤ) (b : ℤ) (B : List ℤ) : Type 0 where

@@ -5,7 +5,8 @@ ghost use lib.ListN.{length};
 ghost use Rattle.integer.specs.Order.{maxZ};
 ghost use Rattle.integer.specs.Range.{Within};
 ghost use Rattle.row.specs.Activity.{minTerm, termWidth, minActivity, maxActivity, widestTerm};
-ghost use Rattle.row.specs.ValidRow.{ValidCoefs};
+ghost use Rattle.row.specs.Kinds.{signed};
+ghost use Rattle.row.specs.ValidRow.{IsSign, ValidCoefs};
 
 // a · low for a above 0, else a · high.
 pub fn term(a: i32, low: i32, high: i32) -> i64
@@ -69,21 +70,23 @@ pub struct Reach {
     pub widest: i64,
 }
 
-// A coefficient of 0 adds nothing to either, so its bounds are not read.
-pub fn reach_of(coefs: &[i32], bounds: &[i32]) -> Reach
+// Of the row itself (sign 1) or of its negated form (sign −1). A coefficient of 0 adds nothing to either, so its bounds
+// are not read.
+pub fn reach_of(coefs: &[i32], sign: i32, bounds: &[i32]) -> Reach
     requires { ⌜ ValidCoefs (length (now coefs)) (now coefs) (now bounds) ⌝ }
+    requires { ⌜ IsSign sign ⌝ }
     ensures least { λ r.
         let A = now (coefs .entry) in
-        ⌜ r .least ≡ minActivity (length A) A (now (bounds .entry)) ⌝ }
+        ⌜ r .least ≡ minActivity (length A) (signed sign A) (now (bounds .entry)) ⌝ }
     ensures widest { λ r.
         let A = now (coefs .entry) in
-        ⌜ r .widest ≡ widestTerm (length A) A (now (bounds .entry)) ⌝ }
+        ⌜ r .widest ≡ widestTerm (length A) (signed sign A) (now (bounds .entry)) ⌝ }
 {
     let mut least: i64 = 0;
     let mut widest: i64 = 0;
     let mut j: usize = 0;
     while j < coefs.len() {
-        let a = coefs[j];
+        let a = sign * coefs[j];
         if a == 0 {
             j += 1;
             continue;

@@ -9,10 +9,12 @@ ghost use lib.IntN.{pos};
 ghost use lib.Signed.{_<ℤ_};
 ghost use lib.ListN.{length};
 ghost use Rattle.model.specs.Box.{lower, upper, withBounds};
-ghost use Rattle.row.specs.Answers.{propagatedRowOf};
+ghost use Rattle.model.specs.Rows.{rowWith};
+ghost use Rattle.row.specs.Answers.{BothForms, bothForms, propagatedRowOf};
 ghost use Rattle.row.specs.Moved.{movedBounds};
 ghost use Rattle.row.specs.Propagation.{newLower, newUpper, impliedBox, stays, propagateRow, rowMoves};
-ghost use Rattle.row.specs.ValidRow.{ValidRow, ImpliesBounds, ImpliesBox};
+ghost use Rattle.row.specs.Kinds.{propagateRowOf, rowMovesOf, signed};
+ghost use Rattle.row.specs.ValidRow.{IsSign, ValidRow, ImpliesBounds, ImpliesBox};
 
 // 01's None, Narrowed with the number of bounds that moved, Same.
 pub enum RowPropagation {
@@ -84,21 +86,23 @@ pub fn tighten_bounds_at(a: i32, b: i64, least: i64, bounds: &mut [i32], j: usiz
     false
 }
 
-// Gives each variable the bounds that the row implies, and says how many moved: at most one of each variable.
-fn tighten_bounds(coefs: &[i32], b: i64, least: i64, bounds: &mut [i32]) -> u32
+// Gives each variable the bounds that the row, or its negated form by the sign, implies, and says how many moved: at
+// most one of each variable.
+fn tighten_bounds(coefs: &[i32], sign: i32, b: i64, least: i64, bounds: &mut [i32]) -> u32
     requires { ⌜ ImpliesBox (length (now coefs)) (now coefs) b least (now bounds) ⌝ }
+    requires { ⌜ IsSign sign ⌝ }
     ensures left { λ r.
         let A = now (coefs .entry) in
-        ⌜ now (bounds .exit) ≡ impliedBox (length A) A b least (now (bounds .entry)) ⌝ }
+        ⌜ now (bounds .exit) ≡ impliedBox (length A) (signed sign A) b least (now (bounds .entry)) ⌝ }
     ensures moved { λ r.
         let A = now (coefs .entry) in
         let B = now (bounds .entry) in
-        ⌜ r ≡ movedBounds (length A) B (impliedBox (length A) A b least B) ⌝ }
+        ⌜ r ≡ movedBounds (length A) B (impliedBox (length A) (signed sign A) b least B) ⌝ }
 {
     let mut moved: u32 = 0;
     let mut j: usize = 0;
     while j < coefs.len() {
-        if tighten_bounds_at(coefs[j], b, least, bounds, j) {
+        if tighten_bounds_at(sign * coefs[j], b, least, bounds, j) {
             moved += 1;
         }
         j += 1;
@@ -106,32 +110,53 @@ fn tighten_bounds(coefs: &[i32], b: i64, least: i64, bounds: &mut [i32]) -> u32
     moved
 }
 
-// Whether propagating the row would answer other than Unchanged: the same sweep, and nothing is written. A row that
+// Whether propagating the form would answer other than Unchanged: the same sweep, and nothing is written. A form that
 // cannot be met has b − least below 0, so one comparison tells both.
-pub fn moves(coefs: &[i32], b: i32, bounds: &[i32]) -> bool
+fn form_moves(coefs: &[i32], sign: i32, b: i32, bounds: &[i32]) -> bool
     requires { ⌜ ValidRow (length (now coefs)) (now coefs) b (now bounds) ⌝ }
-    ensures { λ r. ⌜ r ≡ rowMoves (length (now (coefs .entry))) (now (coefs .entry)) b (now (bounds .entry)) ⌝ }
+    requires { ⌜ IsSign sign ⌝ }
+    ensures { λ r.
+        let A = now (coefs .entry) in
+        ⌜ r ≡ rowMoves (length A) (signed sign A) b (now (bounds .entry)) ⌝ }
 {
     if model::is_empty(bounds) {
         return true;
     }
-    let r = reach_of(coefs, bounds);
+    let r = reach_of(coefs, sign, bounds);
     (b as i64) - r.least < r.widest
 }
 
-// Propagates the row. Infeasible leaves the empty box in whole: the bounds are only touched
-// once the row is known to be met.
-pub fn propagate_row(coefs: &[i32], b: i32, bounds: &mut [i32]) -> RowPropagation
+// Whether propagating the row would answer other than Unchanged. Where the ≤ form of an = row moves nothing, its
+// negated form is propagated in the same box.
+pub fn moves(coefs: &[i32], b: i32, kind: u8, bounds: &[i32]) -> bool
     requires { ⌜ ValidRow (length (now coefs)) (now coefs) b (now bounds) ⌝ }
     ensures { λ r.
         let A = now (coefs .entry) in
-        ⌜ propagatedRowOf r (now (bounds .exit)) ≡ propagateRow (length A) A b (now (bounds .entry)) ⌝ }
+        ⌜ r ≡ rowMovesOf (length A) (rowWith A b kind) (now (bounds .entry)) ⌝ }
+{
+    if form_moves(coefs, 1, b, bounds) {
+        return true;
+    }
+    if kind != 1 {
+        return false;
+    }
+    form_moves(coefs, -1, -b, bounds)
+}
+
+// Propagates a form of the row. Infeasible leaves the empty box in whole: the bounds are only touched
+// once the form is known to be met.
+fn propagate_form(coefs: &[i32], sign: i32, b: i32, bounds: &mut [i32]) -> RowPropagation
+    requires { ⌜ ValidRow (length (now coefs)) (now coefs) b (now bounds) ⌝ }
+    requires { ⌜ IsSign sign ⌝ }
+    ensures { λ r.
+        let A = now (coefs .entry) in
+        ⌜ propagatedRowOf r (now (bounds .exit)) ≡ propagateRow (length A) (signed sign A) b (now (bounds .entry)) ⌝ }
 {
     if model::is_empty(bounds) {
         return RowPropagation::Infeasible;
     }
     let rhs = b as i64;
-    let r = reach_of(coefs, bounds);
+    let r = reach_of(coefs, sign, bounds);
     let least = r.least;
     if r.widest <= rhs - least {
         return RowPropagation::Unchanged;
@@ -140,5 +165,38 @@ pub fn propagate_row(coefs: &[i32], b: i32, bounds: &mut [i32]) -> RowPropagatio
         model::make_empty(bounds);
         return RowPropagation::Infeasible;
     }
-    RowPropagation::Tightened(tighten_bounds(coefs, rhs, least, bounds))
+    RowPropagation::Tightened(tighten_bounds(coefs, sign, rhs, least, bounds))
+}
+
+// What the two forms of an = row come to: the first is not infeasible. No bound is moved by both.
+pub fn both(first: RowPropagation, second: RowPropagation) -> RowPropagation
+    requires { ⌜ BothForms first second ⌝ }
+    ensures { λ r. ⌜ r ≡ bothForms first second ⌝ }
+{
+    let RowPropagation::Tightened(moved) = first else {
+        return second;
+    };
+    match second {
+        RowPropagation::Infeasible => RowPropagation::Infeasible,
+        RowPropagation::Tightened(more) => RowPropagation::Tightened(moved + more),
+        RowPropagation::Unchanged => RowPropagation::Tightened(moved),
+    }
+}
+
+// Propagates the row: an = row (kind 1) by its ≤ form and then, on the box that it left, by its negated form.
+pub fn propagate_row(coefs: &[i32], b: i32, kind: u8, bounds: &mut [i32]) -> RowPropagation
+    requires { ⌜ ValidRow (length (now coefs)) (now coefs) b (now bounds) ⌝ }
+    ensures { λ r.
+        let A = now (coefs .entry) in
+        ⌜ propagatedRowOf r (now (bounds .exit))
+        ≡ propagateRowOf (length A) (rowWith A b kind) (now (bounds .entry)) ⌝ }
+{
+    let first = propagate_form(coefs, 1, b, bounds);
+    if kind != 1 {
+        return first;
+    }
+    let RowPropagation::Infeasible = first else {
+        return both(first, propagate_form(coefs, -1, -b, bounds));
+    };
+    first
 }

@@ -1,11 +1,17 @@
 // Remove a redundant row (01's drop).
 use crate::activity::maximum_activity;
-ghost use mathlib.Core.Bool.{not};
+use crate::activity::minimum_activity;
+ghost use mathlib.Core.Bool.{_&&_, cond, false, not};
 ghost use mathlib.Core.Path.{_≡_};
 ghost use lib.ListN.{length};
-ghost use Rattle.model.specs.Box.{sameList};
+ghost use lib.IntN.{pos};
+ghost use Rattle.integer.specs.Order.{eqZ};
+ghost use Rattle.model.specs.Box.{isEmpty, sameList};
+ghost use Rattle.model.specs.Rows.{rowWith};
 ghost use Rattle.row.specs.Answers.{removalOutcome};
-ghost use Rattle.row.specs.Redundancy.{removeRedundantRow, zeroRow};
+ghost use Rattle.row.specs.Kinds.{removeRowOf};
+ghost use Rattle.row.specs.Outcome.{changed, unchanged};
+ghost use Rattle.row.specs.Redundancy.{zeroRow};
 ghost use Rattle.row.specs.ValidRow.{ValidRow};
 
 // 01's None, Dropped, Same.
@@ -32,27 +38,16 @@ fn clear(xs: &mut [i32]) -> bool
     changed
 }
 
-// Removes the row where no point of the box can break it (most ≤ b): it becomes 0 ≤ 0.
-pub fn remove_redundant_row(coefs: &mut [i32], b: &mut i32, bounds: &[i32]) -> RowRemoval
-    requires { ⌜ ValidRow (length (now coefs)) (now coefs) (now b) (now bounds) ⌝ }
+// Makes the row 0 ≤ 0, and says whether a number changed; `b` is its right side.
+fn clear_row(coefs: &mut [i32], b: &mut i32) -> RowRemoval
     ensures answer { λ r.
         let A = now (coefs .entry) in
-        ⌜ removalOutcome r ≡ removeRedundantRow (length A) A (now (b .entry)) (now (bounds .entry)) .outcome ⌝ }
-    ensures row { λ r.
-        let A = now (coefs .entry) in
-        ⌜ now (coefs .exit) ≡ removeRedundantRow (length A) A (now (b .entry)) (now (bounds .entry)) .coefs ⌝ }
-    ensures side { λ r.
-        let A = now (coefs .entry) in
-        ⌜ now (b .exit) ≡ removeRedundantRow (length A) A (now (b .entry)) (now (bounds .entry)) .rhs ⌝ }
+        ⌜ removalOutcome r
+        ≡ cond (eqZ (now (b .entry)) (pos 0) && sameList A (zeroRow (length A))) unchanged changed ⌝ }
+    ensures row { λ r. ⌜ now (coefs .exit) ≡ zeroRow (length (now (coefs .entry))) ⌝ }
+    ensures side { λ r. ⌜ now (b .exit) ≡ pos 0 ⌝ }
 {
-    if model::is_empty(bounds) {
-        return RowRemoval::Infeasible;
-    }
     let old = *b;
-    let most = maximum_activity(coefs, bounds);
-    if (old as i64) < most {
-        return RowRemoval::Unchanged;
-    }
     *b = 0;
     if clear(coefs) {
         return RowRemoval::Removed;
@@ -61,4 +56,61 @@ pub fn remove_redundant_row(coefs: &mut [i32], b: &mut i32, bounds: &[i32]) -> R
         return RowRemoval::Removed;
     }
     RowRemoval::Unchanged
+}
+
+// Removes an = row where every point of the box meets it (least and most are both b): it becomes 0 ≤ 0, of kind 0.
+fn remove_equality_row(coefs: &mut [i32], b: &mut i32, kind: &mut u8, bounds: &[i32]) -> RowRemoval
+    requires { ⌜ ValidRow (length (now coefs)) (now coefs) (now b) (now bounds) ⌝ }
+    requires { ⌜ (isEmpty (length (now coefs)) (now bounds) ≡ false) × (now kind ≡ 1) ⌝ }
+    ensures answer { λ r.
+        let A = now (coefs .entry) in
+        let q = rowWith A (now (b .entry)) (now (kind .entry)) in
+        ⌜ removalOutcome r ≡ removeRowOf (length A) q (now (bounds .entry)) .outcome ⌝ }
+    ensures row { λ r.
+        let A = now (coefs .entry) in
+        let q = rowWith A (now (b .entry)) (now (kind .entry)) in
+        let q' = rowWith (now (coefs .exit)) (now (b .exit)) (now (kind .exit)) in
+        ⌜ q' ≡ removeRowOf (length A) q (now (bounds .entry)) .row ⌝ }
+{
+    let rhs = *b as i64;
+    if minimum_activity(coefs, bounds) != rhs {
+        return RowRemoval::Unchanged;
+    }
+    if maximum_activity(coefs, bounds) != rhs {
+        return RowRemoval::Unchanged;
+    }
+    clear_row(coefs, b);
+    *kind = 0;
+    RowRemoval::Removed
+}
+
+// Removes the row where no point of the box can break it: a ≤ row where most ≤ b, which becomes 0 ≤ 0.
+pub fn remove_redundant_row(
+    coefs: &mut [i32],
+    b: &mut i32,
+    kind: &mut u8,
+    bounds: &[i32],
+) -> RowRemoval
+    requires { ⌜ ValidRow (length (now coefs)) (now coefs) (now b) (now bounds) ⌝ }
+    ensures answer { λ r.
+        let A = now (coefs .entry) in
+        let q = rowWith A (now (b .entry)) (now (kind .entry)) in
+        ⌜ removalOutcome r ≡ removeRowOf (length A) q (now (bounds .entry)) .outcome ⌝ }
+    ensures row { λ r.
+        let A = now (coefs .entry) in
+        let q = rowWith A (now (b .entry)) (now (kind .entry)) in
+        let q' = rowWith (now (coefs .exit)) (now (b .exit)) (now (kind .exit)) in
+        ⌜ q' ≡ removeRowOf (length A) q (now (bounds .entry)) .row ⌝ }
+{
+    if model::is_empty(bounds) {
+        return RowRemoval::Infeasible;
+    }
+    if *kind == 1 {
+        return remove_equality_row(coefs, b, kind, bounds);
+    }
+    let most = maximum_activity(coefs, bounds);
+    if (*b as i64) < most {
+        return RowRemoval::Unchanged;
+    }
+    clear_row(coefs, b)
 }

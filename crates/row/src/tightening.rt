@@ -5,7 +5,9 @@ ghost use Prim.Native.Nat.{_<_};
 ghost use lib.ListN.{length};
 ghost use Rattle.integer.specs.Range.{Within};
 ghost use Rattle.row.specs.Answers.{tighteningOutcome};
-ghost use Rattle.row.specs.Tightening.{mayTighten, tightenCoefficient};
+ghost use Rattle.row.specs.Tightening.{mayTighten};
+ghost use Rattle.row.specs.Kinds.{tightenRowOf};
+ghost use Rattle.model.specs.Rows.{rowWith};
 ghost use Rattle.row.specs.ValidRow.{ValidRow};
 
 // No right side is tightened to less (01: "it is not made if the new b is under −1,000,000,000").
@@ -37,10 +39,11 @@ pub fn may_tighten(a: i32, b: i32, most: i64) -> bool
 
 // Tightens the coefficient of the free binary variable k. Where the row can be broken (most > b) but not without x_k,
 // or not with it (most − |a| < b), the coefficient shrinks to what is needed to keep the same integer points: for a > 0
-// the right side falls by as much as the coefficient, for a < 0 it stays.
+// the right side falls by as much as the coefficient, for a < 0 it stays. An = row stays.
 pub fn tighten_coefficient(
     coefs: &mut [i32],
     b: &mut i32,
+    kind: u8,
     bounds: &[i32],
     k: usize,
 ) -> CoefficientTightening
@@ -48,16 +51,18 @@ pub fn tighten_coefficient(
     requires { ⌜ k < length (now coefs) ⌝ }
     ensures answer { λ r.
         let A = now (coefs .entry) in
-        ⌜ tighteningOutcome r ≡ tightenCoefficient (length A) A (now (b .entry)) (now (bounds .entry)) k .outcome ⌝ }
+        let q = rowWith A (now (b .entry)) kind in
+        ⌜ tighteningOutcome r ≡ tightenRowOf (length A) q (now (bounds .entry)) k .outcome ⌝ }
     ensures row { λ r.
         let A = now (coefs .entry) in
-        ⌜ now (coefs .exit) ≡ tightenCoefficient (length A) A (now (b .entry)) (now (bounds .entry)) k .coefs ⌝ }
-    ensures side { λ r.
-        let A = now (coefs .entry) in
-        ⌜ now (b .exit) ≡ tightenCoefficient (length A) A (now (b .entry)) (now (bounds .entry)) k .rhs ⌝ }
+        let q = rowWith A (now (b .entry)) kind in
+        ⌜ rowWith (now (coefs .exit)) (now (b .exit)) kind ≡ tightenRowOf (length A) q (now (bounds .entry)) k .row ⌝ }
 {
     if model::is_empty(bounds) {
         return CoefficientTightening::Infeasible;
+    }
+    if kind == 1 {
+        return CoefficientTightening::Unchanged;
     }
     if coefs[k] == 0 {
         return CoefficientTightening::Unchanged;

@@ -1,14 +1,12 @@
 -- The part of a matrix that is lent as row r: what it holds, and the rows after it came back. Assumes nothing.
 use Prim.Native.Nat.{_*_, _+_, _-_, ℕ}
 use lib.IntN.{ℤ}
-use lib.ListN.{drop, length, set, take}
-use lib.Seq.{drop-drop}
+use lib.ListN.{drop, getD, length, set, take}
+use lib.Seq.{drop-drop, set-getD}
 use mathlib.Core.List.{List, _++_}
-use mathlib.Core.Path.{_≡_}
+use mathlib.Core.Path.{_∙_, _≡_, ap, sym}
 use native.Mathlib.Omega.{arith}
-use Rattle.model.specs.Rows.{rowOf, rowsOf, setRow, splice}
-use Rattle.row.specs.Outcome.{Outcome}
-use Rattle.row.specs.Tightening.{NewRow, rowLeft}
+use Rattle.model.specs.Rows.{Row, rowOf, rowWith, rowsOf, setRow, splice}
 
 pub part-is : (r n : ℕ) (C : List ℤ) → take (r * n + n - r * n) (drop (r * n) C) ≡ rowOf n C r
 unfolding rowOf
@@ -22,9 +20,12 @@ part-spliced : (C A : List ℤ) (r n : ℕ) → length A ≡ n → withPart C r 
 unfolding splice
 part-spliced C A r n e = let k : r * n + n - r * n ≡ n = omega arith in rw (k, drop-drop n (r * n) C, e)
 
--- what the rule of a call says of row r, its outcome and its new numbers, is what the call answers and leaves
-pub row-changed : (C R : List ℤ) (r n : ℕ) (p : NewRow) {o : Outcome} {A : List ℤ} {b : ℤ} → length A ≡ n
-    → (o ≡ p .outcome) × ((A ≡ p .coefs) × (b ≡ p .rhs))
-    → (o ≡ p .outcome) × (rowsOf (withPart C r n A) (set R r b) ≡ setRow n (rowsOf C R) r (rowLeft p))
-unfolding setRow
-row-changed C R r n p {o} {A} l h = (h .0, rw (part-spliced C A r n l, h .1 .0, h .1 .1))
+-- what a call leaves of row r, its coefficients, its right side and its kind, is the row q: so are the rows
+module _ (C R : List ℤ) (K : List ℕ) (r n : ℕ) {A : List ℤ} {b : ℤ} (l : length A ≡ n) where
+  pub row-changed : {kind : ℕ} {q : Row} → rowWith A b kind ≡ q → rowsOf (withPart C r n A) (set R r b) (set K r kind) ≡ setRow n (rowsOf C R K) r q
+  unfolding setRow
+  row-changed {kind} e = ap (λ (D : List ℤ). rowsOf D (set R r b) (set K r kind)) (part-spliced C A r n l) ∙ ap (setRow n (rowsOf C R K) r) e
+
+  -- the same where the kind is read only
+  pub row-changed-kept : {q : Row} → rowWith A b (getD K r 0) ≡ q → rowsOf (withPart C r n A) (set R r b) K ≡ setRow n (rowsOf C R K) r q
+  row-changed-kept e = ap (rowsOf (withPart C r n A) (set R r b)) (sym (set-getD K r 0)) ∙ row-changed e

@@ -1,4 +1,4 @@
-// Row r of a matrix that a call may change: the rule is lent its coefficients and its right side in place, and every
+// Row r of a matrix that a call may change: the rule is lent its coefficients, right side and kind in place, and every
 // other row stays as it was.
 use row::activity::maximum_activity;
 use row::redundancy::RowRemoval;
@@ -8,12 +8,10 @@ use row::tightening::tighten_coefficient;
 ghost use mathlib.Core.Path.{_≡_};
 ghost use Prim.Native.Nat.{_*_, _+_, _<_, _≤_};
 ghost use lib.ListN.{length};
-ghost use Rattle.model.specs.Box.{at};
 ghost use Rattle.model.specs.Rows.{rowAt, rowOf, rowsOf, setRow};
 ghost use Rattle.row.specs.Activity.{maxActivity};
 ghost use Rattle.row.specs.Answers.{removalOutcome, tighteningOutcome};
-ghost use Rattle.row.specs.Redundancy.{removeRowOf};
-ghost use Rattle.row.specs.Tightening.{rowLeft, tightenRowOf};
+ghost use Rattle.row.specs.Kinds.{removeRowOf, tightenRowOf};
 ghost use Rattle.row.specs.ValidRow.{ValidCoefs, ValidRow};
 ghost use Rattle.row_view.specs.RowIn.{RowIn};
 
@@ -33,24 +31,25 @@ pub fn tighten_coefficient_at(
     n: usize,
     coefs: &mut [i32],
     rhs: &mut [i32],
+    kinds: &[u8],
     r: usize,
     bounds: &[i32],
     k: usize,
 ) -> CoefficientTightening
-    requires { ⌜ RowIn n (now coefs) (now rhs) r ⌝ }
-    requires { ⌜ ValidRow n (rowOf n (now coefs) r) (at (now rhs) r) (now bounds) ⌝ }
+    requires { let A = rowsOf (now coefs) (now rhs) (now kinds) in
+        ⌜ RowIn n A r × ValidRow n (rowAt n A r .coefs) (rowAt n A r .rhs) (now bounds) ⌝ }
     requires { ⌜ k < n ⌝ }
     ensures answer { λ t.
-        let A = rowsOf (now (coefs .entry)) (now (rhs .entry)) in
+        let A = rowsOf (now (coefs .entry)) (now (rhs .entry)) (now (kinds .entry)) in
         ⌜ tighteningOutcome t ≡ tightenRowOf n (rowAt n A r) (now (bounds .entry)) k .outcome ⌝ }
     ensures left { λ t.
-        let A = rowsOf (now (coefs .entry)) (now (rhs .entry)) in
+        let A = rowsOf (now (coefs .entry)) (now (rhs .entry)) (now (kinds .entry)) in
         let new = tightenRowOf n (rowAt n A r) (now (bounds .entry)) k in
-        ⌜ rowsOf (now (coefs .exit)) (now (rhs .exit)) ≡ setRow n A r (rowLeft new) ⌝ }
+        ⌜ rowsOf (now (coefs .exit)) (now (rhs .exit)) (now (kinds .entry)) ≡ setRow n A r (new .row) ⌝ }
 {
     let start = r * n;
     let end = start + n;
-    tighten_coefficient(&mut coefs[start..end], &mut rhs[r], bounds, k)
+    tighten_coefficient(&mut coefs[start..end], &mut rhs[r], kinds[r], bounds, k)
 }
 
 // Removes row r where the box implies it (01's drop).
@@ -58,20 +57,21 @@ pub fn remove_redundant_row_at(
     n: usize,
     coefs: &mut [i32],
     rhs: &mut [i32],
+    kinds: &mut [u8],
     r: usize,
     bounds: &[i32],
 ) -> RowRemoval
-    requires { ⌜ RowIn n (now coefs) (now rhs) r ⌝ }
-    requires { ⌜ ValidRow n (rowOf n (now coefs) r) (at (now rhs) r) (now bounds) ⌝ }
+    requires { let A = rowsOf (now coefs) (now rhs) (now kinds) in
+        ⌜ RowIn n A r × ValidRow n (rowAt n A r .coefs) (rowAt n A r .rhs) (now bounds) ⌝ }
     ensures answer { λ t.
-        let A = rowsOf (now (coefs .entry)) (now (rhs .entry)) in
+        let A = rowsOf (now (coefs .entry)) (now (rhs .entry)) (now (kinds .entry)) in
         ⌜ removalOutcome t ≡ removeRowOf n (rowAt n A r) (now (bounds .entry)) .outcome ⌝ }
     ensures left { λ t.
-        let A = rowsOf (now (coefs .entry)) (now (rhs .entry)) in
+        let A = rowsOf (now (coefs .entry)) (now (rhs .entry)) (now (kinds .entry)) in
         let new = removeRowOf n (rowAt n A r) (now (bounds .entry)) in
-        ⌜ rowsOf (now (coefs .exit)) (now (rhs .exit)) ≡ setRow n A r (rowLeft new) ⌝ }
+        ⌜ rowsOf (now (coefs .exit)) (now (rhs .exit)) (now (kinds .exit)) ≡ setRow n A r (new .row) ⌝ }
 {
     let start = r * n;
     let end = start + n;
-    remove_redundant_row(&mut coefs[start..end], &mut rhs[r], bounds)
+    remove_redundant_row(&mut coefs[start..end], &mut rhs[r], &mut kinds[r], bounds)
 }

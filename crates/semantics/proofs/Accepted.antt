@@ -25,6 +25,7 @@ pub record Lent (k : Kind) (s : State) (c : Call) : Type 0 where
   pub box : c .lengths .box ≡ length (s .model .box)
   pub coefs : c .lengths .coefs ≡ length (s .model .rows .coefs)
   pub rhs : c .lengths .rhs ≡ length (s .model .rows .rhs)
+  pub kinds : c .lengths .kinds ≡ length (s .model .rows .kinds)
   pub table : T (hasTable k) → c .lengths .table ≡ length (s .table)
 
 -- a call that is lent all of the state, as the code makes it
@@ -36,6 +37,7 @@ lent-own {k} {s} {c} n m l = record {
   box = ap (λ (x : Lengths). x .box) l;
   coefs = ap (λ (x : Lengths). x .coefs) l;
   rhs = ap (λ (x : Lengths). x .rhs) l;
+  kinds = ap (λ (x : Lengths). x .kinds) l;
   table = λ _. ap (λ (x : Lengths). x .table) l;
 }
 
@@ -45,14 +47,23 @@ lent-test k s c =
     let n = eqb (c .n) (s .model .n) in let m = eqb (c .m) (s .model .m) in let B = eqb (c .lengths .box) (length (s .model .box)) in
     let C = eqb (c .lengths .coefs) (length (s .model .rows .coefs)) in let R = eqb (c .lengths .rhs) (length (s .model .rows .rhs)) in
     let t = not (hasTable k) || eqb (c .lengths .table) (length (s .table)) in
-    let d = all-three (n && m && B && C) R t
-    (both (n && m && B) C (all-three n m B (eqb-test (c .n) (s .model .n)) (eqb-test (c .m) (s .model .m)) (eqb-test (c .lengths .box) (length (s .model .box))))
-    (eqb-test (c .lengths .coefs) (length (s .model .rows .coefs))))
-    (eqb-test (c .lengths .rhs) (length (s .model .rows .rhs)))
+    let K = eqb (c .lengths .kinds) (length (s .model .rows .kinds)) in
+    let d = all-three (n && m && B && C && R) K t
+    (all-three (n && m && B) C R
+    (all-three n m B (eqb-test (c .n) (s .model .n)) (eqb-test (c .m) (s .model .m)) (eqb-test (c .lengths .box) (length (s .model .box))))
+    (eqb-test (c .lengths .coefs) (length (s .model .rows .coefs))) (eqb-test (c .lengths .rhs) (length (s .model .rows .rhs))))
+    (eqb-test (c .lengths .kinds) (length (s .model .rows .kinds)))
     (when-test (hasTable k) _ (eqb-test (c .lengths .table) (length (s .table)))) in (
-      (λ h. let l = d .0 h in
-          record { variables = l .0 .0 .0; rows = l .0 .0 .1; box = l .0 .0 .2; coefs = l .0 .1; rhs = l .1; table = l .2 }),
-      (λ l. d .1 (((l .variables, l .rows, l .box), l .coefs), l .rhs, l .table)),
+      (λ h. let l = d .0 h in record {
+        variables = l .0 .0 .0;
+        rows = l .0 .0 .1;
+        box = l .0 .0 .2;
+        coefs = l .0 .1;
+        rhs = l .0 .2;
+        kinds = l .1;
+        table = l .2;
+      }),
+      (λ l. d .1 (((l .variables, l .rows, l .box), l .coefs, l .rhs), l .kinds, l .table)),
     )
 
 -- ---- such a call's checks are those of the model, then its own

@@ -12,14 +12,14 @@ use Rattle.integer.proofs.Parts.{zarith}
 use Rattle.integer.proofs.Tests.{cond-ind, decide, or-r}
 use Rattle.model.specs.Box.{Inside, NonEmpty, at, emptyBox, isEmpty, isFree, lower, upper}
 use Rattle.model.specs.Point.{InBox}
-use Rattle.model.specs.Rows.{Rows, rowAt}
+use Rattle.model.specs.Rows.{Row, Rows, rowAt}
 use Rattle.model.specs.State.{State, withBox}
 use Rattle.model.specs.Valid.{ValidBox, ValidModel, ValidTable}
 use Rattle.model.proofs.BoxLaws.{free-lower, free-upper, inside-refl, not-in-empty}
+use Rattle.row.specs.Kinds.{propagateRowOf}
 use Rattle.row.specs.Outcome.{isChanged, isInfeasible, unchanged}
-use Rattle.row.specs.Propagation.{propagateRow, propagateRowOf}
+use Rattle.row.proofs.KindLaws.{kinded-empty, kinded-infeasible-box, kinded-monotone, kinded-nonEmpty, kinded-point, kinded-shrinks, kinded-unchanged}
 use Rattle.row.proofs.PointBox.{Inside→in, boxAt, in→Inside, lower-at, nonEmpty-at, upper-at}
-use Rattle.row.proofs.PropagationLaws.{propagate-row-empty, propagate-row-infeasible-box, propagate-row-monotone, propagate-row-nonEmpty, propagate-row-point, propagate-row-shrinks, propagate-row-unchanged}
 use Rattle.semantics.specs.Call.{Call, Kind, hasRow, hasVariable, kindOf, probing, propagation, removal, rowPropagation, tightening, unknown}
 use Rattle.semantics.specs.CallChecks.{callFault}
 use Rattle.semantics.specs.Fixpoint.{ProbedFixpoint}
@@ -52,7 +52,7 @@ step-ind s c P f p = cond-ind (eqb (callFault s c) 0) _ _ (λ (r : Performed). P
 
 pub point-probed : (s : State) (x : List ℤ) → 0 < s .model .n → PointOf s x → ProbedFixpoint (s .model .n) (s .model .m) (s .model .rows) (boxAt (s .model .n) x)
 point-probed s x h p = record {
-  fixpoint = record { nonEmpty = nonEmpty-at (s .model .n) x; same = λ i k. propagate-row-point h (p .rows i k) };
+  fixpoint = record { nonEmpty = nonEmpty-at (s .model .n) x; same = λ i k. kinded-point (rowAt (s .model .n) (s .model .rows) i) h (p .rows i k) };
   spans = λ k kn f. absurd (none k kn (free-lower (boxAt (s .model .n) x) k f) (free-upper (boxAt (s .model .n) x) k f));
 }
   where
@@ -68,27 +68,27 @@ Narrower n P B = (P ≡ emptyBox n) ⊎ (NonEmpty n P × Inside n P B)
 pub narrower-refl : {n : ℕ} {B : List ℤ} → ValidBox n B → Narrower n B B
 narrower-refl {n} {B} v = ⊎-elim (λ e. inl e) (λ p. inr (p, inside-refl n B)) (v .shape)
 
-pub propagate-row-narrower : (A : List ℤ) (b : ℤ) {n : ℕ} {B : List ℤ} → ValidBox n B → Narrower n (propagateRow n A b B .box) B
-propagate-row-narrower A b {n} {B} v = ⊎-elim
-    (λ (e : B ≡ emptyBox n). inl (rw (e, propagate-row-empty n A b)))
-    (λ p. ⊎-elim (λ t. inl (propagate-row-infeasible-box n A b B t)) (λ t. inr (propagate-row-nonEmpty A b p t, propagate-row-shrinks n A b B t))
-    (decide (isInfeasible (propagateRow n A b B .outcome))))
+pub kinded-narrower : (r : Row) {n : ℕ} {B : List ℤ} → ValidBox n B → Narrower n (propagateRowOf n r B .box) B
+kinded-narrower r {n} {B} v = ⊎-elim
+    (λ (e : B ≡ emptyBox n). inl (rw (e, kinded-empty n r)))
+    (λ p. ⊎-elim (λ t. inl (kinded-infeasible-box n r B t)) (λ t. inr (kinded-nonEmpty r p t, kinded-shrinks n r B t))
+    (decide (isInfeasible (propagateRowOf n r B .outcome))))
     (v .shape)
 
-pub propagate-row-infeasible-iff : (A : List ℤ) (b : ℤ) {n : ℕ} {B : List ℤ} → 0 < n → ValidBox n B
-    → T (isInfeasible (propagateRow n A b B .outcome)) ↔ (propagateRow n A b B .box ≡ emptyBox n)
+pub kinded-infeasible-iff : (r : Row) {n : ℕ} {B : List ℤ} → 0 < n → ValidBox n B
+    → T (isInfeasible (propagateRowOf n r B .outcome)) ↔ (propagateRowOf n r B .box ≡ emptyBox n)
 unfolding isInfeasible
-propagate-row-infeasible-iff A b {n} {B} h v = (propagate-row-infeasible-box n A b B, back (v .shape))
+kinded-infeasible-iff r {n} {B} h v = (kinded-infeasible-box n r B, back (v .shape))
   where
-    back : (B ≡ emptyBox n) ⊎ NonEmpty n B → propagateRow n A b B .box ≡ emptyBox n → T (isInfeasible (propagateRow n A b B .outcome))
-    back (inl f) e = rw (f, propagate-row-empty n A b) tt
-    back (inr p) e = ⊎-elim (λ t. t) (λ t. absurd (not-in-empty n (emptyBox n) h (rw e at (propagate-row-nonEmpty A b p t)) (inside-refl n (emptyBox n))))
-        (decide (isInfeasible (propagateRow n A b B .outcome)))
+    back : (B ≡ emptyBox n) ⊎ NonEmpty n B → propagateRowOf n r B .box ≡ emptyBox n → T (isInfeasible (propagateRowOf n r B .outcome))
+    back (inl f) e = rw (f, kinded-empty n r) tt
+    back (inr p) e = ⊎-elim (λ t. t) (λ t. absurd (not-in-empty n (emptyBox n) h (rw e at (kinded-nonEmpty r p t)) (inside-refl n (emptyBox n))))
+        (decide (isInfeasible (propagateRowOf n r B .outcome)))
 
-pub propagate-row-same : (A : List ℤ) (b : ℤ) {n : ℕ} {B : List ℤ} → ValidBox n B → propagateRow n A b B .outcome ≡ unchanged → propagateRow n A b B .box ≡ B
+pub kinded-same : (r : Row) {n : ℕ} {B : List ℤ} → ValidBox n B → propagateRowOf n r B .outcome ≡ unchanged → propagateRowOf n r B .box ≡ B
 unfolding isInfeasible isChanged
-propagate-row-same A b {n} {B} v e = ⊎-elim
-    (λ (f : B ≡ emptyBox n). rw (f, propagate-row-empty n A b)) (λ p. propagate-row-unchanged A b p (rw e tt) (rw e tt)) (v .shape)
+kinded-same r {n} {B} v e = ⊎-elim
+    (λ (f : B ≡ emptyBox n). rw (f, kinded-empty n r)) (λ p. kinded-unchanged r p (rw e tt) (rw e tt)) (v .shape)
 
 pub propagate-narrower : (budget m : ℕ) (A : Rows) {n : ℕ} {B : List ℤ} → ValidBox n B → Narrower n (propagate budget n m A B .box) B
 propagate-narrower budget m A {n} {B} v = ⊎-elim
@@ -114,8 +114,8 @@ module _ (s : State) (c : Call) where
       → Narrowed s (propagateRowOf (s .model .n) (rowAt (s .model .n) (s .model .rows) (c .row)) (s .model .box) .box) (s .table)
   unfolding hasRow
   propagate-row-narrowed a = record {
-    box = propagate-row-narrower (rowAt (s .model .n) (s .model .rows) (c .row) .coefs) (rowAt (s .model .n) (s .model .rows) (c .row) .rhs) (a .model .box);
-    keeps = λ q i. propagate-row-monotone (rowAt (s .model .n) (s .model .rows) (c .row) .coefs) (rowAt (s .model .n) (s .model .rows) (c .row) .rhs) (a .model .some)
+    box = kinded-narrower (rowAt (s .model .n) (s .model .rows) (c .row)) (a .model .box);
+    keeps = λ q i. kinded-monotone (rowAt (s .model .n) (s .model .rows) (c .row)) (a .model .some)
         (q .fixpoint .nonEmpty) (q .fixpoint .same (c .row) (a .row tt)) i;
     holds = λ _ _ i. i;
     table = λ w. w;

@@ -201,9 +201,9 @@ along-start s xs v = let e : length xs / 4 - 0 ≡ length xs / 4 = omega arith i
     record { bound = omega arith; counted = refl; start = v; valid = v; sizes = (refl, refl); runs = rw e; tallies = rw e }
 
 -- valid states of one size have buffers of the same lengths, so that a record is the same call on both
-valid-lengths : (s : State) → ValidState s → lengthsOf s ≡ record { box = 2 * s .model .n; coefs = s .model .m * s .model .n; rhs = s .model .m; table = 4 * (s .model .n * s .model .n) }
+valid-lengths : (s : State) → ValidState s → lengthsOf s ≡ record { box = 2 * s .model .n; coefs = s .model .m * s .model .n; rhs = s .model .m; kinds = s .model .m; table = 4 * (s .model .n * s .model .n) }
 unfolding lengthsOf
-valid-lengths s v = rw (v .model .box .len, v .model .coefsLen, v .model .rhsLen, v .table .len)
+valid-lengths s v = rw (v .model .box .len, v .model .coefsLen, v .model .rhsLen, v .model .kindsLen, v .table .len)
 
 same-record : {s r : State} (xs : List ℕ) (i : ℕ) → ValidState s → ValidState r → (s .model .n ≡ r .model .n) × (s .model .m ≡ r .model .m) → recordAt r xs i ≡ recordAt s xs i
 unfolding recordAt

@@ -11,20 +11,17 @@ use mathlib.Core.Path.{_∙_, _≡_, ap, refl, subst, sym}
 use native.Mathlib.Omega.{arith}
 use Rattle.integer.proofs.Parts.{zarith}
 use Rattle.integer.proofs.Tests.{T→false, T→true, and-i, and-l, and-r, bool-ext, decide, eqb-test, not-not, or-r, test-false, test-true}
-use Rattle.model.specs.Box.{Inside, NonEmpty, at, isEmpty, isFree, sameList}
-use Rattle.model.specs.Rows.{Row, Rows, rowAt, rowOf, setRow}
+use Rattle.model.specs.Box.{Inside, NonEmpty, isEmpty, isFree, sameList}
+use Rattle.model.specs.Rows.{Row, Rows, rowAt, setRow}
 use Rattle.model.specs.State.{State, withBox, withRow}
 use Rattle.model.specs.Valid.{ValidModel, ValidTable}
 use Rattle.model.proofs.BoxLaws.{free-lower, free-upper, sameList-refl, sameList→eq}
 use Rattle.model.proofs.RowsLaws.{length-rowOf, setRow-row, setRow-same}
+use Rattle.row.specs.Kinds.{ChangedRow, propagateRowOf, removeRowOf, tightenRowOf}
 use Rattle.row.specs.Outcome.{isChanged, isInfeasible}
-use Rattle.row.specs.Propagation.{propagateRow, propagateRowOf}
-use Rattle.row.specs.Redundancy.{removeRedundantRow, removeRowOf}
-use Rattle.row.specs.Tightening.{NewRow, rowLeft, tightenCoefficient, tightenRowOf}
 use Rattle.row.proofs.ImpliedBoxLaws.{valid-nonEmpty}
-use Rattle.row.proofs.PropagationLaws.{propagate-row-changed, propagate-row-feasible-ind, propagate-row-unchanged}
-use Rattle.row.proofs.RedundancyLaws.{remove-redundant-row-changed, remove-redundant-row-replaces, remove-redundant-row-unchanged}
-use Rattle.row.proofs.TighteningLaws.{tighten-coefficient-changed, tighten-coefficient-length, tighten-coefficient-unchanged}
+use Rattle.row.proofs.KindChangeLaws.{remove-kinded-changed, remove-kinded-replaces, remove-kinded-unchanged, tighten-kinded-changed, tighten-kinded-length, tighten-kinded-unchanged}
+use Rattle.row.proofs.KindLaws.{kinded-changed, kinded-feasible, kinded-unchanged}
 use Rattle.semantics.specs.Call.{Call, Kind, hasRow, hasTable, hasVariable, kindOf, probing, propagation, removal, rowPropagation, tightening}
 use Rattle.semantics.specs.CallChecks.{callFault}
 use Rattle.semantics.specs.Demand2.{ones}
@@ -68,6 +65,8 @@ unfolding sameState withBox
 same-withBox s P t = rw (
   T→true (sameList (s .model .rows .coefs) (s .model .rows .coefs)) (sameList-refl (s .model .rows .coefs)),
   T→true (sameList (s .model .rows .rhs) (s .model .rows .rhs)) (sameList-refl (s .model .rows .rhs)),
+  T→true (sameBytes (s .model .rows .kinds) (s .model .rows .kinds)) (sameBytes-refl (s .model .rows .kinds)),
+  and-true (sameList (s .model .box) P),
   and-true (sameList (s .model .box) P),
   and-true (sameList (s .model .box) P),
 )
@@ -76,8 +75,9 @@ same-box : (s : State) (P : List ℤ) → sameState s (withBox s P (s .table)) �
 same-box s P = same-withBox s P (s .table) ∙ rw (T→true (sameBytes (s .table) (s .table)) (sameBytes-refl (s .table)), and-true (sameList (s .model .box) P))
 
 -- where only row i can be
-same-withRow : (s : State) (i : ℕ) (r : Row) → let A = setRow (s .model .n) (s .model .rows) i r in
-    sameState s (withRow s i r) ≡ (sameList (s .model .rows .coefs) (A .coefs) && sameList (s .model .rows .rhs) (A .rhs))
+same-withRow : (s : State) (i : ℕ) (r : Row) → let A = s .model .rows in
+    let N = setRow (s .model .n) A i r in
+    sameState s (withRow s i r) ≡ (sameList (A .coefs) (N .coefs) && sameList (A .rhs) (N .rhs) && sameBytes (A .kinds) (N .kinds))
 unfolding sameState withRow
 same-withRow s i r = rw (
   T→true (sameList (s .model .box) (s .model .box)) (sameList-refl (s .model .box)),
@@ -93,29 +93,31 @@ sameList-is a b false f g = test-false (sameList a b) (same-test a b) (g tt)
 
 -- ---- what each rule changes, by its answer
 
+-- row i of the same lists
+rowAt-same : (n i : ℕ) (A N : Rows) → A .coefs ≡ N .coefs → A .rhs ≡ N .rhs → A .kinds ≡ N .kinds → rowAt n N i ≡ rowAt n A i
+rowAt-same n i A N e f g = rw (e, f, g)
+
 -- row i becomes what a rule left of it
-row-same : (s : State) (i : ℕ) (q : NewRow) → ValidModel (s .model) → i < s .model .m → length (q .coefs) ≡ s .model .n
+row-same : (s : State) (i : ℕ) (q : ChangedRow) → ValidModel (s .model) → i < s .model .m → length (q .row .coefs) ≡ s .model .n
     → let old = rowAt (s .model .n) (s .model .rows) i in
-    (T (not (isChanged (q .outcome))) → (q .coefs ≡ old .coefs) × (q .rhs ≡ old .rhs))
-    → (T (isChanged (q .outcome)) → q .coefs ≡ old .coefs → q .rhs ≡ old .rhs → ⊥)
-    → sameState s (withRow s i (rowLeft q)) ≡ not (isChanged (q .outcome))
+    (T (not (isChanged (q .outcome))) → q .row ≡ old) → (T (isChanged (q .outcome)) → q .row ≢ old)
+    → sameState s (withRow s i (q .row)) ≡ not (isChanged (q .outcome))
 row-same s i q v im len stays moves =
     let n = s .model .n in
     let A = s .model .rows in
-    let N = setRow n A i (rowLeft q) in
+    let N = setRow n A i (q .row) in
     let C = sameList (A .coefs) (N .coefs) in
     let R = sameList (A .rhs) (N .rhs) in
-    same-withRow s i (rowLeft q) ∙ bool-ext (C && R) (not (isChanged (q .outcome)))
-    (λ t. let e = sameList→eq (A .coefs) (N .coefs) (and-l C R t) in
-    let f = sameList→eq (A .rhs) (N .rhs) (and-r C R t) in
-    let new = setRow-row n (s .model .m) A i (rowLeft q) (v .coefsLen) (v .rhsLen) im len in
+    let K = sameBytes (A .kinds) (N .kinds) in
+    same-withRow s i (q .row) ∙ bool-ext (C && R && K) (not (isChanged (q .outcome)))
+    (λ t. let u = and-l (C && R) K t in
+    let same = rowAt-same n i A N (sameList→eq (A .coefs) (N .coefs) (and-l C R u)) (sameList→eq (A .rhs) (N .rhs) (and-r C R u))
+    (sameBytes→eq (A .kinds) (N .kinds) (and-r (C && R) K t)) in
     ⊎-elim
-    (λ u. absurd (moves u
-    (sym (ap (λ (r : Row). r .coefs) new) ∙ ap (λ (z : List ℤ). rowOf n z i) (sym e))
-    (sym (ap (λ (r : Row). r .rhs) new) ∙ ap (λ (z : List ℤ). at z i) (sym f))))
-    (λ u. u) (decide (isChanged (q .outcome))))
-    (λ t. let h = stays t in
-    rw (setRow-same n A i (rowLeft q) (h .0) (h .1)) (and-i (sameList (A .coefs) (A .coefs)) _ (sameList-refl (A .coefs)) (sameList-refl (A .rhs))))
+    (λ w. absurd (moves w (sym (setRow-row n (s .model .m) A i (q .row) (v .coefsLen) (v .rhsLen) (v .kindsLen) im len) ∙ same)))
+    (λ w. w) (decide (isChanged (q .outcome))))
+    (λ t. rw (setRow-same n A i (q .row) (stays t)) (and-i (sameList (A .coefs) (A .coefs) && sameList (A .rhs) (A .rhs)) _
+    (and-i (sameList (A .coefs) (A .coefs)) _ (sameList-refl (A .coefs)) (sameList-refl (A .rhs))) (sameBytes-refl (A .kinds))))
 
 -- a settle leaves the box exactly where it moved nothing
 propagate-same : (n m : ℕ) (A : Rows) (budget : ℕ) {B : List ℤ} → NonEmpty n B → let r = propagate budget n m A B in
@@ -187,14 +189,12 @@ module _ (s : State) (c : Call) (e : callFault s c ≡ 0) where
       classOf s c ≡ classBy (isInfeasible o) (not (isChanged o))
   unfolding act answersNone isRefused
   propagate-row-class q =
-      let A = rowOf (s .model .n) (s .model .rows .coefs) (c .row) in
-      let b = at (s .model .rows .rhs) (c .row) in
-      let r = propagateRow (s .model .n) A b (s .model .box) in
+      let old = rowAt (s .model .n) (s .model .rows) (c .row) in
+      let r = propagateRowOf (s .model .n) old (s .model .box) in
       class-of rowPropagation q tt ∙ class-is (isInfeasible (r .outcome)) (λ f.
-      let p = valid-nonEmpty (accepted-kind rowPropagation q .model .box)
-      (propagate-row-feasible-ind (s .model .n) A b (s .model .box) (λ _. T (not (isEmpty (s .model .n) (s .model .box)))) (λ t _. t) f) in
+      let p = valid-nonEmpty (accepted-kind rowPropagation q .model .box) (kinded-feasible (s .model .n) old (s .model .box) f) in
       same-box s (r .box) ∙ sameList-is (s .model .box) (r .box) (not (isChanged (r .outcome)))
-      (λ t. propagate-row-unchanged A b p f t) (λ t. propagate-row-changed A b p (not-not (isChanged (r .outcome)) t)))
+      (λ t. kinded-unchanged old p f t) (λ t. kinded-changed old p (not-not (isChanged (r .outcome)) t)))
 
   pub propagate-class : kindOf (c .kind) ≡ propagation → let r = propagate (c .budget) (s .model .n) (s .model .m) (s .model .rows) (s .model .box) in
       classOf s c ≡ classBy (isNone (r .ending)) (eqb (r .moved) 0)
@@ -223,14 +223,13 @@ module _ (s : State) (c : Call) (e : callFault s c ≡ 0) where
   unfolding act answersNone isRefused hasRow hasVariable
   tighten-class q =
       let a = accepted-kind tightening q in
-      let A = rowOf (s .model .n) (s .model .rows .coefs) (c .row) in
-      let b = at (s .model .rows .rhs) (c .row) in
-      let r = tightenCoefficient (s .model .n) A b (s .model .box) (c .variable) in
+      let old = rowAt (s .model .n) (s .model .rows) (c .row) in
+      let r = tightenRowOf (s .model .n) old (s .model .box) (c .variable) in
       let len = length-rowOf (s .model .n) (s .model .m) (s .model .rows .coefs) (c .row) (a .model .coefsLen) (a .row tt) in
       class-of tightening q tt ∙ class-is (isInfeasible (r .outcome)) (λ _.
-      row-same s (c .row) r (a .model) (a .row tt) (tighten-coefficient-length (s .model .n) A b (s .model .box) (c .variable) ∙ len)
-      (tighten-coefficient-unchanged (s .model .n) A b (s .model .box) (c .variable))
-      (λ t f _. tighten-coefficient-changed (s .model .n) A b (s .model .box) (c .variable) (omega (arith, a .variable tt)) t f))
+      row-same s (c .row) r (a .model) (a .row tt) (tighten-kinded-length (s .model .n) old (s .model .box) (c .variable) ∙ len)
+      (tighten-kinded-unchanged (s .model .n) old (s .model .box) (c .variable))
+      (tighten-kinded-changed (s .model .n) old (s .model .box) (c .variable) (omega (arith, a .variable tt))))
 
   pub remove-class : kindOf (c .kind) ≡ removal
       → let o = removeRowOf (s .model .n) (rowAt (s .model .n) (s .model .rows) (c .row)) (s .model .box) .outcome in
@@ -238,13 +237,12 @@ module _ (s : State) (c : Call) (e : callFault s c ≡ 0) where
   unfolding act answersNone isRefused hasRow
   remove-class q =
       let a = accepted-kind removal q in
-      let A = rowOf (s .model .n) (s .model .rows .coefs) (c .row) in
-      let b = at (s .model .rows .rhs) (c .row) in
-      let r = removeRedundantRow (s .model .n) A b (s .model .box) in
+      let old = rowAt (s .model .n) (s .model .rows) (c .row) in
+      let r = removeRowOf (s .model .n) old (s .model .box) in
       let len = length-rowOf (s .model .n) (s .model .m) (s .model .rows .coefs) (c .row) (a .model .coefsLen) (a .row tt) in
       class-of removal q tt ∙ class-is (isInfeasible (r .outcome)) (λ _.
-      row-same s (c .row) r (a .model) (a .row tt) (remove-redundant-row-replaces (s .model .n) A b (s .model .box) len .len)
-      (remove-redundant-row-unchanged (s .model .n) A b (s .model .box)) (remove-redundant-row-changed (s .model .n) A b (s .model .box)))
+      row-same s (c .row) r (a .model) (a .row tt) (remove-kinded-replaces (s .model .n) old (s .model .box) len .len)
+      (remove-kinded-unchanged (s .model .n) old (s .model .box)) (remove-kinded-changed (s .model .n) old (s .model .box)))
 
 -- ---- a refused call
 

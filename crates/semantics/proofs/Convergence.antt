@@ -21,9 +21,11 @@ use Rattle.model.specs.State.{State}
 use Rattle.model.specs.Valid.{ValidModel}
 use Rattle.model.proofs.BoxLaws.{empty-is, inside-antisymm, inside-refl, inside-trans, isEmpty→eq, nonEmpty-isn't, not-in-empty, sameList-refl, sameList→eq}
 use Rattle.model.proofs.CheckLaws.{model-width}
+use Rattle.row.specs.Kinds.{propagateRowOf}
 use Rattle.row.specs.Outcome.{isChanged, isInfeasible}
-use Rattle.row.specs.Propagation.{PropagatedRow, propagateRowOf}
-use Rattle.row.proofs.PropagationLaws.{box→stable, propagate-row-moved-none, propagate-row-unchanged, stable→same}
+use Rattle.row.specs.Propagation.{PropagatedRow}
+use Rattle.row.proofs.KindLaws.{kinded-stays, kinded-unchanged}
+use Rattle.row.proofs.KindMovedLaws.{kinded-moved-none}
 use Rattle.row.proofs.Width.{width-mono, width-nonneg}
 use Rattle.semantics.specs.CallChecks.{maxBudget}
 use Rattle.semantics.specs.Convergence.{Ends, EnoughPasses, LargestBudget, MovedLimit, NothingMoves, RestInOwnWords, RestIsTested, UniqueGreatest}
@@ -51,7 +53,7 @@ pass-stays (suc i) A {n} {B} p =
         → (j < i → propagateRowOf n (rowAt n A j) B .box ≡ B) → propagateRowOf n (rowAt n A j) B .box ≡ B
     last t u e j h (yes q) r =
         rw q (subst (λ (c : List ℤ). propagateRowOf n (rowAt n A i) c .box ≡ c) (pass-moved-none A p i t (omega arith))
-        (propagate-row-moved-none (rowAt n A i .coefs) (rowAt n A i .rhs) (pass-nonEmpty A i p t) u (omega arith)))
+        (kinded-moved-none (rowAt n A i) (pass-nonEmpty A i p t) u (omega arith)))
     last t u e j h (no ne) r = r (omega arith)
 
 -- ---- a budget above the width is enough
@@ -242,7 +244,7 @@ module _ (s : State) (v : ValidModel (s .model)) where
   rest→nothing-moves : ProbedFixpoint (s .model .n) (s .model .m) (s .model .rows) (s .model .box) → NothingMoves s
   rest→nothing-moves q = let p = q .fixpoint .nonEmpty in record {
     nonEmpty = p;
-    rowsLeave = λ i im. ap (λ (r : PropagatedRow). r .outcome) (stable→same (v .some) p (box→stable (v .some) p (q .fixpoint .same i im)));
+    rowsLeave = λ i im. ap (λ (r : PropagatedRow). r .outcome) (kinded-stays (rowAt (s .model .n) (s .model .rows) i) (v .some) p (q .fixpoint .same i im));
     bothSides = λ k kn f. both-rest p k f .1 (q .spans k kn f) .0;
     probesLeave = λ k kn f. both-rest p k f .1 (q .spans k kn f) .1;
   }
@@ -252,7 +254,7 @@ module _ (s : State) (v : ValidModel (s .model)) where
   nothing-moves→rest q = let p = q .nonEmpty in record {
     fixpoint = record {
       nonEmpty = p;
-      same = λ i im. propagate-row-unchanged (rowAt (s .model .n) (s .model .rows) i .coefs) (rowAt (s .model .n) (s .model .rows) i .rhs) p (rw (q .rowsLeave i im) tt) (rw (q .rowsLeave i im) tt);
+      same = λ i im. kinded-unchanged (rowAt (s .model .n) (s .model .rows) i) p (rw (q .rowsLeave i im) tt) (rw (q .rowsLeave i im) tt);
     };
     spans = λ k kn f. both-rest p k f .0 (q .bothSides k kn f, q .probesLeave k kn f);
   }

@@ -5,19 +5,20 @@ use Rattle.integer.specs.Index.{all, sum}
 use Rattle.integer.specs.Order.{eqZ, maxZ, minZ}
 use Rattle.model.specs.Box.{boxOf, emptyBox, isEmpty, isFree, sameList}
 use Rattle.model.specs.Checks.{bits, boxChecks, first, inRange, lengthChecks, modelChecks, modelFault, narrow, numberChecks, ordered, sizeChecks, tableByteChecks, tableLengthChecks}
-use Rattle.model.specs.Rows.{rowOf, setRow, splice}
+use Rattle.model.specs.Rows.{isEquality, negated, negatedCoefs, rowOf, setRow, splice}
 use Rattle.model.specs.State.{stateOf, withBox, withRow}
 use Rattle.row.specs.Activity.{maxActivity, maxTerm, minActivity, minTerm}
+use Rattle.row.specs.Kinds.{andThen, propagateRowOf, removeRowOf, tightenRowOf}
 use Rattle.row.specs.Moved.{differs, movedBounds}
-use Rattle.row.specs.Outcome.{isInfeasible}
+use Rattle.row.specs.Outcome.{isChanged, isInfeasible}
 use Rattle.row.specs.Propagation.{impliedBox, newLower, newUpper, propagateRow, stays}
 use Rattle.row.specs.Redundancy.{removeRedundantRow, zeroRow}
 use Rattle.row.specs.Tightening.{tightenAt, tightenCoefficient}
-use Rattle.semantics.specs.Books.{AllHold, boxed, callOn, fresh, kept, probeCall as probeCall, propagateCall, propagateRowCall, removeCall, rowed, tightenCall}
+use Rattle.semantics.specs.Books.{AllHold, boxed, callOn, fresh, freshKinds, kept, probeCall as probeCall, propagateCall, propagateRowCall, removeCall, rowed, tightenCall}
 use Rattle.semantics.specs.Call.{hasBudget, hasRow, hasTable, hasVariable, isUnknown, kindOf, lengthsOf}
 use Rattle.semantics.specs.CallChecks.{callChecks, callFault, givenModel, isLent, lentTable, recordChecks}
 use Rattle.semantics.specs.CallList.{callsMade, listChecks, listFault, recordAt, recordsFrom, recordsOf, runList}
-use Rattle.semantics.specs.Corners.{alike, corners, deep, either, emptied, falling, laterNone, listed, neither, spentSide, twice, unlent, unspent, wide, withLengths, withSizes}
+use Rattle.semantics.specs.Corners.{alike, corners, deep, doubled, doubledForms, either, emptied, exact, exactPair, falling, laterNone, listed, neither, ofKind, spentSide, twice, unlent, unspent, wide, withLengths, withSizes}
 use Rattle.semantics.specs.Perform.{act, perform}
 use Rattle.semantics.specs.Probe.{byteOf, fix, hull, implies, isFixed, joinSides, literal, probe, put, recordSide, recordTo, sideOf}
 use Rattle.semantics.specs.Propagate.{isNone, isSpent, passRow, passTo, propagate, propagateFrom}
@@ -26,5 +27,5 @@ use Rattle.semantics.specs.Run.{answersNone, classOf, countCall, isRefus
 use Rattle.semantics.specs.WorkedBooks.{binary2, empty2, pair, single}
 
 pub corners-hold : AllHold corners
-unfolding corners alike deep either emptied listed neither spentSide unlent unspent wide callsMade listChecks listFault recordAt recordsFrom recordsOf runList run withLengths withSizes modelChecks modelFault restFault answersNone classOf countCall isRefused noCounts probeInfeasible sameBytes sameState tally binary2 empty2 pair single boxed callOn removeCall kept fresh probeCall rowed propagateCall tightenCall propagateRowCall callChecks callFault givenModel isLent lentTable recordChecks act perform byteOf fix hull implies isFixed joinSides literal probe put recordSide recordTo sideOf isNone isSpent passRow passTo propagate propagateFrom isFixpoint isProbingFixpoint sidesSpan step hasBudget hasRow hasTable hasVariable isUnknown kindOf lengthsOf stateOf splice setRow withBox withRow isInfeasible impliedBox newLower newUpper propagateRow stays removeRedundantRow zeroRow tightenAt tightenCoefficient maxActivity maxTerm minActivity minTerm rowOf bits first inRange lengthChecks boxChecks narrow numberChecks ordered sizeChecks tableByteChecks tableLengthChecks boxOf emptyBox isEmpty isFree sameList eqZ maxZ minZ all sum ceilDiv floorDiv falling laterNone twice differs movedBounds
-corners-hold = (refl, (refl, (refl, (refl, (refl, (refl, (refl, (refl, (refl, (refl, (refl, (refl, (refl, (refl, (refl, (refl, (refl, (refl, (refl, (refl, (refl, (refl, (refl, (refl, (refl, (refl, (refl, (refl, (refl, (refl, (refl, (refl, (refl, (refl, (refl, (refl, (refl, (refl, (refl, (refl, (refl, (refl, (refl, (refl, (refl, (refl, (refl, (refl, (refl, (refl, (refl, (refl, (refl, (refl, (refl, (refl, (refl, (refl, (refl, (refl, (refl, (refl, (refl, (refl, (refl, (refl, (refl, (refl, (refl, (refl, (refl, (refl, (refl, (refl, (refl, (refl, (refl, (refl, (refl, (refl, (refl, (refl, (refl, (refl, (refl, (refl, (refl, (refl, (refl, (refl, (refl, (refl, (refl, (refl, (refl, (refl, (refl, (refl, (refl, (refl, (refl, (refl, (refl, (refl, (refl, (refl, (refl, (refl, (refl, (refl, (refl, (refl, (refl, (refl, (refl, tt)))))))))))))))))))))))))))))))))))))))))))))))))))))))))))))))))))))))))))))))))))))))))))))))))))))))))))))))))))
+unfolding corners alike deep doubled doubledForms either emptied exact exactPair listed neither ofKind spentSide unlent unspent wide callsMade listChecks listFault recordAt recordsFrom recordsOf runList run withLengths withSizes modelChecks modelFault restFault answersNone classOf countCall isRefused noCounts probeInfeasible sameBytes sameState tally binary2 empty2 pair single boxed callOn removeCall kept fresh freshKinds probeCall rowed propagateCall tightenCall propagateRowCall callChecks callFault givenModel isLent lentTable recordChecks act perform byteOf fix hull implies isFixed joinSides literal probe put recordSide recordTo sideOf isNone isSpent passRow passTo propagate propagateFrom isFixpoint isProbingFixpoint sidesSpan step hasBudget hasRow hasTable hasVariable isUnknown kindOf lengthsOf stateOf splice setRow withBox withRow isInfeasible impliedBox newLower newUpper propagateRow stays removeRedundantRow zeroRow tightenAt tightenCoefficient maxActivity maxTerm minActivity minTerm rowOf bits first inRange lengthChecks boxChecks narrow numberChecks ordered sizeChecks tableByteChecks tableLengthChecks boxOf emptyBox isEmpty isFree sameList eqZ maxZ minZ all sum ceilDiv floorDiv falling laterNone twice differs movedBounds isEquality negated negatedCoefs andThen propagateRowOf removeRowOf tightenRowOf isChanged
+corners-hold = (refl, (refl, (refl, (refl, (refl, (refl, (refl, (refl, (refl, (refl, (refl, (refl, (refl, (refl, (refl, (refl, (refl, (refl, (refl, (refl, (refl, (refl, (refl, (refl, (refl, (refl, (refl, (refl, (refl, (refl, (refl, (refl, (refl, (refl, (refl, (refl, (refl, (refl, (refl, (refl, (refl, (refl, (refl, (refl, (refl, (refl, (refl, (refl, (refl, (refl, (refl, (refl, (refl, (refl, (refl, (refl, (refl, (refl, (refl, (refl, (refl, (refl, (refl, (refl, (refl, (refl, (refl, (refl, (refl, (refl, (refl, (refl, (refl, (refl, (refl, (refl, (refl, (refl, (refl, (refl, (refl, (refl, (refl, (refl, (refl, (refl, (refl, (refl, (refl, (refl, (refl, (refl, (refl, (refl, (refl, (refl, (refl, (refl, (refl, (refl, (refl, (refl, (refl, (refl, (refl, (refl, (refl, (refl, (refl, (refl, (refl, (refl, (refl, (refl, (refl, (refl, (refl, (refl, (refl, (refl, (refl, (refl, (refl, (refl, (refl, (refl, (refl, (refl, (refl, (refl, (refl, (refl, (refl, (refl, (refl, (refl, (refl, (refl, (refl, (refl, (refl, (refl, (refl, (refl, (refl, (refl, (refl, (refl, (refl, (refl, (refl, (refl, tt))))))))))))))))))))))))))))))))))))))))))))))))))))))))))))))))))))))))))))))))))))))))))))))))))))))))))))))))))))))))))))))))))))))))))))))))))))))))

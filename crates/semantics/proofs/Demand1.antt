@@ -33,7 +33,8 @@ use Rattle.semantics.proofs.Accepted.{accepted, lent-test}
 abbrev flatChecks : Kind → State → Call → List Check
 flatChecks k s c =
     must (leb 1 (c .n) && leb (c .n) maxVariables && leb (c .m) maxRows) 3
-    ∷ must (eqb (length (s .model .box)) (2 * c .n) && eqb (length (s .model .rows .coefs)) (c .m * c .n) && eqb (length (s .model .rows .rhs)) (c .m)) 5
+    ∷ must (eqb (length (s .model .box)) (2 * c .n) && eqb (length (s .model .rows .coefs)) (c .m * c .n) && eqb (length (s .model .rows .rhs)) (c .m)
+    && eqb (length (s .model .rows .kinds)) (c .m)) 5
     ∷ must (not (hasTable k) || eqb (length (s .table)) (4 * (c .n * c .n))) 5
     ∷ must (isLent k s c) 5
     ∷ must (inRange minBound maxBound (s .model .box)) 6
@@ -41,6 +42,7 @@ flatChecks k s c =
     ∷ must (narrow (s .model .box)) 23
     ∷ must (inRange minCoef maxCoef (s .model .rows .coefs)) 8
     ∷ must (inRange minRhs maxRhs (s .model .rows .rhs)) 9
+    ∷ must (bits (s .model .rows .kinds)) 16
     ∷ must (not (hasTable k) || bits (s .table)) 10
     ∷ must (not (isUnknown k)) 11
     ∷ must (not (hasRow k) || ltb (c .row) (s .model .m)) 12
@@ -59,7 +61,8 @@ flat removal s c = refl
 flat unknown s c = refl
 
 lengths-test : (s : State) (c : Call)
-    → (T (eqb (length (s .model .box)) (2 * c .n) && eqb (length (s .model .rows .coefs)) (c .m * c .n) && eqb (length (s .model .rows .rhs)) (c .m))
+    → (T (eqb (length (s .model .box)) (2 * c .n) && eqb (length (s .model .rows .coefs)) (c .m * c .n) && eqb (length (s .model .rows .rhs)) (c .m)
+    && eqb (length (s .model .rows .kinds)) (c .m))
     × T (not (hasTable (kindOf (c .kind))) || eqb (length (s .table)) (4 * (c .n * c .n)))
     × T (isLent (kindOf (c .kind)) s c))
     ↔ LengthsFit s c
@@ -75,12 +78,21 @@ lengths-test s c =
         box = (a .box, b .0);
         coefs = (a .coefs, b .1);
         rhs = (a .rhs, b .2);
+        kinds = (a .kinds, b .3);
         table = λ x. (a .table x, t .0 (h .1) x);
       }),
       (λ f. (
-        d .1 (f .box .1, f .coefs .1, f .rhs .1),
+        d .1 (f .box .1, f .coefs .1, f .rhs .1, f .kinds .1),
         t .1 (λ x. f .table x .1),
-        l .1 (record { variables = f .variables; rows = f .rows; box = f .box .0; coefs = f .coefs .0; rhs = f .rhs .0; table = λ x. f .table x .0 }),
+        l .1 (record {
+          variables = f .variables;
+          rows = f .rows;
+          box = f .box .0;
+          coefs = f .coefs .0;
+          rhs = f .rhs .0;
+          kinds = f .kinds .0;
+          table = λ x. f .table x .0;
+        }),
       )),
     )
 
@@ -120,6 +132,7 @@ passes-test N s c =
     let t23 = narrow-test (s .model .box) in
     let t8 = inRange-test minCoef maxCoef (s .model .rows .coefs) in
     let t9 = inRange-test minRhs maxRhs (s .model .rows .rhs) in
+    let t16 = bits-test (s .model .rows .kinds) in
     let t10 = when-test (hasTable k) _ (bits-test (s .table)) in
     let t11 = kind-test (c .kind) in
     let t12 = when-test (hasRow k) _ (ltb-test (c .row) (s .model .m)) in
@@ -127,7 +140,7 @@ passes-test N s c =
     let t14 = when-test (hasVariable k) _
     (or-test (isEmpty (s .model .n) (s .model .box)) (isFree (s .model .box) (c .variable)) (isEmpty-test (s .model .n) (s .model .box)) ((λ t. t), (λ t. t))) in
     let t15 = when-test (hasBudget k) _ (both (leb 1 (c .budget)) (leb (c .budget) maxBudget) (leb-test 1 (c .budget)) (leb-test (c .budget) maxBudget)) in (
-      (λ (p3, (p5, (p5′, (p5″, (p6, (p7, (p23, (p8, (p9, (p10, (p11, (p12, (p13, (p14, (p15, u))))))))))))))). record {
+      (λ (p3, (p5, (p5′, (p5″, (p6, (p7, (p23, (p8, (p9, (p16, (p10, (p11, (p12, (p13, (p14, (p15, u)))))))))))))))). record {
         check3 = λ e. t3 .0 (p3 e);
         check5 = λ e. t5 .0 (p5 e, p5′ e, p5″ e);
         check6 = λ e. t6 .0 (p6 e);
@@ -135,6 +148,7 @@ passes-test N s c =
         check23 = λ e. t23 .0 (p23 e);
         check8 = λ e. t8 .0 (p8 e);
         check9 = λ e. t9 .0 (p9 e);
+        check16 = λ e. t16 .0 (p16 e);
         check10 = λ e. t10 .0 (p10 e);
         check11 = λ e. t11 .0 (p11 e);
         check12 = λ e. t12 .0 (p12 e);
@@ -145,8 +159,8 @@ passes-test N s c =
       (λ q. also (λ e. t3 .1 (q .check3 e))
           (also (λ e. t5 .1 (q .check5 e) .0) (also (λ e. t5 .1 (q .check5 e) .1) (also (λ e. t5 .1 (q .check5 e) .2)
           (also (λ e. t6 .1 (q .check6 e)) (also (λ e. t7 .1 (q .check7 e)) (also (λ e. t23 .1 (q .check23 e)) (also (λ e. t8 .1 (q .check8 e)) (also (λ e. t9 .1 (q .check9 e))
-          (also (λ e. t10 .1 (q .check10 e)) (also (λ e. t11 .1 (q .check11 e)) (also (λ e. t12 .1 (q .check12 e)) (also (λ e. t13 .1 (q .check13 e))
-          (also (λ e. t14 .1 (q .check14 e)) (also (λ e. t15 .1 (q .check15 e)) tt))))))))))))))),
+          (also (λ e. t16 .1 (q .check16 e)) (also (λ e. t10 .1 (q .check10 e)) (also (λ e. t11 .1 (q .check11 e)) (also (λ e. t12 .1 (q .check12 e)) (also (λ e. t13 .1 (q .check13 e))
+          (also (λ e. t14 .1 (q .check14 e)) (also (λ e. t15 .1 (q .check15 e)) tt)))))))))))))))),
     )
 
 -- ---- the number of the first check that fails

@@ -9,17 +9,18 @@ use mathlib.Core.Path.{_≡_, ap, refl, subst, sym}
 use Rattle.model.specs.Box.{NonEmpty, at, emptyBox, isEmpty}
 use Rattle.model.specs.Model.{Model}
 use Rattle.model.specs.Point.{IntegerPoint}
-use Rattle.model.specs.Rows.{Rows, rowAt}
+use Rattle.model.specs.Rows.{Row, Rows, rowAt}
 use Rattle.model.specs.State.{State, withBox, withRow}
 use Rattle.model.specs.Valid.{ValidBox}
 use Rattle.model.proofs.BoxLaws.{isEmpty-test, not-in-empty}
+use Rattle.row.specs.Kinds.{propagateRowOf}
 use Rattle.row.specs.Outcome.{Outcome, changed, infeasible as infeasibleRow, isChanged, isInfeasible, isUnchanged, unchanged}
-use Rattle.row.specs.Propagation.{propagateRow}
 use Rattle.row.proofs.ImpliedBoxLaws.{valid-nonEmpty}
+use Rattle.row.proofs.KindChangeLaws.{remove-kinded-infeasible, remove-kinded-unchanged, tighten-kinded-infeasible, tighten-kinded-unchanged}
+use Rattle.row.proofs.KindLaws.{kinded-feasible, kinded-infeasible-moved, kinded-moved}
+use Rattle.row.proofs.KindMovedLaws.{kinded-moved-le, kinded-moved-some, kinded-still-moved}
 use Rattle.row.proofs.PointBox.{boxAt, in→Inside, nonEmpty-at}
-use Rattle.row.proofs.PropagationLaws.{changed-feasible, propagate-row-feasible-ind, propagate-row-infeasible-moved, propagate-row-moved, propagate-row-moved-le, propagate-row-moved-some, propagate-row-still-moved}
-use Rattle.row.proofs.RedundancyLaws.{remove-redundant-row-infeasible, remove-redundant-row-unchanged}
-use Rattle.row.proofs.TighteningLaws.{tighten-coefficient-infeasible, tighten-coefficient-unchanged}
+use Rattle.row.proofs.PropagationLaws.{changed-feasible}
 use Rattle.semantics.specs.Call.{Call, Kind, hasBudget, hasRow, hasTable, hasVariable, isUnknown, kindOf, probing, propagation, removal, rowPropagation, tightening, unknown}
 use Rattle.semantics.specs.CallChecks.{callFault}
 use Rattle.semantics.specs.Demand2.{AnswersSame, Demand2, Demand2Runs, PassesWithin, RowMoved, SideMoved, SumMoved, Untouched, ones}
@@ -28,7 +29,7 @@ use Rattle.semantics.specs.Probe.{ProbeEnding, Probed, bothFeasible, fix
 use Rattle.semantics.specs.Propagate.{isNone, propagate}
 use Rattle.semantics.specs.Run.{answersNone, step}
 use Rattle.semantics.proofs.Accepted.{Accepted, accepted}
-use Rattle.semantics.proofs.CallLaws.{perform-accepted, propagate-row-infeasible-iff, propagate-row-same}
+use Rattle.semantics.proofs.CallLaws.{kinded-infeasible-iff, kinded-same, perform-accepted}
 use Rattle.semantics.proofs.ImplicationLaws.{recordTo-added}
 use Rattle.semantics.proofs.Preserved.{run-preserves, step-preserves}
 use Rattle.semantics.proofs.ProbeLaws.{fix-nonEmpty, probe-empty, probe-ind, probe-infeasible-iff, probe-passes0, probe-passes1, probe-side0, probe-side1}
@@ -39,14 +40,14 @@ use Rattle.semantics.proofs.RowChange.{removal-untouched, tightening-un
 
 act-none : (k : Kind) (s : State) (c : Call) → Accepted k s c → T (answersNone (act k s c .answer)) ↔ (act k s c .state .model .box ≡ emptyBox (s .model .n))
 unfolding act answersNone withBox withRow isUnknown hasVariable
-act-none rowPropagation s c a = propagate-row-infeasible-iff (rowAt (s .model .n) (s .model .rows) (c .row) .coefs) (rowAt (s .model .n) (s .model .rows) (c .row) .rhs) (a .model .some) (a .model .box)
+act-none rowPropagation s c a = kinded-infeasible-iff (rowAt (s .model .n) (s .model .rows) (c .row)) (a .model .some) (a .model .box)
 act-none propagation s c a = propagate-infeasible-iff (c .budget) (s .model .m) (s .model .rows) (a .model .some) (a .model .box)
 act-none probing s c a =
     probe-infeasible-iff (c .variable) (c .budget) (s .model .m) (s .model .rows) (s .table) (a .free tt) (a .model .some) (a .model .box)
 act-none tightening s c a =
-    rw (tighten-coefficient-infeasible (s .model .n) (rowAt (s .model .n) (s .model .rows) (c .row) .coefs) (rowAt (s .model .n) (s .model .rows) (c .row) .rhs) (s .model .box) (c .variable)) (isEmpty-test (s .model .n) (s .model .box))
+    rw (tighten-kinded-infeasible (s .model .n) (rowAt (s .model .n) (s .model .rows) (c .row)) (s .model .box) (c .variable)) (isEmpty-test (s .model .n) (s .model .box))
 act-none removal s c a =
-    rw (remove-redundant-row-infeasible (s .model .n) (rowAt (s .model .n) (s .model .rows) (c .row) .coefs) (rowAt (s .model .n) (s .model .rows) (c .row) .rhs) (s .model .box)) (isEmpty-test (s .model .n) (s .model .box))
+    rw (remove-kinded-infeasible (s .model .n) (rowAt (s .model .n) (s .model .rows) (c .row)) (s .model .box)) (isEmpty-test (s .model .n) (s .model .box))
 act-none unknown s c a = absurd (a .kind)
 
 pub no-point : {M : Model} {x : List ℤ} → 0 < M .n → M .box ≡ emptyBox (M .n) → IntegerPoint M x → ⊥
@@ -55,17 +56,17 @@ no-point {M} {x} h e p = not-in-empty (M .n) (boxAt (M .n) x) h (nonEmpty-at (M 
 -- ---- how many bounds moved
 
 -- of a visit
-row-moved : (A : List ℤ) (b : ℤ) {n : ℕ} {B : List ℤ} → ValidBox n B → let r = propagateRow n A b B in RowMoved n B (r .box) (r .outcome) (r .moved)
+row-moved : (r : Row) {n : ℕ} {B : List ℤ} → ValidBox n B → let w = propagateRowOf n r B in RowMoved n r B (w .box) (w .outcome) (w .moved)
 unfolding isUnchanged isInfeasible isChanged
-row-moved A b {n} {B} v = record {
-  narrowed = λ t. (propagate-row-moved-some A b (found (changed-feasible (propagateRow n A b B .outcome) t)) t, propagate-row-moved-le n A b B);
-  differing = propagate-row-moved n A b B;
-  none = propagate-row-infeasible-moved n A b B;
-  same = λ t. let f = unchanged-is (propagateRow n A b B .outcome) t in propagate-row-still-moved A b (found (f .0)) (f .0) (f .1);
+row-moved r {n} {B} v = record {
+  narrowed = λ t. (kinded-moved-some r (found (changed-feasible (propagateRowOf n r B .outcome) t)) t, kinded-moved-le n r B);
+  differing = kinded-moved n r B;
+  none = kinded-infeasible-moved n r B;
+  same = λ t. let f = unchanged-is (propagateRowOf n r B .outcome) t in kinded-still-moved r (found (f .0)) (f .0) (f .1);
 }
   where
-    found : T (not (isInfeasible (propagateRow n A b B .outcome))) → NonEmpty n B
-    found f = valid-nonEmpty v (propagate-row-feasible-ind n A b B (λ _. T (not (isEmpty n B))) (λ t _. t) f)
+    found : T (not (isInfeasible (propagateRowOf n r B .outcome))) → NonEmpty n B
+    found f = valid-nonEmpty v (kinded-feasible n r B f)
 
     unchanged-is : (o : Outcome) → T (isUnchanged o) → T (not (isInfeasible o)) × T (not (isChanged o))
     unchanged-is infeasibleRow z = absurd z
@@ -94,7 +95,7 @@ Added before t (bothFeasible a) = ones t ≡ ones before + a
 
 abbrev Numbers : State → Call → List ℤ → List ℕ → Answer → Type 0
 Numbers s c P t (refused number) = Unit {0}
-Numbers s c P t (propagatedRow o k) = RowMoved (s .model .n) (s .model .box) P o k
+Numbers s c P t (propagatedRow o k) = RowMoved (s .model .n) (rowAt (s .model .n) (s .model .rows) (c .row)) (s .model .box) P o k
 Numbers s c P t (propagated e p k) = PassesWithin (c .budget) p × SumMoved (s .model .n) (s .model .box) P (isNone e) p k
 Numbers s c P t (probed e s0 s1) =
     (s .model .box ≢ emptyBox (s .model .n) → PassesWithin (c .budget) (s0 .passes) × PassesWithin (c .budget) (s1 .passes))
@@ -138,8 +139,7 @@ module _ (s : State) (c : Call) (a : Accepted probing s c) where
 act-numbers : (k : Kind) (s : State) (c : Call) → Accepted k s c
     → Numbers s c (act k s c .state .model .box) (act k s c .state .table) (act k s c .answer)
 unfolding act withBox withRow hasBudget
-act-numbers rowPropagation s c a =
-    row-moved (rowAt (s .model .n) (s .model .rows) (c .row) .coefs) (rowAt (s .model .n) (s .model .rows) (c .row) .rhs) (a .model .box)
+act-numbers rowPropagation s c a = row-moved (rowAt (s .model .n) (s .model .rows) (c .row)) (a .model .box)
 act-numbers propagation s c a = (
   propagate-passes (s .model .n) (s .model .m) (s .model .rows) (c .budget) (s .model .box) (a .budget tt .0),
   sum-moved (c .budget) (s .model .m) (s .model .rows) (a .model .box .shape),
@@ -154,15 +154,13 @@ act-numbers unknown s c a = tt
 act-same : (k : Kind) (s : State) (c : Call) → Accepted k s c → AnswersSame (act k s c .answer) → act k s c .state ≡ s
 unfolding act AnswersSame withBox isUnknown isChanged
 act-same rowPropagation s c a e =
-    ap (λ (P : List ℤ). withBox s P (s .table)) (propagate-row-same (rowAt (s .model .n) (s .model .rows) (c .row) .coefs) (rowAt (s .model .n) (s .model .rows) (c .row) .rhs) (a .model .box) e)
+    ap (λ (P : List ℤ). withBox s P (s .table)) (kinded-same (rowAt (s .model .n) (s .model .rows) (c .row)) (a .model .box) e)
 act-same propagation s c a z = absurd z
 act-same probing s c a z = absurd z
 act-same tightening s c a e =
-    let q = tighten-coefficient-unchanged (s .model .n) (rowAt (s .model .n) (s .model .rows) (c .row) .coefs) (rowAt (s .model .n) (s .model .rows) (c .row) .rhs) (s .model .box) (c .variable) (rw e tt) in
-    withRow-same s (c .row) _ (q .0) (q .1)
+    withRow-same s (c .row) _ (tighten-kinded-unchanged (s .model .n) (rowAt (s .model .n) (s .model .rows) (c .row)) (s .model .box) (c .variable) (rw e tt))
 act-same removal s c a e =
-    let q = remove-redundant-row-unchanged (s .model .n) (rowAt (s .model .n) (s .model .rows) (c .row) .coefs) (rowAt (s .model .n) (s .model .rows) (c .row) .rhs) (s .model .box) (rw e tt) in
-    withRow-same s (c .row) _ (q .0) (q .1)
+    withRow-same s (c .row) _ (remove-kinded-unchanged (s .model .n) (rowAt (s .model .n) (s .model .rows) (c .row)) (s .model .box) (rw e tt))
 act-same unknown s c a z = absurd z
 
 act-untouched : (k : Kind) (s : State) (c : Call) → Accepted k s c → Untouched k s c (act k s c .state)

@@ -17,10 +17,8 @@ use Rattle.model.proofs.RowsLaws.{length-rowOf}
 use Rattle.row.specs.ValidRow.{ValidRow}
 use Rattle.row.proofs.ImpliedBoxLaws.{valid-empty, valid-inside}
 use Rattle.row.proofs.PointBox.{Inside→in, in→Inside, nonEmpty-at}
+use Rattle.row.proofs.KindChangeLaws.{ReplacesRow, remove-kinded-kind, remove-kinded-replaces, remove-kinded-valid, tighten-kinded-kind, tighten-kinded-replaces, tighten-kinded-valid}
 use Rattle.row.proofs.PropagationLaws.{empty-no-point}
-use Rattle.row.proofs.RedundancyLaws.{remove-redundant-row-replaces, remove-redundant-row-valid}
-use Rattle.row.proofs.Replacement.{Replaces}
-use Rattle.row.proofs.TighteningLaws.{tighten-coefficient-replaces, tighten-coefficient-valid}
 use Rattle.semantics.specs.Call.{Call, Kind, hasRow, hasVariable, isUnknown, kindOf, probing, propagation, removal, rowPropagation, tightening, unknown}
 use Rattle.semantics.specs.Perform.{act}
 use Rattle.semantics.specs.Points.{FractionalPointOf, PointOf, TableHolds}
@@ -96,6 +94,8 @@ module _ {s : State} {P : List ℤ} {t : List ℕ} (w : Narrowed s P t) where
       coefs = o .coefs;
       rhsLen = o .rhsLen;
       rhs = o .rhs;
+      kindsLen = o .kindsLen;
+      kinds = o .kinds;
     };
     table = w .table (v .table);
   }
@@ -113,16 +113,15 @@ narrowed-preserves {s} h w = subst (Preserves s) (sym (w .is)) (record {
 -- ---- a sharpen, a drop
 
 row-preserves : (s : State) (i : ℕ) (r : Row) → ValidModel (s .model) → i < s .model .m
-    → let old = rowAt (s .model .n) (s .model .rows) i in
-    Replaces (s .model .n) (old .coefs) (old .rhs) (r .coefs) (r .rhs) (s .model .box)
-    → ValidRow (s .model .n) (r .coefs) (r .rhs) (s .model .box) → Preserves s (withRow s i r)
+    → ReplacesRow (s .model .n) (rowAt (s .model .n) (s .model .rows) i) r (s .model .box)
+    → ValidRow (s .model .n) (r .coefs) (r .rhs) (s .model .box) → r .kind < 2 → Preserves s (withRow s i r)
 unfolding withRow
-row-preserves s i r v im w y = record {
+row-preserves s i r v im w y k = record {
   sizes = (refl, refl);
   points = withRow-points s i r v im w;
   fractional = withRow-fractional s i r v im w;
   holds = λ x p q. q;
-  valid = λ u. record { model = withRow-valid s i r v im y; table = u .table };
+  valid = λ u. record { model = withRow-valid s i r v im y k; table = u .table };
 }
 
 module _ (s : State) (c : Call) where
@@ -138,16 +137,18 @@ module _ (s : State) (c : Call) where
       let rm = a .row tt in
       let kn = a .variable tt in
       row-preserves s (c .row) _ (a .model) rm
-      (tighten-coefficient-replaces (s .model .n) (old .coefs) (old .rhs) (s .model .box) (c .variable) kn (old-length (a .model) rm) (a .free tt))
-      (tighten-coefficient-valid (c .variable) (row-valid (s .model) (c .row) (a .model) rm) kn)
+      (tighten-kinded-replaces (s .model .n) old (s .model .box) (c .variable) kn (old-length (a .model) rm) (a .free tt))
+      (tighten-kinded-valid (s .model .n) old (s .model .box) (c .variable) (row-valid (s .model) (c .row) (a .model) rm) kn)
+      (rw (tighten-kinded-kind (s .model .n) old (s .model .box) (c .variable)) (a .model .kinds (c .row)))
 
   remove-preserves : Accepted removal s c → Preserves s (act removal s c .state)
   unfolding act hasRow
   remove-preserves a =
       let rm = a .row tt in
       row-preserves s (c .row) _ (a .model) rm
-      (remove-redundant-row-replaces (s .model .n) (old .coefs) (old .rhs) (s .model .box) (old-length (a .model) rm))
-      (remove-redundant-row-valid (row-valid (s .model) (c .row) (a .model) rm))
+      (remove-kinded-replaces (s .model .n) old (s .model .box) (old-length (a .model) rm))
+      (remove-kinded-valid (s .model .n) old (s .model .box) (row-valid (s .model) (c .row) (a .model) rm))
+      (remove-kinded-kind (s .model .n) old (s .model .box) (a .model .kinds (c .row)))
 
 -- ---- any call, any run
 

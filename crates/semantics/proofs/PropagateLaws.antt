@@ -17,9 +17,10 @@ use Rattle.model.specs.Box.{Inside, NonEmpty, at, emptyBox, isEmpty, width}
 use Rattle.model.specs.Rows.{Rows, rowAt}
 use Rattle.model.specs.Valid.{ValidBox}
 use Rattle.model.proofs.BoxLaws.{inside-refl, inside-trans, isEmpty-empty, isEmpty→eq, not-in-empty}
+use Rattle.row.specs.Kinds.{propagateRowOf}
 use Rattle.row.specs.Outcome.{isInfeasible}
-use Rattle.row.specs.Propagation.{propagateRowOf}
-use Rattle.row.proofs.PropagationLaws.{propagate-row-infeasible-box, propagate-row-infeasible-moved, propagate-row-inside, propagate-row-monotone, propagate-row-moved-none, propagate-row-moved-width, propagate-row-nonEmpty, propagate-row-shrinks, propagate-row-valid}
+use Rattle.row.proofs.KindLaws.{kinded-infeasible-box, kinded-infeasible-moved, kinded-inside, kinded-monotone, kinded-nonEmpty, kinded-shrinks, kinded-valid}
+use Rattle.row.proofs.KindMovedLaws.{kinded-moved-none, kinded-moved-width}
 use Rattle.row.proofs.Width.{width-nonneg}
 use Rattle.semantics.specs.Fixpoint.{Fixpoint}
 use Rattle.semantics.specs.Propagate.{Pass, Propagated, budgetSpent, converged, infeasible, isNone, isSpent, passRow, passTo, propagate, propagateFrom}
@@ -58,14 +59,14 @@ module _ (n : ℕ) (A : Rows) where
   pass-infeasible-box zero B = λ z. absurd z
   pass-infeasible-box (suc i) B = pass-ind n i A B (λ r. T (r .ended) → r .box ≡ emptyBox n)
       (λ _. pass-infeasible-box i B)
-      (λ _. propagate-row-infeasible-box n (rowAt n A i .coefs) (rowAt n A i .rhs) (passTo n i A B .box))
+      (λ _. kinded-infeasible-box n (rowAt n A i) (passTo n i A B .box))
 
   pub pass-shrinks : (i : ℕ) (B : List ℤ) → T (not (passTo n i A B .ended)) → Inside n (passTo n i A B .box) B
   unfolding passTo
   pass-shrinks zero B = λ _. inside-refl n B
   pass-shrinks (suc i) B = pass-ind n i A B (λ r. T (not (r .ended)) → Inside n (r .box) B)
       (λ _. pass-shrinks i B)
-      (λ t u. inside-trans (propagate-row-shrinks n (rowAt n A i .coefs) (rowAt n A i .rhs) (passTo n i A B .box) u) (pass-shrinks i B t))
+      (λ t u. inside-trans (kinded-shrinks n (rowAt n A i) (passTo n i A B .box) u) (pass-shrinks i B t))
 
 module _ (A : Rows) {n : ℕ} where
   pub pass-inside : (i : ℕ) (B : List ℤ) {Q : List ℤ} → 0 < n → NonEmpty n Q → Inside n Q (passTo n i A B .box) → Inside n Q B
@@ -73,20 +74,20 @@ module _ (A : Rows) {n : ℕ} where
   pass-inside zero B h p = λ k. k
   pass-inside (suc i) B {Q} h p = pass-ind n i A B (λ r. Inside n Q (r .box) → Inside n Q B)
       (λ _. pass-inside i B h p)
-      (λ _ k. pass-inside i B h p (propagate-row-inside (rowAt n A i .coefs) (rowAt n A i .rhs) (passTo n i A B .box) h p k))
+      (λ _ k. pass-inside i B h p (kinded-inside (rowAt n A i) (passTo n i A B .box) h p k))
 
   pub pass-nonEmpty : (i : ℕ) {B : List ℤ} → NonEmpty n B → T (not (passTo n i A B .ended)) → NonEmpty n (passTo n i A B .box)
   unfolding passTo
   pass-nonEmpty zero p = λ _. p
   pass-nonEmpty (suc i) {B} p = pass-ind n i A B (λ r. T (not (r .ended)) → NonEmpty n (r .box))
       (λ _. pass-nonEmpty i p)
-      (λ t. propagate-row-nonEmpty (rowAt n A i .coefs) (rowAt n A i .rhs) (pass-nonEmpty i p t))
+      (λ t. kinded-nonEmpty (rowAt n A i) (pass-nonEmpty i p t))
 
   pub pass-valid : (i : ℕ) {B : List ℤ} → ValidBox n B → ValidBox n (passTo n i A B .box)
   unfolding passTo
   pass-valid zero v = v
   pass-valid (suc i) {B} v = pass-ind n i A B (λ r. ValidBox n (r .box))
-      (λ _. pass-valid i v) (λ _. propagate-row-valid (rowAt n A i .coefs) (rowAt n A i .rhs) (pass-valid i v))
+      (λ _. pass-valid i v) (λ _. kinded-valid (rowAt n A i) (pass-valid i v))
 
 -- a fixpoint inside stays inside
 pub pass-keeps : {n m : ℕ} {A : Rows} {Q : List ℤ} → 0 < n → Fixpoint n m A Q → (i : ℕ) → i ≤ m → {B : List ℤ} → Inside n Q B
@@ -96,7 +97,7 @@ pass-keeps h q zero l k = k
 pass-keeps {n} {m} {A} {Q} h q (suc i) l {B} k =
     let r = pass-keeps h q i (omega arith) k in
     pass-ind n i A B (λ r. Inside n Q (r .box))
-    (λ _. r) (λ _. propagate-row-monotone (rowAt n A i .coefs) (rowAt n A i .rhs) h (q .nonEmpty) (q .same i l) r)
+    (λ _. r) (λ _. kinded-monotone (rowAt n A i) h (q .nonEmpty) (q .same i l) r)
 
 -- ---- pass by pass
 
@@ -367,7 +368,7 @@ pass-moved-width n A zero B = λ _. simp zify (omega zarith)
 pass-moved-width n A (suc i) B = pass-ind n i A B (λ r. T (not (r .ended)) → (pos (r .moved) +ℤ width n (r .box)) ≤ℤ width n B)
     (λ t u. absurd (T-not (passTo n i A B .ended) u t))
     (λ t u. moved-then n _ _ B (passTo n i A B .box) _ (pass-moved-width n A i B t)
-    (propagate-row-moved-width n (rowAt n A i .coefs) (rowAt n A i .rhs) (passTo n i A B .box) u))
+    (kinded-moved-width n (rowAt n A i) (passTo n i A B .box) u))
 
 module _ (A : Rows) {n : ℕ} {B : List ℤ} (p : NonEmpty n B) where
   -- of any pass: no more than the width of the box
@@ -376,10 +377,10 @@ module _ (A : Rows) {n : ℕ} {B : List ℤ} (p : NonEmpty n B) where
   pass-moved-le zero = width-nonneg p
   pass-moved-le (suc i) = pass-ind n i A B (λ r. pos (r .moved) ≤ℤ width n B)
       (λ _. pass-moved-le i)
-      (λ t. ⊎-elim (λ u. rw (propagate-row-infeasible-moved n (rowAt n A i .coefs) (rowAt n A i .rhs) (passTo n i A B .box) u) (let h = pass-moved-le i in omega zarith))
-      (λ u. moved-at-most n _ B (propagate-row-nonEmpty (rowAt n A i .coefs) (rowAt n A i .rhs) (pass-nonEmpty A i p t) u)
+      (λ t. ⊎-elim (λ u. rw (kinded-infeasible-moved n (rowAt n A i) (passTo n i A B .box) u) (let h = pass-moved-le i in omega zarith))
+      (λ u. moved-at-most n _ B (kinded-nonEmpty (rowAt n A i) (pass-nonEmpty A i p t) u)
       (moved-then n _ _ B (passTo n i A B .box) _ (pass-moved-width n A i B t)
-      (propagate-row-moved-width n (rowAt n A i .coefs) (rowAt n A i .rhs) (passTo n i A B .box) u)))
+      (kinded-moved-width n (rowAt n A i) (passTo n i A B .box) u)))
       (decide (isInfeasible (propagateRowOf n (rowAt n A i) (passTo n i A B .box) .outcome))))
 
   pub pass-moved-none : (i : ℕ) → T (not (passTo n i A B .ended)) → passTo n i A B .moved ≡ 0 → passTo n i A B .box ≡ B
@@ -387,7 +388,7 @@ module _ (A : Rows) {n : ℕ} {B : List ℤ} (p : NonEmpty n B) where
   pass-moved-none zero = λ _ _. refl
   pass-moved-none (suc i) = pass-ind n i A B (λ r. T (not (r .ended)) → r .moved ≡ 0 → r .box ≡ B)
       (λ t u. absurd (T-not (passTo n i A B .ended) u t))
-      (λ t u e. propagate-row-moved-none (rowAt n A i .coefs) (rowAt n A i .rhs) (pass-nonEmpty A i p t) u (omega arith)
+      (λ t u e. kinded-moved-none (rowAt n A i) (pass-nonEmpty A i p t) u (omega arith)
       ∙ pass-moved-none i t (omega arith))
 
   pub pass-moved-iff : (i : ℕ) → T (not (passTo n i A B .ended)) → (passTo n i A B .moved ≡ 0) ↔ (passTo n i A B .box ≡ B)

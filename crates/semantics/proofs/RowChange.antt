@@ -2,6 +2,7 @@
 use Prim.Native.Nat.{_*_, _+_, _-_, _<_, ℕ}
 use lib.IntN.{pos, ℤ}
 use lib.ListN.{length, length-set}
+use lib.Seq.{set-getD}
 use mathlib.Core.List.{List}
 use mathlib.Core.Logic.{_↔_}
 use mathlib.Core.Path.{_∙_, _≡_, refl}
@@ -14,13 +15,10 @@ use Rattle.model.specs.Point.{InBox, InBoxOver, Meets, MeetsOver}
 use Rattle.model.specs.Rows.{Row, Rows, rowAt, rowOf, setRow}
 use Rattle.model.specs.State.{State, withRow}
 use Rattle.model.specs.Valid.{Between, ValidModel}
-use Rattle.model.proofs.RowsLaws.{at-rowOf, fits, length-rowOf, setRow-coef, setRow-coefs, setRow-ind, setRow-length, setRow-rhs, setRow-same, splice-all}
-use Rattle.row.specs.Redundancy.{removeRowOf}
-use Rattle.row.specs.Tightening.{rowLeft, tightenRowOf}
+use Rattle.model.proofs.RowsLaws.{at-rowOf, fits, length-rowOf, setRow-coef, setRow-coefs, setRow-ind, setRow-kinds, setRow-length, setRow-rhs, setRow-same, splice-all}
+use Rattle.row.specs.Kinds.{removeRowOf, tightenRowOf}
 use Rattle.row.specs.ValidRow.{ValidRow}
-use Rattle.row.proofs.RedundancyLaws.{remove-redundant-row-replaces}
-use Rattle.row.proofs.Replacement.{Replaces}
-use Rattle.row.proofs.TighteningLaws.{tighten-coefficient-length, tighten-coefficient-other}
+use Rattle.row.proofs.KindChangeLaws.{ReplacesRow, remove-kinded-replaces, tighten-kinded-kind, tighten-kinded-length, tighten-kinded-other}
 use Rattle.semantics.specs.Call.{Call, removal, tightening}
 use Rattle.semantics.specs.Demand2.{Untouched}
 use Rattle.semantics.specs.Perform.{act}
@@ -43,15 +41,14 @@ row-valid M i v h =
       rhs = v .rhs i;
     }
 
-pub withRow-same : (s : State) (i : ℕ) (r : Row) → let q = rowAt (s .model .n) (s .model .rows) i in
-    r .coefs ≡ q .coefs → r .rhs ≡ q .rhs → withRow s i r ≡ s
+pub withRow-same : (s : State) (i : ℕ) (r : Row) → r ≡ rowAt (s .model .n) (s .model .rows) i → withRow s i r ≡ s
 unfolding withRow
-withRow-same s i r e f = rw (setRow-same (s .model .n) (s .model .rows) i r e f)
+withRow-same s i r e = rw (setRow-same (s .model .n) (s .model .rows) i r e)
 
 pub withRow-valid : (s : State) (i : ℕ) (r : Row) → ValidModel (s .model) → i < s .model .m
-    → ValidRow (s .model .n) (r .coefs) (r .rhs) (s .model .box) → ValidModel (withRow s i r .model)
+    → ValidRow (s .model .n) (r .coefs) (r .rhs) (s .model .box) → r .kind < 2 → ValidModel (withRow s i r .model)
 unfolding withRow setRow
-withRow-valid s i r v im w =
+withRow-valid s i r v im w k =
     let n = s .model .n in
     let A = s .model .rows in
     record {
@@ -59,16 +56,18 @@ withRow-valid s i r v im w =
       few = v .few;
       fewRows = v .fewRows;
       box = v .box;
-      coefsLen = setRow-length n (s .model .m) A i r (v .coefsLen) (v .rhsLen) im (w .coefs .len);
-      coefs = splice-all (A .coefs) (r .coefs) (i * n) (fits n (s .model .m) A i r (v .coefsLen) (v .rhsLen) im (w .coefs .len))
+      coefsLen = setRow-length n (s .model .m) A i r (v .coefsLen) (v .rhsLen) (v .kindsLen) im (w .coefs .len);
+      coefs = splice-all (A .coefs) (r .coefs) (i * n) (fits n (s .model .m) A i r (v .coefsLen) (v .rhsLen) (v .kindsLen) im (w .coefs .len))
           (Between minCoef maxCoef) (v .coefs) (w .coefs .range);
       rhsLen = length-set (A .rhs) i (r .rhs) ∙ v .rhsLen;
       rhs = getD-set-all (A .rhs) i (r .rhs) (pos 0) (Between minRhs maxRhs) (w .rhs) (v .rhs);
+      kindsLen = length-set (A .kinds) i (r .kind) ∙ v .kindsLen;
+      kinds = getD-set-all (A .kinds) i (r .kind) 0 (λ z. z < 2) k (v .kinds);
     }
 
 -- r may take the old row's place: the integer points stay, and no fractional point is added
 module _ (s : State) (i : ℕ) (r : Row) (v : ValidModel (s .model)) (im : i < s .model .m)
-    (w : let q = rowAt (s .model .n) (s .model .rows) i in Replaces (s .model .n) (q .coefs) (q .rhs) (r .coefs) (r .rhs) (s .model .box)) where
+    (w : ReplacesRow (s .model .n) (rowAt (s .model .n) (s .model .rows) i) r (s .model .box)) where
   abbrev n : ℕ
   n = s .model .n
 
@@ -77,7 +76,7 @@ module _ (s : State) (i : ℕ) (r : Row) (v : ValidModel (s .model)) (im : i < s
 
   row-points : (x : List ℤ) → InBox n (s .model .box) x → (k : ℕ) → k < s .model .m
       → Meets n (rowAt n (setRow n A i r) k) x ↔ Meets n (rowAt n A k) x
-  row-points x q = setRow-ind n (s .model .m) A i r (v .coefsLen) (v .rhsLen) im (w .len)
+  row-points x q = setRow-ind n (s .model .m) A i r (v .coefsLen) (v .rhsLen) (v .kindsLen) im (w .len)
       (λ k t. Meets n t x ↔ Meets n (rowAt n A k) x) (w .points q) (λ k h ne. ((λ p. p), (λ p. p)))
 
   pub withRow-points : (x : List ℤ) → PointOf (withRow s i r) x ↔ PointOf s x
@@ -89,7 +88,7 @@ module _ (s : State) (i : ℕ) (r : Row) (v : ValidModel (s .model)) (im : i < s
 
   row-fractional : (x : List ℤ) (d : ℕ) → InBoxOver n (s .model .box) x d → (k : ℕ) → k < s .model .m
       → MeetsOver n (rowAt n (setRow n A i r) k) x d → MeetsOver n (rowAt n A k) x d
-  row-fractional x d q = setRow-ind n (s .model .m) A i r (v .coefsLen) (v .rhsLen) im (w .len)
+  row-fractional x d q = setRow-ind n (s .model .m) A i r (v .coefsLen) (v .rhsLen) (v .kindsLen) im (w .len)
       (λ k t. MeetsOver n t x d → MeetsOver n (rowAt n A k) x d) (w .over q) (λ k h ne p. p)
 
   pub withRow-fractional : (x : List ℤ) (d : ℕ) → FractionalPointOf (withRow s i r) x d → FractionalPointOf s x d
@@ -107,25 +106,26 @@ module _ (s : State) (c : Call) (v : ValidModel (s .model)) (rm : c .row < s .mo
   old-length = length-rowOf (s .model .n) (s .model .m) (s .model .rows .coefs) (c .row) (v .coefsLen) rm
 
   pub tightening-untouched : Untouched tightening s c (act tightening s c .state)
-  unfolding Untouched act withRow
+  unfolding Untouched act withRow setRow
   tightening-untouched =
-      let q = tightenRowOf (s .model .n) old (s .model .box) (c .variable) in
-      let len : length (q .coefs) ≡ s .model .n =
-      tighten-coefficient-length (s .model .n) (old .coefs) (old .rhs) (s .model .box) (c .variable) ∙ old-length in (
+      let q = tightenRowOf (s .model .n) old (s .model .box) (c .variable) .row in
+      let len : length (q .coefs) ≡ s .model .n = tighten-kinded-length (s .model .n) old (s .model .box) (c .variable) ∙ old-length in (
         refl,
         refl,
-        setRow-coef (s .model .n) (s .model .m) (s .model .rows) (c .row) (rowLeft q) (v .coefsLen) (v .rhsLen) rm len (c .variable)
-            (λ j. tighten-coefficient-other (s .model .n) (old .coefs) (old .rhs) (s .model .box) (c .variable) j),
-        setRow-rhs (s .model .n) (s .model .m) (s .model .rows) (c .row) (rowLeft q) (v .coefsLen) (v .rhsLen) rm len,
+        setRow-coef (s .model .n) (s .model .m) (s .model .rows) (c .row) q (v .coefsLen) (v .rhsLen) (v .kindsLen) rm len (c .variable)
+            (λ j. tighten-kinded-other (s .model .n) old (s .model .box) (c .variable) j),
+        setRow-rhs (s .model .n) (s .model .m) (s .model .rows) (c .row) q (v .coefsLen) (v .rhsLen) (v .kindsLen) rm len,
+        rw (tighten-kinded-kind (s .model .n) old (s .model .box) (c .variable)) (set-getD (s .model .rows .kinds) (c .row) 0),
       )
 
   pub removal-untouched : Untouched removal s c (act removal s c .state)
   unfolding Untouched act withRow
   removal-untouched =
-      let q = removeRowOf (s .model .n) old (s .model .box) in
-      let len = remove-redundant-row-replaces (s .model .n) (old .coefs) (old .rhs) (s .model .box) old-length .len in (
+      let q = removeRowOf (s .model .n) old (s .model .box) .row in
+      let len = remove-kinded-replaces (s .model .n) old (s .model .box) old-length .len in (
         refl,
         refl,
-        setRow-coefs (s .model .n) (s .model .m) (s .model .rows) (c .row) (rowLeft q) (v .coefsLen) (v .rhsLen) rm len,
-        setRow-rhs (s .model .n) (s .model .m) (s .model .rows) (c .row) (rowLeft q) (v .coefsLen) (v .rhsLen) rm len,
+        setRow-coefs (s .model .n) (s .model .m) (s .model .rows) (c .row) q (v .coefsLen) (v .rhsLen) (v .kindsLen) rm len,
+        setRow-rhs (s .model .n) (s .model .m) (s .model .rows) (c .row) q (v .coefsLen) (v .rhsLen) (v .kindsLen) rm len,
+        setRow-kinds (s .model .n) (s .model .m) (s .model .rows) (c .row) q (v .coefsLen) (v .rhsLen) (v .kindsLen) rm len,
       )

@@ -5,15 +5,16 @@ use Rattle.integer.specs.Index.{all, sum}
 use Rattle.integer.specs.Order.{eqZ, maxZ, minZ}
 use Rattle.model.specs.Box.{boxOf, emptyBox, isEmpty, isFree, sameList}
 use Rattle.model.specs.Checks.{bits, boxChecks, first, inRange, lengthChecks, modelChecks, narrow, numberChecks, ordered, sizeChecks, tableByteChecks, tableLengthChecks}
-use Rattle.model.specs.Rows.{rowOf, setRow, splice}
+use Rattle.model.specs.Rows.{isEquality, negated, negatedCoefs, rowOf, setRow, splice}
 use Rattle.model.specs.State.{stateOf, withBox, withRow}
 use Rattle.row.specs.Activity.{maxActivity, maxTerm, minActivity, minTerm}
+use Rattle.row.specs.Kinds.{andThen, propagateRowOf, removeRowOf, tightenRowOf}
 use Rattle.row.specs.Moved.{differs, movedBounds}
-use Rattle.row.specs.Outcome.{isInfeasible}
+use Rattle.row.specs.Outcome.{isChanged, isInfeasible}
 use Rattle.row.specs.Propagation.{impliedBox, newLower, newUpper, propagateRow, stays}
 use Rattle.row.specs.Redundancy.{removeRedundantRow, zeroRow}
 use Rattle.row.specs.Tightening.{tightenAt, tightenCoefficient}
-use Rattle.semantics.specs.Books.{AllHold, boxed, callOn, fresh, kept, probeCall as probeCall, propagateCall, propagateRowCall, removeCall, rowed, tightenCall}
+use Rattle.semantics.specs.Books.{AllHold, boxed, callOn, fresh, freshKinds, kept, probeCall as probeCall, propagateCall, propagateRowCall, removeCall, rowed, tightenCall}
 use Rattle.semantics.specs.Call.{hasBudget, hasRow, hasTable, hasVariable, isUnknown, kindOf, lengthsOf}
 use Rattle.semantics.specs.CallChecks.{callChecks, callFault, givenModel, isLent, lentTable, recordChecks}
 use Rattle.semantics.specs.Demand2.{ones}
@@ -25,5 +26,5 @@ use Rattle.semantics.specs.Run.{run, step}
 use Rattle.semantics.specs.WorkedBooks.{atRest, binary2, boxAfter, chained, clique, crossed, empty2, pair, single, workedBooks}
 
 pub worked-books-hold : AllHold workedBooks
-unfolding workedBooks atRest binary2 boxAfter chained clique crossed empty2 pair single boxed callOn removeCall kept fresh probeCall rowed propagateCall tightenCall propagateRowCall callChecks callFault givenModel isLent lentTable recordChecks ones act perform byteOf fix hull implies isFixed joinSides literal probe put recordSide recordTo sideOf isNone isSpent passRow passTo propagate propagateFrom isFixpoint isProbingFixpoint sidesSpan run step hasBudget hasRow hasTable hasVariable isUnknown kindOf lengthsOf stateOf splice setRow withBox withRow isInfeasible impliedBox newLower newUpper propagateRow stays removeRedundantRow zeroRow tightenAt tightenCoefficient maxActivity maxTerm minActivity minTerm rowOf bits first inRange lengthChecks modelChecks boxChecks narrow numberChecks ordered sizeChecks tableByteChecks tableLengthChecks boxOf emptyBox isEmpty isFree sameList eqZ maxZ minZ all sum ceilDiv floorDiv differs movedBounds
+unfolding workedBooks atRest binary2 boxAfter chained clique crossed empty2 pair single boxed callOn removeCall kept fresh freshKinds probeCall rowed propagateCall tightenCall propagateRowCall callChecks callFault givenModel isLent lentTable recordChecks ones act perform byteOf fix hull implies isFixed joinSides literal probe put recordSide recordTo sideOf isNone isSpent passRow passTo propagate propagateFrom isFixpoint isProbingFixpoint sidesSpan run step hasBudget hasRow hasTable hasVariable isUnknown kindOf lengthsOf stateOf splice setRow withBox withRow isInfeasible impliedBox newLower newUpper propagateRow stays removeRedundantRow zeroRow tightenAt tightenCoefficient maxActivity maxTerm minActivity minTerm rowOf bits first inRange lengthChecks modelChecks boxChecks narrow numberChecks ordered sizeChecks tableByteChecks tableLengthChecks boxOf emptyBox isEmpty isFree sameList eqZ maxZ minZ all sum ceilDiv floorDiv differs movedBounds isEquality negated negatedCoefs andThen propagateRowOf removeRowOf tightenRowOf isChanged
 worked-books-hold = (refl, (refl, (refl, (refl, (refl, (refl, (refl, (refl, (refl, (refl, (refl, (refl, (refl, (refl, (refl, (refl, (refl, (refl, (refl, (refl, (refl, (refl, (refl, (refl, (refl, (refl, tt))))))))))))))))))))))))))

@@ -10,6 +10,7 @@ pub record Lengths : Type 0 where
   pub box : ℕ
   pub coefs : ℕ
   pub rhs : ℕ
+  pub kinds : ℕ
   pub table : ℕ
 
 unfoldable pub lengthsOf : State → Lengths
@@ -18,6 +19,7 @@ lengthsOf s =
       box = length (s .model .box);
       coefs = length (s .model .rows .coefs);
       rhs = length (s .model .rows .rhs);
+      kinds = length (s .model .rows .kinds);
       table = length (s .table);
     }
 

@@ -24,6 +24,7 @@ unfoldable pub isLent : Kind → State → Call → Bool
 isLent k s c =
     eqb (c .n) (s .model .n) && eqb (c .m) (s .model .m)
     && eqb (c .lengths .box) (lengthsOf s .box) && eqb (c .lengths .coefs) (lengthsOf s .coefs) && eqb (c .lengths .rhs) (lengthsOf s .rhs)
+    && eqb (c .lengths .kinds) (lengthsOf s .kinds)
     && (not (hasTable k) || eqb (c .lengths .table) (lengthsOf s .table))
 
 -- the model that the call is given: the state's box and rows, with the call's own n and m

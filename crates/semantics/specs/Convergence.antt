@@ -14,7 +14,7 @@ use Rattle.model.specs.Rows.{Rows, rowAt}
 use Rattle.model.specs.State.{State}
 use Rattle.model.specs.Valid.{ValidModel, ValidState}
 use Rattle.row.specs.Outcome.{unchanged}
-use Rattle.row.specs.Propagation.{propagateRowOf}
+use Rattle.row.specs.Kinds.{propagateRowOf}
 use Rattle.semantics.specs.Call.{Call, kindOf, probing, propagation}
 use Rattle.semantics.specs.CallChecks.{callFault, maxBudget}
 use Rattle.semantics.specs.Fixpoint.{Fixpoint, GreatestFixpoint}

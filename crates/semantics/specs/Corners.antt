@@ -4,9 +4,10 @@ use lib.IntN.{negsuc, negℤ, pos, ℤ}
 use lib.ListN.{replicate}
 use mathlib.Core.Bool.{false, true}
 use mathlib.Core.List.{List, [], _∷_}
+use Rattle.model.specs.Rows.{rowWith}
 use Rattle.model.specs.State.{State, withBox, withRow}
 use Rattle.row.specs.Outcome.{changed, infeasible, unchanged}
-use Rattle.semantics.specs.Books.{Line, boxed, callOn, fresh, is, kept, probeCall, propagateCall, propagateRowCall, removeCall, rowed, tightenCall}
+use Rattle.semantics.specs.Books.{Line, boxed, callOn, fresh, freshKinds, is, kept, probeCall, propagateCall, propagateRowCall, removeCall, rowed, tightenCall}
 use Rattle.semantics.specs.Call.{Call, Lengths}
 use Rattle.semantics.specs.CallList.{callsMade, ran, refusedList, runList}
 use Rattle.semantics.specs.Perform.{perform, probed, propagated, propagatedRow, refused, removed, tightened}
@@ -59,12 +60,31 @@ deep w b =
 unfoldable pub listed : State
 listed = fresh 2 2 binary2 (pos 3 ∷ pos 2 ∷ negsuc 0 ∷ negsuc 0 ∷ []) (pos 4 ∷ negsuc 2 ∷ [])
 
+-- a x = b with x from l to u (02, C-14)
+unfoldable pub exact : ℤ → ℤ → ℤ → ℤ → State
+exact a b l u = freshKinds 1 1 (l ∷ u ∷ []) (a ∷ []) (b ∷ []) (1 ∷ [])
+
+-- a x + c y = b in the box B
+unfoldable pub exactPair : ℤ → ℤ → ℤ → List ℤ → State
+exactPair a c b B = freshKinds 2 1 B (a ∷ c ∷ []) (b ∷ []) (1 ∷ [])
+
+-- y = 2x, and the same as two ≤ rows
+unfoldable pub doubled : State
+doubled = exactPair (negsuc 1) (pos 1) (pos 0) binary2
+
+unfoldable pub doubledForms : State
+doubledForms = fresh 2 2 binary2 (negsuc 1 ∷ pos 1 ∷ pos 2 ∷ negsuc 0 ∷ []) (pos 0 ∷ pos 0 ∷ [])
+
+-- x with right side b, the kind byte k and every table byte t
+unfoldable pub ofKind : ℕ → ℤ → ℕ → State
+ofKind k b t = withBox (freshKinds 1 1 (pos 0 ∷ pos 1 ∷ []) (pos 1 ∷ []) (b ∷ []) (k ∷ [])) (pos 0 ∷ pos 1 ∷ []) (t ∷ t ∷ t ∷ t ∷ [])
+
 unfoldable pub withLengths : Call → Lengths → Call
 withLengths c l = record { kind = c .kind; row = c .row; variable = c .variable; budget = c .budget; n = c .n; m = c .m; lengths = l }
 
 -- lent no table: its length is 0
 unfoldable pub unlent : Call → Call
-unlent c = withLengths c (record { box = c .lengths .box; coefs = c .lengths .coefs; rhs = c .lengths .rhs; table = 0 })
+unlent c = withLengths c (record { box = c .lengths .box; coefs = c .lengths .coefs; rhs = c .lengths .rhs; kinds = c .lengths .kinds; table = 0 })
 
 unfoldable pub withSizes : Call → ℕ → ℕ → Call
 withSizes c n m = record { kind = c .kind; row = c .row; variable = c .variable; budget = c .budget; n = n; m = m; lengths = c .lengths }
@@ -101,10 +121,10 @@ corners =
     ∷ is (perform emptied (withSizes (propagateRowCall emptied 1) 129 1)) (kept emptied (refused 3))
     ∷ is (perform emptied (withSizes (propagateRowCall emptied 1) 2 121)) (kept emptied (refused 3))
     ∷ is (perform emptied (withSizes (propagateRowCall emptied 1) 1 1)) (kept emptied (refused 5))
-    ∷ is (perform emptied (withLengths (propagateRowCall emptied 1) (record { box = 3; coefs = 2; rhs = 1; table = 16 }))) (kept emptied (refused 5))
-    ∷ is (perform emptied (withLengths (propagateRowCall emptied 0) (record { box = 4; coefs = 2; rhs = 1; table = 0 })))
+    ∷ is (perform emptied (withLengths (propagateRowCall emptied 1) (record { box = 3; coefs = 2; rhs = 1; kinds = 1; table = 16 }))) (kept emptied (refused 5))
+    ∷ is (perform emptied (withLengths (propagateRowCall emptied 0) (record { box = 4; coefs = 2; rhs = 1; kinds = 1; table = 0 })))
     (kept emptied (propagatedRow infeasible 0))
-    ∷ is (perform emptied (withLengths (probeCall emptied 0 1) (record { box = 4; coefs = 2; rhs = 1; table = 15 }))) (kept emptied (refused 5))
+    ∷ is (perform emptied (withLengths (probeCall emptied 0 1) (record { box = 4; coefs = 2; rhs = 1; kinds = 1; table = 15 }))) (kept emptied (refused 5))
     -- 6 to 9: the number just outside each range refuses, the last one inside does not
     ∷ (let s = single (pos 2) (pos 5) (negℤ (pos 32_769)) (pos 5) in is (perform s (propagateRowCall s 0)) (kept s (refused 6)))
     ∷ (let s = single (pos 2) (pos 5) (pos 0) (pos 32_768) in is (perform s (propagateRowCall s 0)) (kept s (refused 6)))
@@ -258,7 +278,7 @@ corners =
     (1 ∷ 0 ∷ 999 ∷ 0 ∷ 4 ∷ 0 ∷ 0 ∷ 0 ∷ 4 ∷ 0 ∷ 1 ∷ 0 ∷ 9 ∷ 0 ∷ 0 ∷ 1 ∷ 1 ∷ 2 ∷ 0 ∷ 1 ∷ 2 ∷ 1 ∷ 1 ∷ 0 ∷ 3 ∷ 999 ∷ 1 ∷ 1 ∷ 2 ∷ 0 ∷ 0 ∷ 5 ∷ 1 ∷ 1 ∷ 999 ∷ 0 ∷ 5 ∷ 1 ∷ 999 ∷ 0 ∷ []))
     (record {
       answer = ran (record { refusals = 3; infeasibles = 4; changes = 2; unchanges = 1 });
-      state = withBox (withRow listed 0 (record { coefs = pos 1 ∷ pos 1 ∷ []; rhs = pos 1 })) empty2 (listed .table);
+      state = withBox (withRow listed 0 (rowWith (pos 1 ∷ pos 1 ∷ []) (pos 1) 0)) empty2 (listed .table);
     })
     -- a probe that records 2 bytes changes the table; a settle with budget 1 after it moves nothing
     ∷ (let s = pair (pos 1) (pos 1) (pos 1) in
@@ -273,4 +293,71 @@ corners =
     ∷ is (callsMade listed (1 ∷ 1 ∷ 0 ∷ 0 ∷ 1 ∷ [])) []
     ∷ (let s = withBox listed binary2 (2 ∷ replicate 15 0) in
     is (runList s (1 ∷ 1 ∷ 0 ∷ 0 ∷ [])) (record { answer = refusedList 10; state = s }))
+    -- = rows (02, C-14): 2x = 6 with x 0..5, both forms move a bound; again, Same
+    ∷ (let s = exact (pos 2) (pos 6) (pos 0) (pos 5) in
+    is (perform s (propagateRowCall s 0)) (boxed s (propagatedRow changed 2) (pos 3 ∷ pos 3 ∷ [])))
+    ∷ (let s = exact (pos 2) (pos 6) (pos 3) (pos 3) in is (perform s (propagateRowCall s 0)) (kept s (propagatedRow unchanged 0)))
+    -- x + y = 2 moves both lower bounds, by the negated form
+    ∷ (let s = exactPair (pos 1) (pos 1) (pos 2) binary2 in
+    is (perform s (propagateRowCall s 0)) (boxed s (propagatedRow changed 2) (pos 1 ∷ pos 1 ∷ pos 1 ∷ pos 1 ∷ [])))
+    -- 2x = 5 with x 0..5: None on the box that the ≤ form left, and no bound counts; 2x = −1: None by the ≤ form
+    ∷ (let s = exact (pos 2) (pos 5) (pos 0) (pos 5) in
+    is (perform s (propagateRowCall s 0)) (boxed s (propagatedRow infeasible 0) (pos 1 ∷ pos 0 ∷ [])))
+    ∷ (let s = exact (pos 2) (pos 5) (pos 0) (pos 5) in
+    is (perform s (propagateCall s 9)) (boxed s (propagated none 1 0) (pos 1 ∷ pos 0 ∷ [])))
+    ∷ (let s = exact (pos 2) (negsuc 0) (pos 0) (pos 5) in
+    is (perform s (propagateRowCall s 0)) (boxed s (propagatedRow infeasible 0) (pos 1 ∷ pos 0 ∷ [])))
+    -- y = 2x: a second visit moves more, so a settle makes three passes; its two ≤ rows end in the same box
+    ∷ is (perform doubled (propagateRowCall doubled 0)) (boxed doubled (propagatedRow changed 1) (pos 0 ∷ pos 0 ∷ pos 0 ∷ pos 1 ∷ []))
+    ∷ (let s = exactPair (negsuc 1) (pos 1) (pos 0) (pos 0 ∷ pos 0 ∷ pos 0 ∷ pos 1 ∷ []) in
+    is (perform s (propagateRowCall s 0)) (boxed s (propagatedRow changed 1) (pos 0 ∷ pos 0 ∷ pos 0 ∷ pos 0 ∷ [])))
+    ∷ is (perform doubled (propagateCall doubled 9)) (boxed doubled (propagated converged 3 2) (pos 0 ∷ pos 0 ∷ pos 0 ∷ pos 0 ∷ []))
+    ∷ is (perform doubledForms (propagateCall doubledForms 9))
+    (boxed doubledForms (propagated converged 3 2) (pos 0 ∷ pos 0 ∷ pos 0 ∷ pos 0 ∷ []))
+    -- x + y = 1: a visit is Same; a probe of x records that exactly one is 1; the box is at rest
+    ∷ (let s = exactPair (pos 1) (pos 1) (pos 1) binary2 in is (perform s (propagateRowCall s 0)) (kept s (propagatedRow unchanged 0)))
+    ∷ (let s = exactPair (pos 1) (pos 1) (pos 1) binary2 in
+    is (perform s (probeCall s 0 9))
+    (record {
+      answer = probed (bothFeasible 4) (unspent 2 1) (unspent 2 1);
+      state = withBox s binary2 (0 ∷ 0 ∷ 0 ∷ 1 ∷ 0 ∷ 0 ∷ 1 ∷ 0 ∷ 0 ∷ 1 ∷ 0 ∷ 0 ∷ 1 ∷ 0 ∷ 0 ∷ 0 ∷ []);
+    }))
+    ∷ (let s = exactPair (pos 1) (pos 1) (pos 1) binary2 in is (isProbingFixpoint 2 1 (s .model .rows) binary2) true)
+    ∷ is (isProbingFixpoint 2 1 (doubled .model .rows) (pos 0 ∷ pos 0 ∷ pos 0 ∷ pos 1 ∷ [])) false
+    -- a sharpen is Same where that of 3x + 2y ≤ 4 is not; 14 comes first; None on the empty box
+    ∷ (let s = exactPair (pos 3) (pos 2) (pos 4) binary2 in is (perform s (tightenCall s 0 0)) (kept s (tightened unchanged)))
+    ∷ (let s = exactPair (pos 3) (pos 2) (pos 4) (pos 0 ∷ pos 2 ∷ pos 0 ∷ pos 1 ∷ []) in
+    is (perform s (tightenCall s 0 0)) (kept s (refused 14)))
+    ∷ (let s = exactPair (pos 3) (pos 2) (pos 4) empty2 in is (perform s (tightenCall s 0 0)) (kept s (tightened infeasible)))
+    -- a drop: Lmax = b or Lmin = b alone is not enough; Lmin = Lmax = b zeroes the row and its kind; 0 = 0 is dropped for its kind
+    ∷ (let s = exactPair (pos 3) (pos 2) (pos 5) binary2 in is (perform s (removeCall s 0)) (kept s (removed unchanged)))
+    ∷ (let s = exactPair (pos 3) (pos 2) (pos 0) binary2 in is (perform s (removeCall s 0)) (kept s (removed unchanged)))
+    ∷ (let s = exactPair (pos 3) (pos 2) (pos 6) (pos 1 ∷ pos 1 ∷ pos 1 ∷ pos 1 ∷ []) in
+    is (perform s (removeCall s 0)) (kept s (removed unchanged)))
+    ∷ (let s = exactPair (pos 3) (pos 2) (pos 5) (pos 1 ∷ pos 1 ∷ pos 1 ∷ pos 1 ∷ []) in
+    is (perform s (removeCall s 0)) (rowed s (removed changed) (pos 0 ∷ pos 0 ∷ []) (pos 0)))
+    ∷ (let s = exactPair (pos 0) (pos 0) (pos 0) binary2 in
+    is (perform s (removeCall s 0)) (rowed s (removed changed) (pos 0 ∷ pos 0 ∷ []) (pos 0)))
+    ∷ (let s = exactPair (pos 0) (pos 0) (pos 0) empty2 in is (perform s (removeCall s 0)) (kept s (removed infeasible)))
+    -- and counts as changed, once
+    ∷ (let s = exactPair (pos 0) (pos 0) (pos 0) binary2 in
+    is (tally noCounts s (removeCall s 0 ∷ removeCall s 0 ∷ [])) (record { refusals = 0; infeasibles = 0; changes = 1; unchanges = 1 }))
+    -- 16: a kind byte of 2, in every call; 1 is accepted
+    ∷ (let s = ofKind 2 (pos 1) 0 in is (perform s (propagateRowCall s 0)) (kept s (refused 16)))
+    ∷ (let s = ofKind 2 (pos 1) 0 in is (perform s (propagateCall s 1)) (kept s (refused 16)))
+    ∷ (let s = ofKind 2 (pos 1) 0 in is (perform s (tightenCall s 0 0)) (kept s (refused 16)))
+    ∷ (let s = ofKind 2 (pos 1) 0 in is (perform s (removeCall s 0)) (kept s (refused 16)))
+    ∷ is (restFault (ofKind 2 (pos 1) 0)) 16
+    ∷ (let s = ofKind 2 (pos 1) 0 in is (runList s []) (record { answer = refusedList 16; state = s }))
+    ∷ is (restFault (ofKind 1 (pos 1) 0)) 0
+    -- after 9, before 10 and before the call's own checks
+    ∷ (let s = ofKind 2 (pos 1_000_000_001) 2 in is (perform s (probeCall s 1 0)) (kept s (refused 9)))
+    ∷ (let s = ofKind 2 (pos 1) 2 in is (perform s (probeCall s 1 0)) (kept s (refused 16)))
+    ∷ (let s = ofKind 1 (pos 1) 2 in is (perform s (probeCall s 1 0)) (kept s (refused 10)))
+    ∷ (let s = ofKind 2 (pos 1) 0 in is (perform s (propagateRowCall s 1)) (kept s (refused 16)))
+    -- m kinds: another number of them is 5, before 6 to 9 and 16
+    ∷ (let s = ofKind 2 (pos 1) 0 in
+    is (perform s (withLengths (propagateRowCall s 0) (record { box = 2; coefs = 1; rhs = 1; kinds = 2; table = 4 }))) (kept s (refused 5)))
+    ∷ (let s = freshKinds 1 1 (pos 0 ∷ pos 1 ∷ []) (pos 1 ∷ []) (pos 1_000_000_001 ∷ []) [] in
+    is (perform s (propagateRowCall s 0)) (kept s (refused 5)))
     ∷ []

@@ -24,6 +24,8 @@ pub record LengthsFit (s : State) (c : Call) : Type 0 where
   pub box : (c .lengths .box ≡ length (s .model .box)) × (length (s .model .box) ≡ 2 * c .n)
   pub coefs : (c .lengths .coefs ≡ length (s .model .rows .coefs)) × (length (s .model .rows .coefs) ≡ c .m * c .n)
   pub rhs : (c .lengths .rhs ≡ length (s .model .rows .rhs)) × (length (s .model .rows .rhs) ≡ c .m)
+  -- "Each row gets a kind byte, lent with the right sides" (02, C-14)
+  pub kinds : (c .lengths .kinds ≡ length (s .model .rows .kinds)) × (length (s .model .rows .kinds) ≡ c .m)
   pub table : T (hasTable (kindOf (c .kind))) → (c .lengths .table ≡ length (s .table)) × (length (s .table) ≡ 4 * (c .n * c .n))
 
 -- Check number N passes, or does not apply; they stand in the order in which they are made. Numbers that are no check of a call
@@ -36,6 +38,8 @@ pub record Passes (N : ℕ) (s : State) (c : Call) : Type 0 where
   pub check23 : N ≡ 23 → (j : ℕ) → 2 * j + 1 < length (s .model .box) → (upper (s .model .box) j -ℤ lower (s .model .box) j) ≤ℤ maxWidth
   pub check8 : N ≡ 8 → (i : ℕ) → i < length (s .model .rows .coefs) → Between minCoef maxCoef (at (s .model .rows .coefs) i)
   pub check9 : N ≡ 9 → (i : ℕ) → i < length (s .model .rows .rhs) → Between minRhs maxRhs (at (s .model .rows .rhs) i)
+  -- "16, a kind byte above 1, after check 9" (02, C-14)
+  pub check16 : N ≡ 16 → (i : ℕ) → i < length (s .model .rows .kinds) → getD (s .model .rows .kinds) i 0 < 2
   pub check10 : N ≡ 10 → T (hasTable (kindOf (c .kind))) → (i : ℕ) → i < length (s .table) → getD (s .table) i 0 < 2
   pub check11 : N ≡ 11 → (1 ≤ c .kind) × (c .kind ≤ 5)
   pub check12 : N ≡ 12 → T (hasRow (kindOf (c .kind))) → c .row < s .model .m

@@ -2,12 +2,14 @@
 use Prim.Native.Nat.{_*_, _+_, _<_, _≤_, suc, ℕ}
 use lib.Dec.{T, eqb}
 use lib.IntN.{_+ℤ_, pos, ℤ}
+use lib.ListN.{getD}
 use lib.Signed.{_≤ℤ_}
 use mathlib.Core.Bool.{Bool, cond, not}
 use mathlib.Core.List.{List, [], _∷_}
 use mathlib.Core.Logic.{_↔_, _≢_}
 use mathlib.Core.Path.{_≡_}
 use Rattle.model.specs.Box.{NonEmpty, at, emptyBox, width}
+use Rattle.model.specs.Rows.{Row, isEquality, rowAt}
 use Rattle.model.specs.State.{State}
 use Rattle.model.specs.Valid.{ValidState}
 use Rattle.row.specs.Moved.{movedBounds}
@@ -29,10 +31,11 @@ ones (x ∷ xs) = cond (eqb x 1) (suc (ones xs)) (ones xs)
 abbrev pub PassesWithin : ℕ → ℕ → Type 0
 PassesWithin budget passes = (1 ≤ passes) × (passes ≤ budget)
 
--- 02 (C-11), of a visit that answered o, with the boxes B before it and P after it
-pub record RowMoved (n : ℕ) (B P : List ℤ) (o : Outcome) (k : ℕ) : Type 0 where
-  -- "A visit answers Narrowed with the number of bounds that it moved, from 1 to n."
-  pub narrowed : T (isChanged o) → (1 ≤ k) × (k ≤ n)
+-- 02 (C-11), of a visit of the row r that answered o, with the boxes B before it and P after it
+pub record RowMoved (n : ℕ) (r : Row) (B P : List ℤ) (o : Outcome) (k : ℕ) : Type 0 where
+  -- "A visit answers Narrowed with the number of bounds that it moved, from 1 to n."; one of an = row "may report up to 2n bounds
+  -- moved" (C-14)
+  pub narrowed : T (isChanged o) → (1 ≤ k) × (k ≤ cond (isEquality r) (2 * n) n)
   -- "The number is that of bounds differing before and after each visit; a visit that answers None adds nothing."
   pub differing : T (not (isInfeasible o)) → k ≡ movedBounds n B P
   pub none : T (isInfeasible o) → k ≡ 0
@@ -78,12 +81,14 @@ Untouched tightening s c r =
     (r .model .box ≡ s .model .box) × (r .table ≡ s .table)
     × ((i : ℕ) → i ≢ c .row * s .model .n + c .variable → at (r .model .rows .coefs) i ≡ at (A .coefs) i)
     × ((i : ℕ) → i ≢ c .row → at (r .model .rows .rhs) i ≡ at (A .rhs) i)
+    × (r .model .rows .kinds ≡ A .kinds)
 Untouched removal s c r =
     let n = s .model .n in
     let A = s .model .rows in
     (r .model .box ≡ s .model .box) × (r .table ≡ s .table)
     × ((i j : ℕ) → j < n → i ≢ c .row → at (r .model .rows .coefs) (i * n + j) ≡ at (A .coefs) (i * n + j))
     × ((i : ℕ) → i ≢ c .row → at (r .model .rows .rhs) i ≡ at (A .rhs) i)
+    × ((i : ℕ) → i ≢ c .row → getD (r .model .rows .kinds) i 0 ≡ getD (A .kinds) i 0)
 Untouched unknown s c r = r ≡ s
 
 -- of an accepted call
@@ -91,7 +96,8 @@ pub record CallMeans (s : State) (c : Call) : Type 0 where
   -- "After it the integer points are exactly those before it, and no fractional point is added."
   pub points : (x : List ℤ) → PointOf (perform s c .state) x ↔ PointOf s x
   pub fractional : (x : List ℤ) (d : ℕ) → FractionalPointOf (perform s c .state) x d → FractionalPointOf s x d
-  -- None exactly where the box is empty afterwards; "`None` means that no integer point exists."
+  -- None exactly where the box is empty afterwards; "`None` means that no integer point exists." A fractional one may: 2x = 5 with x
+  -- from 0 to 5 is None, and x = 5/2 meets it.
   pub none : T (answersNone (perform s c .answer)) ↔ (perform s c .state .model .box ≡ emptyBox (s .model .n))
   pub noPoint : T (answersNone (perform s c .answer)) → (x : List ℤ) → PointOf s x → ⊥
   -- "every accepted call ends within its pass budget": a settle with 1 to budget passes, a probe's sides likewise, or 0 and 0 on
@@ -103,7 +109,7 @@ pub record CallMeans (s : State) (c : Call) : Type 0 where
       → (s0 .passes ≡ 0) × (s1 .passes ≡ 0)
   -- how many bounds moved (02, C-11): of a visit, of a settle, of the two sides of a probe
   pub rowMoved : (o : Outcome) (k : ℕ) → perform s c .answer ≡ propagatedRow o k
-      → RowMoved (s .model .n) (s .model .box) (perform s c .state .model .box) o k
+      → let M = s .model in RowMoved (M .n) (rowAt (M .n) (M .rows) (c .row)) (M .box) (perform s c .state .model .box) o k
   pub moved : (e : Ending) (p k : ℕ) → perform s c .answer ≡ propagated e p k
       → SumMoved (s .model .n) (s .model .box) (perform s c .state .model .box) (isNone e) p k
   pub sidesMoved : (e : ProbeEnding) (s0 s1 : Side) → perform s c .answer ≡ probed e s0 s1 → s .model .box ≢ emptyBox (s .model .n)

@@ -7,7 +7,7 @@ use mathlib.Core.Logic.{_⊎_}
 use mathlib.Core.Path.{_≡_}
 use Rattle.model.specs.Box.{Inside, NonEmpty, emptyBox, isFree}
 use Rattle.model.specs.Rows.{Rows, rowAt}
-use Rattle.row.specs.Propagation.{propagateRowOf}
+use Rattle.row.specs.Kinds.{propagateRowOf}
 use Rattle.semantics.specs.Probe.{fix, hull}
 
 -- "A box is quiet when it is not void and no visit changes it."

@@ -5,9 +5,7 @@ use mathlib.Core.Bool.{cond}
 use Rattle.model.specs.Rows.{rowAt}
 use Rattle.model.specs.State.{State, withBox, withRow}
 use Rattle.row.specs.Outcome.{Outcome}
-use Rattle.row.specs.Propagation.{propagateRowOf}
-use Rattle.row.specs.Redundancy.{removeRowOf}
-use Rattle.row.specs.Tightening.{rowLeft, tightenRowOf}
+use Rattle.row.specs.Kinds.{propagateRowOf, removeRowOf, tightenRowOf}
 use Rattle.semantics.specs.Call.{Call, Kind, kindOf, probing, propagation, removal, rowPropagation, tightening, unknown}
 use Rattle.semantics.specs.CallChecks.{callFault}
 use Rattle.semantics.specs.Probe.{ProbeEnding, Side, probe}
@@ -16,7 +14,7 @@ use Rattle.semantics.specs.Propagate.{Ending, propagate}
 -- 01's answers: the number of the check that refused the call; or the case and the numbers of the call's kind
 pub data Answer : Type 0 where
   refused : ℕ → Answer
-  -- visit: None, Narrowed, Same, and the number of bounds moved
+  -- visit, of a row by its kind: None, Narrowed, Same, and the number of bounds moved
   propagatedRow : Outcome → ℕ → Answer
   -- settle: None, Settled or Spent, the passes made and the number of bounds moved
   propagated : Ending → ℕ → ℕ → Answer
@@ -31,7 +29,7 @@ pub record Performed : Type 0 where
   pub answer : Answer
   pub state : State
 
--- an accepted call of each kind; its rule's own definition says the rest
+-- an accepted call of each kind; its rule's own definition says the rest, of an = row too. Only a drop writes a kind.
 unfoldable pub act : Kind → State → Call → Performed
 act rowPropagation s c =
     let M = s .model in
@@ -48,11 +46,11 @@ act probing s c =
 act tightening s c =
     let M = s .model in
     let r = tightenRowOf (M .n) (rowAt (M .n) (M .rows) (c .row)) (M .box) (c .variable) in
-    record { answer = tightened (r .outcome); state = withRow s (c .row) (rowLeft r) }
+    record { answer = tightened (r .outcome); state = withRow s (c .row) (r .row) }
 act removal s c =
     let M = s .model in
     let r = removeRowOf (M .n) (rowAt (M .n) (M .rows) (c .row)) (M .box) in
-    record { answer = removed (r .outcome); state = withRow s (c .row) (rowLeft r) }
+    record { answer = removed (r .outcome); state = withRow s (c .row) (r .row) }
 act unknown s c = record { answer = refused 11; state = s }
 
 -- "The first [check] that applies to the call is the answer; every lent number stays." Everything else is accepted.

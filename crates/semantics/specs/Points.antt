@@ -11,7 +11,7 @@ use Rattle.model.specs.State.{State}
 use Rattle.semantics.specs.Fixpoint.{ProbingFixpoint}
 use Rattle.semantics.specs.Probe.{byteOf, literal}
 
--- "its integer points are those of its box and rows"
+-- "its integer points are those of its box and rows"; "Integer and fractional points read the kind." (02, C-14)
 abbrev pub PointOf : State → List ℤ → Type 0
 PointOf s x = IntegerPoint (s .model) x
 

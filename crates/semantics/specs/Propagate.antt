@@ -7,7 +7,8 @@ use mathlib.Core.List.{List}
 use Rattle.model.specs.Box.{isEmpty}
 use Rattle.model.specs.Rows.{Rows, rowAt}
 use Rattle.row.specs.Outcome.{isInfeasible}
-use Rattle.row.specs.Propagation.{PropagatedRow, propagateRowOf}
+use Rattle.row.specs.Kinds.{propagateRowOf}
+use Rattle.row.specs.Propagation.{PropagatedRow}
 
 -- a pass, as far as it has come: whether a row answered None, how many bounds its rows moved, and the box
 pub record Pass : Type 0 where
@@ -20,7 +21,7 @@ unfoldable pub passRow : Pass → PropagatedRow → Pass
 passRow p v =
     cond (p .ended) p (record { ended = isInfeasible (v .outcome); moved = p .moved + v .moved; box = v .box })
 
--- "a pass visits rows 0 to m − 1": the pass over rows 0 to i − 1 of the matrix C with the right sides R
+-- "a pass visits rows 0 to m − 1": the pass over rows 0 to i − 1 of A, each by its kind
 unfoldable pub passTo : ℕ → ℕ → Rows → List ℤ → Pass
 passTo n zero A B = record { ended = false; moved = 0; box = B }
 passTo n (suc i) A B = passRow (passTo n i A B) (propagateRowOf n (rowAt n A i) (passTo n i A B .box))

@@ -8,7 +8,7 @@ use Rattle.model.specs.Box.{isEmpty, isFree, sameList}
 use Rattle.model.specs.Checks.{modelFault, none}
 use Rattle.model.specs.Rows.{Rows, rowAt}
 use Rattle.model.specs.State.{State}
-use Rattle.row.specs.Propagation.{propagateRowOf}
+use Rattle.row.specs.Kinds.{propagateRowOf}
 use Rattle.semantics.specs.CallChecks.{maxBudget}
 use Rattle.semantics.specs.Probe.{fix, hull}
 use Rattle.semantics.specs.Propagate.{isNone, propagate}

@@ -54,12 +54,14 @@ sameBytes [] (y ∷ ys) = false
 sameBytes (x ∷ xs) [] = false
 sameBytes (x ∷ xs) (y ∷ ys) = eqb x y && sameBytes xs ys
 
--- every bound, row number and table byte is as it was
+-- every bound, row number, kind and table byte is as it was
 unfoldable pub sameState : State → State → Bool
 sameState s r =
     let M = s .model in
     let N = r .model in
-    sameList (M .box) (N .box) && sameList (M .rows .coefs) (N .rows .coefs) && sameList (M .rows .rhs) (N .rows .rhs) && sameBytes (s .table) (r .table)
+    sameList (M .box) (N .box)
+    && sameList (M .rows .coefs) (N .rows .coefs) && sameList (M .rows .rhs) (N .rows .rhs) && sameBytes (M .rows .kinds) (N .rows .kinds)
+    && sameBytes (s .table) (r .table)
 
 -- "A call that answers None counts there only, also where it voids the box."
 unfoldable pub classOf : State → Call → CallClass

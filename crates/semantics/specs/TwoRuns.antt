@@ -53,7 +53,8 @@ pub record TwoRuns (s : State) (before one two : List Call) : Type 0 where
   pub implied1 : (x : List ℤ) → PointOf s x → TableHolds (s .model .n) (run (run s before) one .table) x
   pub implied2 : (x : List ℤ) → PointOf s x → TableHolds (s .model .n) (run (run s before) two .table) x
 
--- "All this is a single claim about the three lists together" (proved as `demand-3`)
+-- "All this is a single claim about the three lists together" (proved as `demand-3`). "Two runs that end at rest still agree with =
+-- rows in the model." (02, C-14)
 unfoldable pub Demand3 : Type 0
 Demand3 =
     (s : State) (before one two : List Call) → HandedIn s → Narrows (run s before) one → Narrows (run s before) two → TwoRuns s before one two

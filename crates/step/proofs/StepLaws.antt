@@ -8,16 +8,14 @@ use mathlib.Core.List.{List, []}
 use mathlib.Core.Logic.{⊎-elim}
 use mathlib.Core.Path.{_∙_, _≡_, ap, refl, sym}
 use Rattle.integer.proofs.Tests.{decide, eqb-test, neqb→ne, test-false}
-use Rattle.model.specs.Box.{at, sameList}
-use Rattle.model.specs.Rows.{Rows, rowOf, rowsOf, setRow}
+use Rattle.model.specs.Box.{sameList}
+use Rattle.model.specs.Rows.{Rows, rowAt, setRow}
 use Rattle.row.specs.Answers.{propagatedRowOf}
 use Rattle.row.specs.Outcome as outcomes
 use Rattle.row.specs.Outcome.{Outcome, isChanged, isInfeasible}
-use Rattle.row.specs.Propagation.{propagateRow}
+use Rattle.row.specs.Kinds.{ChangedRow, propagateRowOf, removeRowOf, tightenRowOf}
 use Rattle.row.specs.declared.propagation.RowPropagation.{RowPropagation}
 use Rattle.row.specs.declared.propagation.RowPropagation.the-variants as visits
-use Rattle.row.specs.Redundancy.{removeRedundantRow}
-use Rattle.row.specs.Tightening.{NewRow, rowLeft, tightenCoefficient}
 use Rattle.semantics.specs.CallChecks.{callChecks, callFault, givenModel, isLent, recordChecks}
 use Rattle.semantics.specs.Perform.{Performed, act, perform}
 use Rattle.semantics.specs.Probe.{Probed, probe}
@@ -92,9 +90,9 @@ step-ignored : (s : State) (row variable budget : ℕ) → step s (callOf s 3 ro
 unfolding step
 step-ignored s row variable budget = ap (λ (p : Performed). p .state) (row-ignored s row variable budget)
 
-module _ (n m : ℕ) (B C R : List ℤ) (t : List ℕ) (kind row variable budget : ℕ) where
+module _ (n m : ℕ) (B : List ℤ) (A : Rows) (t : List ℕ) (kind row variable budget : ℕ) where
   abbrev s : State
-  s = stateOf n m B C R t
+  s = stateOf n m B A t
 
   abbrev call : Call
   call = callOf s kind row variable budget
@@ -105,7 +103,7 @@ module _ (n m : ℕ) (B C R : List ℤ) (t : List ℕ) (kind row variable budget
 
   module _ (f : callFault s call ≡ 0) {k : CallClass} where
     pub ran-visit : (p : RowPropagation) (Q : List ℤ) → kindOf kind ≡ rowPropagation → k ≡ outcomeClass (propagatedRowOf p [] .outcome)
-        → propagatedRowOf p Q ≡ propagateRow n (rowOf n C row) (at R row) B → Ran k (stateOf n m Q C R t)
+        → propagatedRowOf p Q ≡ propagateRowOf n (rowAt n A row) B → Ran k (stateOf n m Q A t)
     unfolding stateOf callOf act withBox
     ran-visit p Q q e h = (
       e ∙ row-class p Q ∙ rw h (sym (propagate-row-class s call f q)),
@@ -113,7 +111,7 @@ module _ (n m : ℕ) (B C R : List ℤ) (t : List ℕ) (kind row variable budget
     )
 
     pub ran-settle : (p : Propagation) (Q : List ℤ) → kindOf kind ≡ propagation → k ≡ propagationClass p
-        → propagationOf p Q ≡ propagate budget n m (rowsOf C R) B → Ran k (stateOf n m Q C R t)
+        → propagationOf p Q ≡ propagate budget n m A B → Ran k (stateOf n m Q A t)
     unfolding stateOf callOf act withBox
     ran-settle p Q q e h = (
       e ∙ propagation-class p Q ∙ rw h (sym (propagate-class s call f q)),
@@ -121,34 +119,34 @@ module _ (n m : ℕ) (B C R : List ℤ) (t : List ℕ) (kind row variable budget
     )
 
     pub ran-probe : (w : Probed) → kindOf kind ≡ probing → k ≡ classBy (probeInfeasible (w .ending)) (addsNone (w .ending) && sameList B (w .box))
-        → w ≡ probe variable budget n m (rowsOf C R) B t → Ran k (stateOf n m (w .box) C R (w .table))
+        → w ≡ probe variable budget n m A B t → Ran k (stateOf n m (w .box) A (w .table))
     unfolding stateOf callOf act withBox
     ran-probe w q e h = (
       e ∙ rw h (sym (probe-class s call f q)),
       sym (step-accepted s call f ∙ rw (q, h)),
     )
 
-    -- p is what the rule of a sharpen or a drop says of the row, and D and S are the rows with it
-    changed-row : (p : NewRow) {o : Outcome} {D S : List ℤ} → act (kindOf kind) s call .state ≡ withRow s row (rowLeft p)
+    -- p is what the rule of a sharpen or a drop says of the row, and A′ are the rows with it
+    changed-row : (p : ChangedRow) {o : Outcome} {A′ : Rows} → act (kindOf kind) s call .state ≡ withRow s row (p .row)
         → classOf s call ≡ classBy (isInfeasible (p .outcome)) (not (isChanged (p .outcome)))
-        → k ≡ outcomeClass o → (o ≡ p .outcome) × (rowsOf D S ≡ setRow n (rowsOf C R) row (rowLeft p)) → Ran k (stateOf n m B D S t)
+        → k ≡ outcomeClass o → (o ≡ p .outcome) × (A′ ≡ setRow n A row (p .row)) → Ran k (stateOf n m B A′ t)
     unfolding stateOf callOf withRow
-    changed-row p {o} {D} {S} a d e h = (
+    changed-row p {o} {A′} a d e h = (
       e ∙ ap outcomeClass (h .0) ∙ outcome-class _ ∙ sym d,
-      sym (step-accepted s call f ∙ a ∙ ap (λ (A : Rows). record { model = record { n = n; m = m; box = B; rows = A }; table = t }) (sym (h .1))),
+      sym (step-accepted s call f ∙ a ∙ ap (λ (X : Rows). record { model = record { n = n; m = m; box = B; rows = X }; table = t }) (sym (h .1))),
     )
 
-    pub ran-tighten : {o : Outcome} {D S : List ℤ} → kindOf kind ≡ tightening → k ≡ outcomeClass o
-        → let p = tightenCoefficient n (rowOf n C row) (at R row) B variable in
-        (o ≡ p .outcome) × (rowsOf D S ≡ setRow n (rowsOf C R) row (rowLeft p)) → Ran k (stateOf n m B D S t)
+    pub ran-tighten : {o : Outcome} {A′ : Rows} → kindOf kind ≡ tightening → k ≡ outcomeClass o
+        → let p = tightenRowOf n (rowAt n A row) B variable in
+        (o ≡ p .outcome) × (A′ ≡ setRow n A row (p .row)) → Ran k (stateOf n m B A′ t)
     unfolding stateOf callOf act
-    ran-tighten q = changed-row (tightenCoefficient n (rowOf n C row) (at R row) B variable) (rw q) (tighten-class s call f q)
+    ran-tighten q = changed-row (tightenRowOf n (rowAt n A row) B variable) (rw q) (tighten-class s call f q)
 
-    pub ran-remove : {o : Outcome} {D S : List ℤ} → kindOf kind ≡ removal → k ≡ outcomeClass o
-        → let p = removeRedundantRow n (rowOf n C row) (at R row) B in
-        (o ≡ p .outcome) × (rowsOf D S ≡ setRow n (rowsOf C R) row (rowLeft p)) → Ran k (stateOf n m B D S t)
+    pub ran-remove : {o : Outcome} {A′ : Rows} → kindOf kind ≡ removal → k ≡ outcomeClass o
+        → let p = removeRowOf n (rowAt n A row) B in
+        (o ≡ p .outcome) × (A′ ≡ setRow n A row (p .row)) → Ran k (stateOf n m B A′ t)
     unfolding stateOf callOf act
-    ran-remove q = changed-row (removeRedundantRow n (rowOf n C row) (at R row) B) (rw q) (remove-class s call f q)
+    ran-remove q = changed-row (removeRowOf n (rowAt n A row) B) (rw q) (remove-class s call f q)
 
   pub ran-probed : {k : CallClass} {r : State} → kind ≡ 3
       → (k ≡ classOf s (callOf s 3 0 variable budget)) × (r ≡ step s (callOf s 3 0 variable budget)) → Ran k r

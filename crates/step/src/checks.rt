@@ -14,6 +14,7 @@ ghost use Rattle.model.specs.Checks.{first};
 ghost use Rattle.model.specs.Valid.{ValidBox};
 ghost use Rattle.semantics.specs.CallChecks.{recordChecks};
 ghost use Rattle.semantics.specs.Call.{kindOf};
+ghost use Rattle.model.specs.Rows.{rowsOf};
 ghost use Rattle.model.specs.State.{stateOf};
 ghost use Rattle.step.specs.Calls.{callOn};
 ghost use Rattle.step.specs.FieldChecks.{budgetChecks, rowChecks, variableChecks};
@@ -64,7 +65,7 @@ pub fn record_fault(n: usize, m: usize, bounds: &[i32], call: Call) -> u32
     requires { ⌜ ValidBox n (now bounds) ⌝ }
     requires { ⌜ 0 < n ⌝ }
     ensures { λ r.
-        let s = stateOf n m (now (bounds .entry)) [] [] [] in
+        let s = stateOf n m (now (bounds .entry)) (rowsOf [] [] []) [] in
         ⌜ r ≡ first (recordChecks (kindOf (call .kind)) s (callOn s call)) ⌝ }
 {
     let kind = call.kind;

@@ -19,6 +19,7 @@ ghost use mathlib.Core.Path.{_≡_};
 ghost use Prim.Native.Nat.{_+_, _<_, _^_};
 ghost use Rattle.row.specs.Answers.{propagatedRowOf, removalOutcome, tighteningOutcome};
 ghost use Rattle.probing.specs.Marked.{Marked};
+ghost use Rattle.model.specs.Rows.{rowsOf};
 ghost use Rattle.semantics.specs.CallChecks.{callFault};
 ghost use Rattle.model.specs.Valid.{ValidState};
 ghost use Rattle.semantics.specs.Run.{classOf, countCall, step};
@@ -100,6 +101,7 @@ fn run_probe_marked(
     bounds: &mut [i32],
     coefs: &[i32],
     rhs: &[i32],
+    kinds: &[u8],
     table: &mut [u8],
     variable: u32,
     budget: u32,
@@ -107,22 +109,24 @@ fn run_probe_marked(
     signs: &mut [u8],
     marks: &mut [u8],
 ) -> CallClass
-    requires { ⌜ ValidState (stateOf n m (now bounds) (now coefs) (now rhs) (now table)) ⌝ }
-    requires { let s = stateOf n m (now bounds) (now coefs) (now rhs) (now table) in
+    requires { ⌜ ValidState (stateOf n m (now bounds) (rowsOf (now coefs) (now rhs) (now kinds)) (now table)) ⌝ }
+    requires { let A = rowsOf (now coefs) (now rhs) (now kinds) in
+        let s = stateOf n m (now bounds) A (now table) in
         ⌜ callFault s (callOf s 3 0 variable budget) ≡ 0 ⌝ }
-    requires { ⌜ Marked n m (now bounds) (now coefs) (now rhs) (now across) (now signs) (now marks) ⌝ }
+    requires { let A = rowsOf (now coefs) (now rhs) (now kinds) in
+        ⌜ Marked n m (now bounds) A (now across) (now signs) (now marks) ⌝ }
     ensures class { λ r.
-        let s = stateOf n m (now (bounds .entry)) (now (coefs .entry)) (now (rhs .entry)) (now (table .entry)) in
+        let A = rowsOf (now (coefs .entry)) (now (rhs .entry)) (now (kinds .entry)) in
+        let s = stateOf n m (now (bounds .entry)) A (now (table .entry)) in
         ⌜ classIs r ≡ classOf s (callOf s 3 0 variable budget) ⌝ }
     ensures left { λ r.
-        let s = stateOf n m (now (bounds .entry)) (now (coefs .entry)) (now (rhs .entry)) (now (table .entry)) in
-        let r' = stateOf n m (now (bounds .exit)) (now (coefs .entry)) (now (rhs .entry)) (now (table .exit)) in
+        let A = rowsOf (now (coefs .entry)) (now (rhs .entry)) (now (kinds .entry)) in
+        let s = stateOf n m (now (bounds .entry)) A (now (table .entry)) in
+        let r' = stateOf n m (now (bounds .exit)) A (now (table .exit)) in
         ⌜ r' ≡ step s (callOf s 3 0 variable budget) ⌝ }
     ensures marks { λ r.
-        let B = now (bounds .exit) in
-        let C = now (coefs .entry) in
-        let R = now (rhs .entry) in
-        ⌜ Marked n m B C R (now (across .exit)) (now (signs .exit)) (now (marks .exit)) ⌝ }
+        let A = rowsOf (now (coefs .entry)) (now (rhs .entry)) (now (kinds .entry)) in
+        ⌜ Marked n m (now (bounds .exit)) A (now (across .exit)) (now (signs .exit)) (now (marks .exit)) ⌝ }
 {
     let len = bounds.len();
     let mut before = [0i32; 2 * MAX_VARIABLES];
@@ -133,6 +137,7 @@ fn run_probe_marked(
         bounds,
         coefs,
         rhs,
+        kinds,
         table,
         variable as usize,
         budget,
@@ -161,19 +166,23 @@ fn run_probe(
     bounds: &mut [i32],
     coefs: &[i32],
     rhs: &[i32],
+    kinds: &[u8],
     table: &mut [u8],
     variable: u32,
     budget: u32,
 ) -> CallClass
-    requires { ⌜ ValidState (stateOf n m (now bounds) (now coefs) (now rhs) (now table)) ⌝ }
-    requires { let s = stateOf n m (now bounds) (now coefs) (now rhs) (now table) in
+    requires { ⌜ ValidState (stateOf n m (now bounds) (rowsOf (now coefs) (now rhs) (now kinds)) (now table)) ⌝ }
+    requires { let A = rowsOf (now coefs) (now rhs) (now kinds) in
+        let s = stateOf n m (now bounds) A (now table) in
         ⌜ callFault s (callOf s 3 0 variable budget) ≡ 0 ⌝ }
     ensures class { λ r.
-        let s = stateOf n m (now (bounds .entry)) (now (coefs .entry)) (now (rhs .entry)) (now (table .entry)) in
+        let A = rowsOf (now (coefs .entry)) (now (rhs .entry)) (now (kinds .entry)) in
+        let s = stateOf n m (now (bounds .entry)) A (now (table .entry)) in
         ⌜ classIs r ≡ classOf s (callOf s 3 0 variable budget) ⌝ }
     ensures left { λ r.
-        let s = stateOf n m (now (bounds .entry)) (now (coefs .entry)) (now (rhs .entry)) (now (table .entry)) in
-        let r' = stateOf n m (now (bounds .exit)) (now (coefs .entry)) (now (rhs .entry)) (now (table .exit)) in
+        let A = rowsOf (now (coefs .entry)) (now (rhs .entry)) (now (kinds .entry)) in
+        let s = stateOf n m (now (bounds .entry)) A (now (table .entry)) in
+        let r' = stateOf n m (now (bounds .exit)) A (now (table .exit)) in
         ⌜ r' ≡ step s (callOf s 3 0 variable budget) ⌝ }
 {
     let mut across = [0u8; MAX_ROWS * MAX_VARIABLES];
@@ -185,6 +194,7 @@ fn run_probe(
         bounds,
         coefs,
         rhs,
+        kinds,
         table,
         variable,
         budget,
@@ -201,35 +211,51 @@ fn run_accepted(
     bounds: &mut [i32],
     coefs: &mut [i32],
     rhs: &mut [i32],
+    kinds: &mut [u8],
     table: &mut [u8],
     call: Call,
 ) -> CallClass
-    requires { ⌜ ValidState (stateOf n m (now bounds) (now coefs) (now rhs) (now table)) ⌝ }
-    requires { let s = stateOf n m (now bounds) (now coefs) (now rhs) (now table) in
+    requires { ⌜ ValidState (stateOf n m (now bounds) (rowsOf (now coefs) (now rhs) (now kinds)) (now table)) ⌝ }
+    requires { let A = rowsOf (now coefs) (now rhs) (now kinds) in
+        let s = stateOf n m (now bounds) A (now table) in
         ⌜ callFault s (callOn s call) ≡ 0 ⌝ }
     ensures class { λ r.
-        let s = stateOf n m (now (bounds .entry)) (now (coefs .entry)) (now (rhs .entry)) (now (table .entry)) in
+        let A = rowsOf (now (coefs .entry)) (now (rhs .entry)) (now (kinds .entry)) in
+        let s = stateOf n m (now (bounds .entry)) A (now (table .entry)) in
         ⌜ classIs r ≡ classOf s (callOn s call) ⌝ }
     ensures left { λ r.
-        let s = stateOf n m (now (bounds .entry)) (now (coefs .entry)) (now (rhs .entry)) (now (table .entry)) in
-        let r' = stateOf n m (now (bounds .exit)) (now (coefs .exit)) (now (rhs .exit)) (now (table .exit)) in
+        let A = rowsOf (now (coefs .entry)) (now (rhs .entry)) (now (kinds .entry)) in
+        let A' = rowsOf (now (coefs .exit)) (now (rhs .exit)) (now (kinds .exit)) in
+        let s = stateOf n m (now (bounds .entry)) A (now (table .entry)) in
+        let r' = stateOf n m (now (bounds .exit)) A' (now (table .exit)) in
         ⌜ r' ≡ step s (callOn s call) ⌝ }
 {
     let r = call.row as usize;
     let kind = call.kind;
     match kind {
-        PROPAGATE_ROW => class_of_row(propagate_row_at(n, coefs, rhs, r, bounds)),
-        PROPAGATE => class_of_propagation(propagate(n, m, bounds, coefs, rhs, call.budget)),
-        PROBE => run_probe(n, m, bounds, coefs, rhs, table, call.variable, call.budget),
+        PROPAGATE_ROW => class_of_row(propagate_row_at(n, coefs, rhs, kinds, r, bounds)),
+        PROPAGATE => class_of_propagation(propagate(n, m, bounds, coefs, rhs, kinds, call.budget)),
+        PROBE => run_probe(
+            n,
+            m,
+            bounds,
+            coefs,
+            rhs,
+            kinds,
+            table,
+            call.variable,
+            call.budget,
+        ),
         TIGHTEN_COEFFICIENT => class_of_tightening(tighten_coefficient_at(
             n,
             coefs,
             rhs,
+            kinds,
             r,
             bounds,
             call.variable as usize,
         )),
-        _ => class_of_removal(remove_redundant_row_at(n, coefs, rhs, r, bounds)),
+        _ => class_of_removal(remove_redundant_row_at(n, coefs, rhs, kinds, r, bounds)),
     }
 }
 
@@ -240,23 +266,27 @@ pub fn run_record(
     bounds: &mut [i32],
     coefs: &mut [i32],
     rhs: &mut [i32],
+    kinds: &mut [u8],
     table: &mut [u8],
     call: Call,
 ) -> CallClass
-    requires { ⌜ ValidState (stateOf n m (now bounds) (now coefs) (now rhs) (now table)) ⌝ }
+    requires { ⌜ ValidState (stateOf n m (now bounds) (rowsOf (now coefs) (now rhs) (now kinds)) (now table)) ⌝ }
     ensures class { λ r.
-        let s = stateOf n m (now (bounds .entry)) (now (coefs .entry)) (now (rhs .entry)) (now (table .entry)) in
+        let A = rowsOf (now (coefs .entry)) (now (rhs .entry)) (now (kinds .entry)) in
+        let s = stateOf n m (now (bounds .entry)) A (now (table .entry)) in
         ⌜ classIs r ≡ classOf s (callOn s call) ⌝ }
     ensures left { λ r.
-        let s = stateOf n m (now (bounds .entry)) (now (coefs .entry)) (now (rhs .entry)) (now (table .entry)) in
-        let r' = stateOf n m (now (bounds .exit)) (now (coefs .exit)) (now (rhs .exit)) (now (table .exit)) in
+        let A = rowsOf (now (coefs .entry)) (now (rhs .entry)) (now (kinds .entry)) in
+        let A' = rowsOf (now (coefs .exit)) (now (rhs .exit)) (now (kinds .exit)) in
+        let s = stateOf n m (now (bounds .entry)) A (now (table .entry)) in
+        let r' = stateOf n m (now (bounds .exit)) A' (now (table .exit)) in
         ⌜ r' ≡ step s (callOn s call) ⌝ }
 {
     let fault = record_fault(n, m, bounds, call);
     if fault != 0 {
         return CallClass::Refused;
     }
-    run_accepted(n, m, bounds, coefs, rhs, table, call)
+    run_accepted(n, m, bounds, coefs, rhs, kinds, table, call)
 }
 
 // A record that asks for a probe, by the index of the rows and the marks of the box: refused by its own checks, or run.
@@ -266,6 +296,7 @@ pub fn run_probe_record(
     bounds: &mut [i32],
     coefs: &[i32],
     rhs: &[i32],
+    kinds: &[u8],
     table: &mut [u8],
     variable: u32,
     budget: u32,
@@ -273,20 +304,21 @@ pub fn run_probe_record(
     signs: &mut [u8],
     marks: &mut [u8],
 ) -> CallClass
-    requires { ⌜ ValidState (stateOf n m (now bounds) (now coefs) (now rhs) (now table)) ⌝ }
-    requires { ⌜ Marked n m (now bounds) (now coefs) (now rhs) (now across) (now signs) (now marks) ⌝ }
+    requires { ⌜ ValidState (stateOf n m (now bounds) (rowsOf (now coefs) (now rhs) (now kinds)) (now table)) ⌝ }
+    requires { let A = rowsOf (now coefs) (now rhs) (now kinds) in
+        ⌜ Marked n m (now bounds) A (now across) (now signs) (now marks) ⌝ }
     ensures class { λ r.
-        let s = stateOf n m (now (bounds .entry)) (now (coefs .entry)) (now (rhs .entry)) (now (table .entry)) in
+        let A = rowsOf (now (coefs .entry)) (now (rhs .entry)) (now (kinds .entry)) in
+        let s = stateOf n m (now (bounds .entry)) A (now (table .entry)) in
         ⌜ classIs r ≡ classOf s (callOf s 3 0 variable budget) ⌝ }
     ensures left { λ r.
-        let s = stateOf n m (now (bounds .entry)) (now (coefs .entry)) (now (rhs .entry)) (now (table .entry)) in
-        let r' = stateOf n m (now (bounds .exit)) (now (coefs .entry)) (now (rhs .entry)) (now (table .exit)) in
+        let A = rowsOf (now (coefs .entry)) (now (rhs .entry)) (now (kinds .entry)) in
+        let s = stateOf n m (now (bounds .entry)) A (now (table .entry)) in
+        let r' = stateOf n m (now (bounds .exit)) A (now (table .exit)) in
         ⌜ r' ≡ step s (callOf s 3 0 variable budget) ⌝ }
     ensures marks { λ r.
-        let B = now (bounds .exit) in
-        let C = now (coefs .entry) in
-        let R = now (rhs .entry) in
-        ⌜ Marked n m B C R (now (across .exit)) (now (signs .exit)) (now (marks .exit)) ⌝ }
+        let A = rowsOf (now (coefs .entry)) (now (rhs .entry)) (now (kinds .entry)) in
+        ⌜ Marked n m (now (bounds .exit)) A (now (across .exit)) (now (signs .exit)) (now (marks .exit)) ⌝ }
 {
     let call = Call {
         kind: PROBE,
@@ -304,6 +336,7 @@ pub fn run_probe_record(
         bounds,
         coefs,
         rhs,
+        kinds,
         table,
         variable,
         budget,

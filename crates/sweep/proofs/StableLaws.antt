@@ -6,18 +6,22 @@ use lib.Signed.{_<ℤ_, _≤ℤ_, ≤ℤ-refl}
 use mathlib.Core.Bool.{not}
 use mathlib.Core.List.{List}
 use mathlib.Core.Path.{_∙_, _≡_, ap, sym}
-use mathlib.Core.Logic.{_⊎_, inl, inr}
+use mathlib.Core.Logic.{_≢_, _⊎_, inl, inr, ⊎-elim}
 use lib.Dec.{T}
 use Rattle.integer.proofs.IndexLaws.{sum-cong}
 use Rattle.integer.proofs.Parts.{mul-anti-left, mul-mono-left, zarith, zify}
-use Rattle.integer.proofs.Tests.{lt-or-ge}
+use Rattle.integer.proofs.Tests.{decide, lt-or-ge}
 use Rattle.model.specs.Box.{Inside, NonEmpty, at, lower, upper}
+use Rattle.model.specs.Rows.{Row, isEquality, negated, negatedCoefs}
 use Rattle.model.proofs.BoxLaws.{≤ℤ-antisymm}
+use Rattle.model.proofs.PointLaws.{at-negated}
 use Rattle.row.specs.Activity.{minActivity, minTerm}
+use Rattle.row.specs.Kinds.{propagateRowOf}
 use Rattle.row.specs.Outcome.{isInfeasible, unchanged}
 use Rattle.row.specs.Propagation.{PropagatedRow, propagateRow}
 use Rattle.row.proofs.ActivityLaws.{minTerm-nonpos, minTerm-pos}
 use Rattle.row.proofs.BoundLaws.{le-newUpper, newLower-le}
+use Rattle.row.proofs.KindLaws.{forms-fixed, kinded-fixed, kinded-le, kinded-stays}
 use Rattle.row.proofs.PropagationLaws.{Stable, box→stable, propagate-row-again, propagate-row-nonEmpty, stable→same}
 
 -- the row A reads the same bounds in P and Q
@@ -58,12 +62,46 @@ module _ {n : ℕ} {A P Q : List ℤ} (b : ℤ) (i : Inside n Q P) (r : SameRead
     ));
   }
 
--- the same of the definition: what a visit says in P it says in Q
-pub same-kept : {n : ℕ} {A P Q : List ℤ} (b : ℤ) → 0 < n → NonEmpty n P → NonEmpty n Q → Inside n Q P → SameReads n A P Q
-    → propagateRow n A b P ≡ record { outcome = unchanged; moved = 0; box = P } → propagateRow n A b Q ≡ record { outcome = unchanged; moved = 0; box = Q }
-same-kept b h p q i r e = stable→same h q (stable-kept b i r (box→stable h p (ap (λ (v : PropagatedRow). v .box) e)))
+-- ---- by the kind: an = row reads both bounds of every variable whose coefficient is not 0
 
--- and a row that was just visited moves nothing
-pub same-after : (A : List ℤ) (b : ℤ) {n : ℕ} {B : List ℤ} → 0 < n → NonEmpty n B → T (not (isInfeasible (propagateRow n A b B .outcome)))
+pub record SameBounds (n : ℕ) (A P Q : List ℤ) : Type 0 where
+  pub low : (j : ℕ) → j < n → at A j ≢ pos 0 → lower Q j ≡ lower P j
+  pub high : (j : ℕ) → j < n → at A j ≢ pos 0 → upper Q j ≡ upper P j
+
+above-not : {a : ℤ} → pos 0 <ℤ a → a ≢ pos 0
+above-not h e = let z : ⊥ = omega zarith in z
+
+below-not : {a : ℤ} → a <ℤ pos 0 → a ≢ pos 0
+below-not h e = let z : ⊥ = omega zarith in z
+
+first-reads : {n : ℕ} {A P Q : List ℤ} → SameBounds n A P Q → SameReads n A P Q
+first-reads s = record { low = λ j k h. s .low j k (above-not h); high = λ j k h. s .high j k (below-not h) }
+
+second-reads : {n : ℕ} {A P Q : List ℤ} → SameBounds n A P Q → SameReads n (negatedCoefs A) P Q
+second-reads {n} {A} s = record {
+  low = λ j k h. let g = rw (at-negated A j) at h in let z = simp zify at g in s .low j k (below-not (omega (zarith, z)));
+  high = λ j k h. let g = rw (at-negated A j) at h in let z = simp zify at g in s .high j k (above-not (omega (zarith, z)));
+}
+
+-- what a row says in P it says in Q: a ≤ row where it reads the same bounds, an = row where both are the same
+module _ (r : Row) {n : ℕ} {P Q : List ℤ} (h : 0 < n) (p : NonEmpty n P) (q : NonEmpty n Q) (i : Inside n Q P) where
+  form-kept : (A : List ℤ) (b : ℤ) → SameReads n A P Q → propagateRow n A b P .box ≡ P → propagateRow n A b Q .box ≡ Q
+  form-kept A b s e = ap (λ (v : PropagatedRow). v .box) (stable→same h q (stable-kept b i s (box→stable h p e)))
+
+  pub kinded-kept : (T (not (isEquality r)) → SameReads n (r .coefs) P Q) → (T (isEquality r) → SameBounds n (r .coefs) P Q)
+      → propagateRowOf n r P ≡ record { outcome = unchanged; moved = 0; box = P } → propagateRowOf n r Q ≡ record { outcome = unchanged; moved = 0; box = Q }
+  unfolding negated
+  kinded-kept f g e =
+      let fixed = kinded-fixed r h p (ap (λ (v : PropagatedRow). v .box) e) in
+      kinded-stays r h q (forms-fixed r h q
+      (form-kept (r .coefs) (r .rhs) (⊎-elim (λ t. first-reads (g t)) f (decide (isEquality r))) (fixed .0))
+      (λ t. form-kept (negated r .coefs) (negated r .rhs) (second-reads (g t)) (fixed .1 t)))
+
+-- a ≤ row that was just visited moves nothing; an = row may (`not-idempotent`)
+same-after : (A : List ℤ) (b : ℤ) {n : ℕ} {B : List ℤ} → 0 < n → NonEmpty n B → T (not (isInfeasible (propagateRow n A b B .outcome)))
     → propagateRow n A b (propagateRow n A b B .box) ≡ record { outcome = unchanged; moved = 0; box = propagateRow n A b B .box }
 same-after A b h p f = let q = propagate-row-nonEmpty A b p f in stable→same h q (box→stable h q (propagate-row-again A b h p f))
+
+pub kinded-after : (r : Row) {n : ℕ} {B : List ℤ} → 0 < n → NonEmpty n B → T (not (isEquality r)) → T (not (isInfeasible (propagateRowOf n r B .outcome)))
+    → propagateRowOf n r (propagateRowOf n r B .box) ≡ record { outcome = unchanged; moved = 0; box = propagateRowOf n r B .box }
+kinded-after r {n} {B} h p q f = rw (kinded-le n r B q, kinded-le n r (propagateRow n (r .coefs) (r .rhs) B .box) q) (same-after (r .coefs) (r .rhs) h p (rw (kinded-le n r B q) at f))

@@ -10,9 +10,11 @@ use native.Mathlib.Decide.{ℕ-discrete}
 use native.Mathlib.Numerals.{add-one}
 use native.Mathlib.Omega.{arith}
 use Rattle.integer.specs.Index.{sum}
+use Rattle.integer.proofs.Parts.{zarith, zify}
 use Rattle.model.specs.Box.{at, lower, upper, withBounds}
 use Rattle.model.proofs.BoxLoops.{writeTo, writeTo-late}
 use Rattle.row.specs.Activity.{greatest}
+use Rattle.row.specs.Kinds.{signed}
 use Rattle.row.specs.Moved.{differs, movedBounds}
 use Rattle.row.specs.Propagation.{impliedBox, newLower, newUpper}
 use Rattle.sweep.specs.Steps.{Steps}
@@ -21,6 +23,7 @@ use Rattle.row.proofs.ImpliedBoxLaws.{lower-implied, upper-implied}
 use Rattle.row.proofs.MovedLaws.{differs-same}
 use Rattle.row.proofs.ReachLaws.{greatest-zero, minTerm-zero, minTermAt, termWidth-zero, widthAt}
 use Rattle.row.proofs.RowLoops.{movedTo, tightenTo}
+use Rattle.row.proofs.SignedLaws.{at-signed}
 
 -- ---- sums, boxes and counts over a stretch where nothing happens
 
@@ -101,3 +104,12 @@ module _ {n : ℕ} {A : List ℤ} {S : List ℕ} (v : Steps n A S) {j : ℕ} (h 
       lower-implied n A b L B k m ∙ low-stays k a c,
       upper-implied n A b L B k m ∙ high-stays k a c,
     ))
+
+-- the steps of a row are those of its negated form
+pub signed-steps : (s : ℤ) {n : ℕ} {A : List ℤ} {S : List ℕ} → Steps n A S → Steps n (signed s A) S
+signed-steps s {n} {A} v = record {
+  len = v .len;
+  forward = v .forward;
+  within = v .within;
+  zeros = λ j h k a b. rw (at-signed s A k, v .zeros j h k a b) (simp zify (omega zarith));
+}

@@ -7,6 +7,7 @@ use crate::models::put_model;
 use crate::moved;
 use crate::rooms::bounds_part;
 use crate::rooms::coefs_part;
+use crate::rooms::kinds_part;
 use crate::rooms::rhs_part;
 use crate::rooms::row_count;
 use crate::rooms::table_part;
@@ -29,12 +30,13 @@ fn say(
     bounds: &mut [i32],
     coefs: &mut [i32],
     rhs: &mut [i32],
+    kinds: &mut [u8],
     table: &mut [u8],
     call: [u32; 4],
     lie: u32,
 ) -> Said {
     if call[0] <= DROP {
-        let made = make(n, row_count(n), bounds, coefs, rhs, table, call);
+        let made = make(n, row_count(n), bounds, coefs, rhs, kinds, table, call);
         let mut room = [0i32; 8];
         let before = bounds_part(&mut room, n);
         boxes(before, code);
@@ -44,8 +46,16 @@ fn say(
             moved: moved::agrees(made, before, bounds),
         };
     }
-    let RoundsAnswer::Infeasible(_) = rounds::run(n, row_count(n), bounds, coefs, rhs, table, 8)
-    else {
+    let RoundsAnswer::Infeasible(_) = rounds::run(
+        n,
+        row_count(n),
+        bounds,
+        coefs,
+        rhs,
+        kinds,
+        table,
+        8,
+    ) else {
         return Said {
             none: false,
             moved: true,
@@ -63,13 +73,14 @@ pub fn agrees(
     bounds: &[i32],
     coefs: &[i32],
     rhs: &[i32],
+    kinds: &[u8],
     table: &[u8],
     marks: &[u8],
     none: bool,
 ) -> bool {
     let mut room = [0u8; 1_296];
     let after = bytes_part_mut(&mut room, marks.len());
-    grid::mark(n, bounds, coefs, rhs, after);
+    grid::mark(n, bounds, coefs, rhs, kinds, after);
     if grid::differences(marks, after) != 0 {
         return false;
     }
@@ -87,13 +98,25 @@ pub fn attempt(n: usize, code: usize, call: [u32; 4], marks: &[u8], lie: u32) ->
     let mut box_room = [0i32; 8];
     let mut coef_room = [0i32; 12];
     let mut side_room = [0i32; 3];
+    let mut kind_room = [0u8; 3];
     let mut table_room = [0u8; 64];
     let bounds = bounds_part(&mut box_room, n);
     let coefs = coefs_part(&mut coef_room, n);
     let rhs = rhs_part(&mut side_room, n);
+    let kinds = kinds_part(&mut kind_room, n);
     let table = table_part(&mut table_room, n);
-    put_model(code, bounds, coefs, rhs);
-    let said = say(n, code, bounds, coefs, rhs, table, call, lie);
-    spoil(lie, code, call, bounds, coefs, rhs, table);
-    said.moved && agrees(n, bounds, coefs, rhs, table, marks, said.none || lie == 5)
+    put_model(code, bounds, coefs, rhs, kinds);
+    let said = say(n, code, bounds, coefs, rhs, kinds, table, call, lie);
+    spoil(lie, code, call, bounds, coefs, rhs, kinds, table);
+    said.moved
+        && agrees(
+            n,
+            bounds,
+            coefs,
+            rhs,
+            kinds,
+            table,
+            marks,
+            said.none || lie == 5,
+        )
 }

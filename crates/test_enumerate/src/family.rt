@@ -6,6 +6,7 @@ use crate::models;
 use crate::models::put_model;
 use crate::rooms::bounds_part;
 use crate::rooms::coefs_part;
+use crate::rooms::kinds_part;
 use crate::rooms::marks_part;
 use crate::rooms::rhs_part;
 use crate::rooms::row_count;
@@ -88,11 +89,13 @@ fn mark_model(n: usize, code: usize, marks: &mut [u8]) {
     let mut box_room = [0i32; 8];
     let mut coef_room = [0i32; 12];
     let mut side_room = [0i32; 3];
+    let mut kind_room = [0u8; 3];
     let bounds = bounds_part(&mut box_room, n);
     let coefs = coefs_part(&mut coef_room, n);
     let rhs = rhs_part(&mut side_room, n);
-    put_model(code, bounds, coefs, rhs);
-    grid::mark(n, bounds, coefs, rhs, marks);
+    let kinds = kinds_part(&mut kind_room, n);
+    put_model(code, bounds, coefs, rhs, kinds);
+    grid::mark(n, bounds, coefs, rhs, kinds, marks);
 }
 
 fn model(n: usize, code: usize, lie: u32, tally: &mut [usize; 5]) {
@@ -113,6 +116,14 @@ fn next_model(n: usize, i: usize, code: usize) -> usize {
     models::next_code(code)
 }
 
+// The same model, with = rows where the family has them.
+fn kinded(n: usize, i: usize, code: usize, equality: bool) -> usize {
+    if equality {
+        return models::with_kinds(n, i, code);
+    }
+    code
+}
+
 fn item(word: &[u8], x: usize) {
     text(word);
     count(x);
@@ -128,32 +139,37 @@ fn print(word: &[u8], tally: &[usize; 5]) {
     line();
 }
 
-fn family(word: &[u8], n: usize, size: usize, lie: u32) {
+fn family(word: &[u8], n: usize, size: usize, lie: u32, equality: bool) {
     let mut tally = [0usize; 5];
     let mut code = 0;
     let mut i = 0;
     while i < size {
         code = next_model(n, i, code);
-        model(n, code, lie, &mut tally);
+        model(n, kinded(n, i, code, equality), lie, &mut tally);
         i += 1;
     }
     print(word, &tally);
 }
 
-// All models with n = 2 and m = 2 in steps of 37, and larger ones by the congruence.
+// All models with n = 2 and m = 2 in steps of 37, and larger ones by the congruence; then such models with = rows.
 pub fn families() {
-    family(b"n 2 m 2", 2, 82_771, 0);
-    family(b"n 3 m 3", 3, 4_000, 0);
-    family(b"n 4 m 3", 4, 1_000, 0);
+    family(b"n 2 m 2", 2, 82_771, 0, false);
+    family(b"n 3 m 3", 3, 4_000, 0, false);
+    family(b"n 4 m 3", 4, 1_000, 0, false);
+    family(b"n 2 m 2, = rows", 2, 20_000, 0, true);
+    family(b"n 3 m 3, = rows", 3, 2_000, 0, true);
+    family(b"n 4 m 3, = rows", 4, 500, 0, true);
 }
 
 // The same comparison over calls that leave something wrong: a right side lowered with a negative coefficient, an upper
-// bound cut, an upper bound moved out, an implication invented, None said, a bound that moved not counted.
+// bound cut, an upper bound moved out, an implication invented, None said, a bound that moved not counted, an = row
+// made a ≤ row.
 pub fn lies() {
-    family(b"lie 1", 2, 20_000, 1);
-    family(b"lie 2", 2, 2_000, 2);
-    family(b"lie 3", 2, 2_000, 3);
-    family(b"lie 4", 2, 2_000, 4);
-    family(b"lie 5", 2, 2_000, 5);
-    family(b"lie 6", 2, 2_000, 6);
+    family(b"lie 1", 2, 20_000, 1, false);
+    family(b"lie 2", 2, 2_000, 2, false);
+    family(b"lie 3", 2, 2_000, 3, false);
+    family(b"lie 4", 2, 2_000, 4, false);
+    family(b"lie 5", 2, 2_000, 5, false);
+    family(b"lie 6", 2, 2_000, 6, false);
+    family(b"lie 7", 2, 2_000, 7, true);
 }

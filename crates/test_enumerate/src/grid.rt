@@ -52,14 +52,26 @@ fn add_term(sum: i64, a: i32, x: i32) -> i64 {
     sum + (a as i64) * (x as i64)
 }
 
-fn exceeds(sum: i64, rhs: &[i32], r: usize) -> bool {
+fn is_equality(kinds: &[u8], r: usize) -> bool {
+    if r < kinds.len() {
+        return kinds[r] == 1;
+    }
+    false
+}
+
+// Whether row r does not hold where its sum is this.
+fn fails(sum: i64, rhs: &[i32], kinds: &[u8], r: usize) -> bool {
     if r < rhs.len() {
-        return sum > wide(rhs[r]);
+        let b = wide(rhs[r]);
+        if is_equality(kinds, r) {
+            return sum != b;
+        }
+        return sum > b;
     }
     true
 }
 
-fn meets_rows(n: usize, coefs: &[i32], rhs: &[i32], point: [i32; 4]) -> bool {
+fn meets_rows(n: usize, coefs: &[i32], rhs: &[i32], kinds: &[u8], point: [i32; 4]) -> bool {
     let mut i = 0;
     let mut r = 0;
     let mut j = 0;
@@ -69,7 +81,7 @@ fn meets_rows(n: usize, coefs: &[i32], rhs: &[i32], point: [i32; 4]) -> bool {
         i += 1;
         j += 1;
         if j == n {
-            if exceeds(sum, rhs, r) {
+            if fails(sum, rhs, kinds, r) {
                 return false;
             }
             r += 1;
@@ -81,9 +93,16 @@ fn meets_rows(n: usize, coefs: &[i32], rhs: &[i32], point: [i32; 4]) -> bool {
 }
 
 // 1 where the point is an integer point of the model, else 0.
-fn is_point(n: usize, bounds: &[i32], coefs: &[i32], rhs: &[i32], point: [i32; 4]) -> u8 {
+fn is_point(
+    n: usize,
+    bounds: &[i32],
+    coefs: &[i32],
+    rhs: &[i32],
+    kinds: &[u8],
+    point: [i32; 4],
+) -> u8 {
     if in_box(bounds, point) {
-        if meets_rows(n, coefs, rhs, point) {
+        if meets_rows(n, coefs, rhs, kinds, point) {
             return 1;
         }
     }
@@ -91,10 +110,10 @@ fn is_point(n: usize, bounds: &[i32], coefs: &[i32], rhs: &[i32], point: [i32; 4
 }
 
 // Marks the integer points of a model.
-pub fn mark(n: usize, bounds: &[i32], coefs: &[i32], rhs: &[i32], marks: &mut [u8]) {
+pub fn mark(n: usize, bounds: &[i32], coefs: &[i32], rhs: &[i32], kinds: &[u8], marks: &mut [u8]) {
     let mut k = 0;
     while k < marks.len() {
-        marks[k] = is_point(n, bounds, coefs, rhs, grid_point(k));
+        marks[k] = is_point(n, bounds, coefs, rhs, kinds, grid_point(k));
         k += 1;
     }
 }

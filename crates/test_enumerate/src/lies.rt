@@ -45,8 +45,14 @@ fn set_byte(table: &mut [u8], at: usize) {
     }
 }
 
+fn clear_byte(kinds: &mut [u8]) {
+    if kinds.len() > 0 {
+        kinds[0] = 0;
+    }
+}
+
 // 1: a right side lowered; 2: the upper bound of variable 0 cut to 0; 3: moved out to 3; 4: the implication that
-// variable 0 is 0 where it is 1.
+// variable 0 is 0 where it is 1; 7: row 0 is a ≤ row.
 pub fn spoil(
     lie: u32,
     code: usize,
@@ -54,6 +60,7 @@ pub fn spoil(
     bounds: &mut [i32],
     coefs: &[i32],
     rhs: &mut [i32],
+    kinds: &mut [u8],
     table: &mut [u8],
 ) {
     match lie {
@@ -61,6 +68,7 @@ pub fn spoil(
         2 => set_upper(bounds, 0),
         3 => set_upper(bounds, 3),
         4 => set_byte(table, bounds.len()),
+        7 => clear_byte(kinds),
         _ => {}
     }
 }

@@ -1,5 +1,5 @@
-// The models by number. The digits of the number choose the box of each of four variables, each of twelve coefficients
-// and each of three right sides; a family uses the first of them.
+// The models by number. The digits of the number choose the box of each of four variables, each of twelve coefficients,
+// each of three right sides and each of three kinds; a family uses the first of them.
 
 const LOWER: [i32; 10] = [0, 0, 0, 1, 1, 2, -1, -1, -1, -1];
 
@@ -82,9 +82,40 @@ pub fn lowered(xs: &mut [i32], code: usize) {
     digits(xs, &LOWERED, code / 2_441_406_250_000);
 }
 
+// The same model with other kinds: bit r says that row r is an = row.
+fn with_bits(code: usize, bits: usize) -> usize {
+    code % 837_402_343_750_000 + bits % 8 * 837_402_343_750_000
+}
+
+// The same model with = rows: the bits 1 to 7 in turn; with two rows 1 to 3.
+pub fn with_kinds(n: usize, i: usize, code: usize) -> usize {
+    if n == 2 {
+        return with_bits(code, i % 3 + 1);
+    }
+    with_bits(code, i % 7 + 1)
+}
+
+// The kind of each row.
+fn kinds(xs: &mut [u8], code: usize) {
+    let mut rest = code / 837_402_343_750_000;
+    let mut i = 0;
+    while i < xs.len() {
+        xs[i] = (rest % 2) as u8;
+        rest = rest / 2;
+        i += 1;
+    }
+}
+
 // Puts model `code` into the lent buffers.
-pub fn put_model(code: usize, bounds: &mut [i32], coefs: &mut [i32], rhs: &mut [i32]) {
+pub fn put_model(
+    code: usize,
+    bounds: &mut [i32],
+    coefs: &mut [i32],
+    rhs: &mut [i32],
+    kinds_room: &mut [u8],
+) {
     boxes(bounds, code);
     coefficients(coefs, code);
     sides(rhs, code);
+    kinds(kinds_room, code);
 }

@@ -29,6 +29,11 @@ pub fn rhs_part(room: &mut [i32], n: usize) -> &mut [i32] {
     part_mut(room, row_count(n))
 }
 
+// The kinds' part, a byte for each row.
+pub fn kinds_part(room: &mut [u8], n: usize) -> &mut [u8] {
+    bytes_part_mut(room, row_count(n))
+}
+
 // The table's part, 4 n n bytes.
 pub fn table_part(room: &mut [u8], n: usize) -> &mut [u8] {
     match n {

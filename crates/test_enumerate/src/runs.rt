@@ -4,6 +4,7 @@ use crate::attempt::agrees;
 use crate::models::put_model;
 use crate::rooms::bounds_part;
 use crate::rooms::coefs_part;
+use crate::rooms::kinds_part;
 use crate::rooms::rhs_part;
 use crate::rooms::row_count;
 use crate::rooms::table_part;
@@ -38,18 +39,19 @@ fn sweep(
     bounds: &mut [i32],
     coefs: &mut [i32],
     rhs: &mut [i32],
+    kinds: &mut [u8],
     table: &mut [u8],
     down: bool,
 ) {
     let mut i = 0;
     while i < 8 {
-        make(n, m, bounds, coefs, rhs, table, sweep_call(i, down));
+        make(n, m, bounds, coefs, rhs, kinds, table, sweep_call(i, down));
         i += 1;
     }
 }
 
-fn rests(n: usize, m: usize, bounds: &[i32], coefs: &[i32], rhs: &[i32]) -> bool {
-    let answer = is_probing_fixpoint(n, m, bounds, coefs, rhs);
+fn rests(n: usize, m: usize, bounds: &[i32], coefs: &[i32], rhs: &[i32], kinds: &[u8]) -> bool {
+    let answer = is_probing_fixpoint(n, m, bounds, coefs, rhs, kinds);
     let RestAnswer::Yes = answer else {
         return false;
     };
@@ -63,15 +65,16 @@ fn run_to_rest(
     bounds: &mut [i32],
     coefs: &mut [i32],
     rhs: &mut [i32],
+    kinds: &mut [u8],
     table: &mut [u8],
     down: bool,
 ) -> bool {
     let mut sweeps: usize = 0;
     while sweeps < 16 {
-        if rests(n, m, bounds, coefs, rhs) {
+        if rests(n, m, bounds, coefs, rhs, kinds) {
             return true;
         }
-        sweep(n, m, bounds, coefs, rhs, table, down);
+        sweep(n, m, bounds, coefs, rhs, kinds, table, down);
         sweeps += 1;
     }
     false
@@ -81,14 +84,16 @@ fn run_to_rest(
 fn end(n: usize, code: usize, marks: &[u8], down: bool, room: &mut [i32]) -> bool {
     let mut coef_room = [0i32; 12];
     let mut side_room = [0i32; 3];
+    let mut kind_room = [0u8; 3];
     let mut table_room = [0u8; 64];
     let bounds = bounds_part(room, n);
     let coefs = coefs_part(&mut coef_room, n);
     let rhs = rhs_part(&mut side_room, n);
+    let kinds = kinds_part(&mut kind_room, n);
     let table = table_part(&mut table_room, n);
-    put_model(code, bounds, coefs, rhs);
-    if run_to_rest(n, row_count(n), bounds, coefs, rhs, table, down) {
-        return agrees(n, bounds, coefs, rhs, table, marks, false);
+    put_model(code, bounds, coefs, rhs, kinds);
+    if run_to_rest(n, row_count(n), bounds, coefs, rhs, kinds, table, down) {
+        return agrees(n, bounds, coefs, rhs, kinds, table, marks, false);
     }
     false
 }

@@ -1,7 +1,8 @@
 // A model in lent buffers, and the lines that change it:
 //   size N M                    the numbers of variables and of rows
-//   bounds LENGTH X ..          as many bounds, X .. over and over; coefs, rhs and table likewise
-//   put bounds PLACE COUNT X .. as many from that place on; coefs, rhs and table likewise
+//   bounds LENGTH X ..          as many bounds, X .. over and over; coefs, rhs, kinds and table likewise; rhs makes as
+//                               many kinds 0
+//   put bounds PLACE COUNT X .. as many from that place on; coefs, rhs, kinds and table likewise
 // A book is in the table's place, and its lines say `data`. Every other line leaves the model.
 use crate::words::fill;
 use crate::words::fill_bytes;
@@ -16,6 +17,7 @@ pub struct Sizes {
     pub bounds: usize,
     pub coefs: usize,
     pub rhs: usize,
+    pub kinds: usize,
     pub table: usize,
 }
 
@@ -26,6 +28,7 @@ pub fn nothing() -> Sizes {
         bounds: 0,
         coefs: 0,
         rhs: 0,
+        kinds: 0,
         table: 0,
     }
 }
@@ -40,6 +43,12 @@ fn set_bytes(line: &[u8], xs: &mut [u8]) -> usize {
     let len = number(line, 1);
     fill_bytes(line, len.next, len.magnitude as usize, xs);
     len.magnitude as usize
+}
+
+// As many ≤ rows.
+fn no_equality(len: usize, kinds: &mut [u8]) -> usize {
+    fill_bytes(b"0", 0, len, kinds);
+    len
 }
 
 fn put(line: &[u8], xs: &mut [i32]) {
@@ -58,11 +67,19 @@ fn put_bytes(line: &[u8], xs: &mut [u8]) {
     }
 }
 
-fn put_some(line: &[u8], bounds: &mut [i32], coefs: &mut [i32], rhs: &mut [i32], table: &mut [u8]) {
+fn put_some(
+    line: &[u8],
+    bounds: &mut [i32],
+    coefs: &mut [i32],
+    rhs: &mut [i32],
+    kinds: &mut [u8],
+    table: &mut [u8],
+) {
     match second(line) {
         b'b' => put(line, bounds),
         b'c' => put(line, coefs),
         b'r' => put(line, rhs),
+        b'k' => put_bytes(line, kinds),
         _ => put_bytes(line, table),
     }
 }
@@ -73,6 +90,7 @@ pub fn change(
     bounds: &mut [i32],
     coefs: &mut [i32],
     rhs: &mut [i32],
+    kinds: &mut [u8],
     table: &mut [u8],
 ) -> Sizes {
     let mut sizes = sizes;
@@ -83,9 +101,13 @@ pub fn change(
         }
         b'b' => sizes.bounds = set(line, bounds),
         b'c' => sizes.coefs = set(line, coefs),
-        b'r' => sizes.rhs = set(line, rhs),
+        b'r' => {
+            sizes.rhs = set(line, rhs);
+            sizes.kinds = no_equality(sizes.rhs, kinds);
+        }
+        b'k' => sizes.kinds = set_bytes(line, kinds),
         b't' | b'd' => sizes.table = set_bytes(line, table),
-        b'p' => put_some(line, bounds, coefs, rhs, table),
+        b'p' => put_some(line, bounds, coefs, rhs, kinds, table),
         _ => {}
     }
     sizes

@@ -2,7 +2,7 @@
 //   name NAME                      writes the name
 //   model NAME                     the same as a line of its own
 //   head NAME                      writes the name with the bounds, and the rows as `reduce` prints them
-//   write bounds                   writes the bounds; coefs, rhs and table likewise;
+//   write bounds                   writes the bounds; coefs, rhs, kinds and table likewise;
 //                                  matrix, implications: as `reduce` prints them
 //   all ROW VARIABLE BUDGET        the six calls, each on its own copy of the model: the answer and the numbers
 //                                  that changed
@@ -55,27 +55,45 @@ fn record(words: &[u8]) -> [u32; 4] {
     ]
 }
 
-fn write(line: &[u8], n: usize, bounds: &[i32], coefs: &[i32], rhs: &[i32], table: &[u8]) {
+fn write(
+    line: &[u8],
+    n: usize,
+    bounds: &[i32],
+    coefs: &[i32],
+    rhs: &[i32],
+    kinds: &[u8],
+    table: &[u8],
+) {
     match words::second(line) {
         b'b' => print::list(b"  bounds", bounds),
         b'c' => print::list(b"  coefs", coefs),
         b'r' => print::list(b"  rhs", rhs),
-        b'm' => transcript::rows(n, coefs, rhs),
+        b'k' => print::ones(b"  kinds", kinds),
+        b'm' => transcript::rows(n, coefs, rhs, kinds),
         b'i' => transcript::implications(bounds.len(), table),
         _ => print::ones(b"  table", table),
     }
 }
 
 // What a line asks of a model that stays as it is.
-fn look(line: &[u8], n: usize, m: usize, bounds: &[i32], coefs: &[i32], rhs: &[i32], table: &[u8]) {
+fn look(
+    line: &[u8],
+    n: usize,
+    m: usize,
+    bounds: &[i32],
+    coefs: &[i32],
+    rhs: &[i32],
+    kinds: &[u8],
+    table: &[u8],
+) {
     match words::first(line) {
         b'n' => print::text(name(line)),
         b'm' => model_name(line),
-        b'h' => transcript::head(name(line), n, bounds, coefs, rhs),
-        b'w' => write(line, n, bounds, coefs, rhs, table),
-        b'f' => lists::rest(is_probing_fixpoint(n, m, bounds, coefs, rhs)),
-        b'a' => copies::all(n, m, bounds, coefs, rhs, table, record(line)),
-        b'1'..=b'6' => copies::one(n, m, bounds, coefs, rhs, table, record(line)),
+        b'h' => transcript::head(name(line), n, bounds, coefs, rhs, kinds),
+        b'w' => write(line, n, bounds, coefs, rhs, kinds, table),
+        b'f' => lists::rest(is_probing_fixpoint(n, m, bounds, coefs, rhs, kinds)),
+        b'a' => copies::all(n, m, bounds, coefs, rhs, kinds, table, record(line)),
+        b'1'..=b'6' => copies::one(n, m, bounds, coefs, rhs, kinds, table, record(line)),
         _ => {}
     }
 }
@@ -88,16 +106,17 @@ fn answer(
     bounds: &mut [i32],
     coefs: &mut [i32],
     rhs: &mut [i32],
+    kinds: &mut [u8],
     table: &mut [u8],
 ) {
     match words::first(line) {
-        b'C' => transcript::step(n, m, bounds, coefs, rhs, table, record(name(line))),
-        b'e' => lists::execute(line, n, m, bounds, coefs, rhs, table),
-        b'F' => lists::execute_records(line, n, m, bounds, coefs, rhs, table),
+        b'C' => transcript::step(n, m, bounds, coefs, rhs, kinds, table, record(name(line))),
+        b'e' => lists::execute(line, n, m, bounds, coefs, rhs, kinds, table),
+        b'F' => lists::execute_records(line, n, m, bounds, coefs, rhs, kinds, table),
         b'R' | b'T' | b'W' | b'B' | b'S' => {
-            book_cases::answer(line, n, m, bounds, coefs, rhs, table)
+            book_cases::answer(line, n, m, bounds, coefs, rhs, kinds, table)
         }
-        _ => look(line, n, m, bounds, coefs, rhs, table),
+        _ => look(line, n, m, bounds, coefs, rhs, kinds, table),
     }
 }
 
@@ -108,6 +127,7 @@ fn lent(
     bounds: &mut [i32],
     coefs: &mut [i32],
     rhs: &mut [i32],
+    kinds: &mut [u8],
     table: &mut [u8],
 ) {
     answer(
@@ -117,6 +137,7 @@ fn lent(
         part_mut(bounds, sizes.bounds),
         part_mut(coefs, sizes.coefs),
         part_mut(rhs, sizes.rhs),
+        bytes_part_mut(kinds, sizes.kinds),
         bytes_part_mut(table, sizes.table),
     );
 }
@@ -128,10 +149,11 @@ fn turn(
     bounds: &mut [i32; 256],
     coefs: &mut [i32; 15_360],
     rhs: &mut [i32; 120],
+    kinds: &mut [u8; 120],
     table: &mut [u8; 65_536],
 ) -> Sizes {
-    let sizes = buffers::change(line, sizes, bounds, coefs, rhs, table);
-    lent(line, sizes, bounds, coefs, rhs, table);
+    let sizes = buffers::change(line, sizes, bounds, coefs, rhs, kinds, table);
+    lent(line, sizes, bounds, coefs, rhs, kinds, table);
     sizes
 }
 
@@ -140,12 +162,21 @@ fn each_line(text: &[u8]) {
     let mut bounds = [0i32; 256];
     let mut coefs = [0i32; 15_360];
     let mut rhs = [0i32; 120];
+    let mut kinds = [0u8; 120];
     let mut table = [0u8; 65_536];
     let mut sizes = buffers::nothing();
     let mut at = 0;
     while at < text.len() {
         let line = words::line(text, at);
-        sizes = turn(line, sizes, &mut bounds, &mut coefs, &mut rhs, &mut table);
+        sizes = turn(
+            line,
+            sizes,
+            &mut bounds,
+            &mut coefs,
+            &mut rhs,
+            &mut kinds,
+            &mut table,
+        );
         at = words::next_line(text, at);
     }
 }

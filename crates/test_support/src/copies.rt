@@ -96,15 +96,18 @@ fn all_changes(
     bounds: &[i32],
     coefs: &[i32],
     rhs: &[i32],
+    kinds: &[u8],
     table: &[u8],
     new_bounds: &[i32],
     new_coefs: &[i32],
     new_rhs: &[i32],
+    new_kinds: &[u8],
     new_table: &[u8],
 ) {
     changes(b", bounds", bounds, new_bounds);
     changes(b", coefs", coefs, new_coefs);
     changes(b", rhs", rhs, new_rhs);
+    byte_changes(b", kinds", kinds, new_kinds);
     byte_changes(b", table", table, new_table);
 }
 
@@ -114,27 +117,41 @@ pub fn one(
     bounds: &[i32],
     coefs: &[i32],
     rhs: &[i32],
+    kinds: &[u8],
     table: &[u8],
     call: [u32; 4],
 ) {
     let mut bounds_room = [0i32; 256];
     let mut coefs_room = [0i32; 15_360];
     let mut rhs_room = [0i32; 120];
+    let mut kinds_room = [0u8; 120];
     let mut table_room = [0u8; 65_536];
     let new_bounds = copied(bounds, &mut bounds_room);
     let new_coefs = copied(coefs, &mut coefs_room);
     let new_rhs = copied(rhs, &mut rhs_room);
+    let new_kinds = copied_bytes(kinds, &mut kinds_room);
     let new_table = copied_bytes(table, &mut table_room);
     label(call[0]);
-    in_words::answer(made::make(n, m, new_bounds, new_coefs, new_rhs, new_table, call));
+    in_words::answer(made::make(
+        n,
+        m,
+        new_bounds,
+        new_coefs,
+        new_rhs,
+        new_kinds,
+        new_table,
+        call,
+    ));
     all_changes(
         bounds,
         coefs,
         rhs,
+        kinds,
         table,
         new_bounds,
         new_coefs,
         new_rhs,
+        new_kinds,
         new_table,
     );
     line();
@@ -147,6 +164,7 @@ pub fn all(
     bounds: &[i32],
     coefs: &[i32],
     rhs: &[i32],
+    kinds: &[u8],
     table: &[u8],
     call: [u32; 4],
 ) {
@@ -161,6 +179,7 @@ pub fn all(
             bounds,
             coefs,
             rhs,
+            kinds,
             table,
             [kind, row, variable, budget],
         );

@@ -18,6 +18,7 @@ pub fn execute(
     bounds: &mut [i32],
     coefs: &mut [i32],
     rhs: &mut [i32],
+    kinds: &mut [u8],
     table: &mut [u8],
 ) {
     let mut calls = [0u32; 64];
@@ -26,7 +27,7 @@ pub fn execute(
     fill_naturals(words, len.next, all, &mut calls);
     let list = naturals_part(&calls, all);
     text(b":");
-    ran(reducer::list::run(n, m, bounds, coefs, rhs, table, list));
+    ran(reducer::list::run(n, m, bounds, coefs, rhs, kinds, table, list));
     line();
 }
 
@@ -54,6 +55,7 @@ pub fn execute_records(
     bounds: &mut [i32],
     coefs: &mut [i32],
     rhs: &mut [i32],
+    kinds: &mut [u8],
     table: &mut [u8],
 ) {
     let calls = [
@@ -63,7 +65,7 @@ pub fn execute_records(
         record_at(words, 12),
     ];
     text(b":");
-    ran(run_four(n, m, bounds, coefs, rhs, table, calls));
+    ran(run_four(n, m, bounds, coefs, rhs, kinds, table, calls));
     line();
 }
 

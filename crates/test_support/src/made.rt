@@ -40,6 +40,7 @@ pub fn make(
     bounds: &mut [i32],
     coefs: &mut [i32],
     rhs: &mut [i32],
+    kinds: &mut [u8],
     table: &mut [u8],
     call: [u32; 4],
 ) -> Made {
@@ -47,12 +48,21 @@ pub fn make(
     let variable = call[2];
     let budget = call[3];
     match call[0] {
-        VISIT => Made::PropagatedRow(propagate_row(n, m, bounds, coefs, rhs, row)),
-        SETTLE => Made::Propagated(propagate(n, m, bounds, coefs, rhs, budget)),
-        PROBE => Made::Probed(probe(n, m, bounds, coefs, rhs, table, variable, budget)),
-        SHARPEN => Made::Tightened(tighten_coefficient(n, m, bounds, coefs, rhs, row, variable)),
-        DROP => Made::Removed(remove_redundant_row(n, m, bounds, coefs, rhs, row)),
-        _ => Made::Rest(is_probing_fixpoint(n, m, bounds, coefs, rhs)),
+        VISIT => Made::PropagatedRow(propagate_row(n, m, bounds, coefs, rhs, kinds, row)),
+        SETTLE => Made::Propagated(propagate(n, m, bounds, coefs, rhs, kinds, budget)),
+        PROBE => Made::Probed(probe(n, m, bounds, coefs, rhs, kinds, table, variable, budget)),
+        SHARPEN => Made::Tightened(tighten_coefficient(
+            n,
+            m,
+            bounds,
+            coefs,
+            rhs,
+            kinds,
+            row,
+            variable,
+        )),
+        DROP => Made::Removed(remove_redundant_row(n, m, bounds, coefs, rhs, kinds, row)),
+        _ => Made::Rest(is_probing_fixpoint(n, m, bounds, coefs, rhs, kinds)),
     }
 }
 

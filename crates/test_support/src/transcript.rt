@@ -8,23 +8,28 @@ use crate::print::list;
 use crate::print::number;
 use crate::print::text;
 
-// How the line of row r starts: r, row, b.
-fn row_head(rhs: &[i32], r: usize) {
+// How the line of row r starts: r, row, b; of an = row, = before b.
+fn row_head(rhs: &[i32], kinds: &[u8], r: usize) {
     text(b"  r");
     count(r);
+    if r < kinds.len() {
+        if kinds[r] == 1 {
+            text(b" =");
+        }
+    }
     if r < rhs.len() {
         number(rhs[r]);
     }
 }
 
 // Each row: r, row, b, coefficients.
-pub fn rows(n: usize, coefs: &[i32], rhs: &[i32]) {
+pub fn rows(n: usize, coefs: &[i32], rhs: &[i32], kinds: &[u8]) {
     let mut i = 0;
     let mut r = 0;
     let mut column = 0;
     while i < coefs.len() {
         if column == 0 {
-            row_head(rhs, r);
+            row_head(rhs, kinds, r);
         }
         number(coefs[i]);
         i += 1;
@@ -66,9 +71,9 @@ pub fn implications(literals: usize, table: &[u8]) {
 }
 
 // How an example starts: its name with the bounds, then its rows.
-pub fn head(name: &[u8], n: usize, bounds: &[i32], coefs: &[i32], rhs: &[i32]) {
+pub fn head(name: &[u8], n: usize, bounds: &[i32], coefs: &[i32], rhs: &[i32], kinds: &[u8]) {
     list(name, bounds);
-    rows(n, coefs, rhs);
+    rows(n, coefs, rhs, kinds);
 }
 
 // 01's word for a kind.
@@ -98,10 +103,11 @@ pub fn step(
     bounds: &mut [i32],
     coefs: &mut [i32],
     rhs: &mut [i32],
+    kinds: &mut [u8],
     table: &mut [u8],
     call: [u32; 4],
 ) {
     record(call);
-    in_words::answer(made::make(n, m, bounds, coefs, rhs, table, call));
+    in_words::answer(made::make(n, m, bounds, coefs, rhs, kinds, table, call));
     line();
 }

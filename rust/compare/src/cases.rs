@@ -1,5 +1,7 @@
 //! Cases: a model and the calls made on it, from a seed and a number.
 
+use reference::row::EQUAL;
+
 use crate::damage;
 use crate::lent::{Lent, Operation};
 use crate::models::{self, Family, MAX_BUDGET, MAX_WIDTH};
@@ -132,7 +134,7 @@ fn call_list(rng: &mut Rng, lent: &Lent) -> Vec<u32> {
         .collect()
 }
 
-/// Writes a model into a book and reads it back into other buffers, trailer first.
+/// Writes a model into a book, which an = row refuses, and reads one back into other buffers, trailer first.
 fn book(rng: &mut Rng) -> Case {
     let family = rng.pick(&[Family::Tiny, Family::Mixed, Family::Limits, Family::Empty]);
     let family = if rng.chance(1) { Family::Largest } else { family };
@@ -159,6 +161,7 @@ fn scramble(lent: &mut Lent) {
     lent.bounds.fill(i32::MIN);
     lent.coefs.fill(i32::MAX);
     lent.rhs.fill(i32::MIN);
+    lent.kinds.fill(u8::MAX);
 }
 
 fn trailer_only(lent: &mut Lent) {
@@ -179,10 +182,14 @@ fn around_the_widest(rng: &mut Rng) -> Case {
         damage::wrong_number(rng, &mut lent, fault);
     }
     damage::write_book(&mut lent);
+    let returns = match fault {
+        0 | 8 if too_wide => 23,
+        0 if operation == Operation::BookWrite && lent.kinds.contains(&EQUAL) => 17,
+        _ => fault,
+    };
     if operation == Operation::BookRead {
         scramble(&mut lent);
     }
-    let returns = if too_wide && !matches!(fault, 6 | 7) { 23 } else { fault };
     Case { returns: Some(returns), ..single(lent, operation) }
 }
 

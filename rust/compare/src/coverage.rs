@@ -3,8 +3,11 @@
 use std::collections::{BTreeMap, BTreeSet};
 use std::fmt;
 
+use reference::bounds;
+use reference::row::{self, AT_MOST, EQUAL, Outcome};
+
 use crate::damage;
-use crate::lent::Operation;
+use crate::lent::{Lent, Operation};
 
 /// How often each call was refused by which check, and gave which case of its answer.
 #[derive(Debug, Default)]
@@ -15,8 +18,8 @@ pub struct Coverage {
     pub most_passes: u64,
     /// The most bounds that one propagation moved.
     pub most_moved: u64,
-    /// Which of [`MOVES`] were met.
-    pub moves: BTreeSet<&'static str>,
+    /// Which of [`MOVES`] and [`EQUALITIES`] were met.
+    pub met: BTreeSet<&'static str>,
 }
 
 /// What a long enough run must have met of the numbers of bounds moved, beside each case of each answer.
@@ -27,9 +30,22 @@ const MOVES: [&str; 4] = [
     "a side that moved bounds before it was infeasible",
 ];
 
+/// The same of = rows (02, C-14).
+const EQUALITIES: [&str; 8] = [
+    "an equality row that moved more bounds than there are variables",
+    "an equality row that is infeasible by its negated form alone",
+    "an equality row that was removed",
+    "an equality row that says 0 = 0 and was removed",
+    "an equality row kept that a row at most would not be",
+    "an equality row not tightened that a row at most would be",
+    "a call list that removed an equality row",
+    "rounds that removed an equality row",
+];
+
 impl Coverage {
-    /// Notes what a call on n variables returned and answered.
-    pub fn note(&mut self, operation: Operation, n: usize, said: u32, answer: &[u64]) {
+    /// Notes what a call returned and left, and what it was lent.
+    pub fn note(&mut self, operation: Operation, before: &Lent, said: u32, after: &Lent) {
+        let (n, answer) = (before.n, &after.answer);
         self.calls += 1;
         if said != 0 {
             *self.refused.entry((operation.name(), said)).or_default() += 1;
@@ -44,8 +60,9 @@ impl Coverage {
             _ => answer[0],
         };
         *self.answered.entry((operation.name(), case)).or_default() += 1;
+        self.note_equalities(operation, before, after);
         let [several, again, before_infeasible, side_before_infeasible] = MOVES;
-        match *answer {
+        match answer[..] {
             [1, moved, ..] if matches!(operation, Operation::PropagateRow { .. }) => {
                 self.met(several, moved > 1);
             }
@@ -68,6 +85,47 @@ impl Coverage {
         }
     }
 
+    /// What an accepted call met of = rows.
+    fn note_equalities(&mut self, operation: Operation, before: &Lent, after: &Lent) {
+        let [.., by_list, by_rounds] = EQUALITIES;
+        match operation {
+            Operation::Run => self.met(by_list, before.kinds != after.kinds),
+            Operation::Rounds { .. } => self.met(by_rounds, before.kinds != after.kinds),
+            Operation::PropagateRow { row }
+            | Operation::RemoveRedundantRow { row }
+            | Operation::TightenCoefficient { row, .. }
+                if before.kinds[row as usize] == EQUAL && !bounds::is_empty(&before.bounds) =>
+            {
+                self.note_equality(operation, before, row as usize, after.answer[0]);
+                self.met(EQUALITIES[0], after.answer[1] > before.n as u64);
+            }
+            _ => {}
+        }
+    }
+
+    /// What a call on the = row r over a box that is not empty met.
+    fn note_equality(&mut self, operation: Operation, before: &Lent, r: usize, case: u64) {
+        let [_, negated, removed, zero, kept, untightened, ..] = EQUALITIES;
+        let (coefs, mut rhs) = (&before.coefs[r * before.n..][..before.n], before.rhs[r]);
+        let bounds = &before.bounds;
+        match operation {
+            Operation::PropagateRow { .. } => {
+                let met = row::min_activity(bounds, coefs) <= rhs.into();
+                self.met(negated, case == 0 && met);
+            }
+            Operation::TightenCoefficient { variable, .. } => {
+                let (coefs, k) = (&mut coefs.to_vec(), variable as usize);
+                let at_most = row::tighten_coefficient(bounds, coefs, &mut rhs, AT_MOST, k);
+                self.met(untightened, case == 2 && at_most == Outcome::Changed);
+            }
+            _ => {
+                self.met(removed, case == 1);
+                self.met(zero, case == 1 && rhs == 0 && coefs.iter().all(|&a| a == 0));
+                self.met(kept, case == 2 && row::max_activity(bounds, coefs) <= rhs.into());
+            }
+        }
+    }
+
     fn propagated(&mut self, passes: u64, moved: u64) {
         self.most_passes = self.most_passes.max(passes);
         self.most_moved = self.most_moved.max(moved);
@@ -75,12 +133,12 @@ impl Coverage {
 
     fn met(&mut self, what: &'static str, met: bool) {
         if met {
-            self.moves.insert(what);
+            self.met.insert(what);
         }
     }
 
     /// What a long enough run must have met and has not: each check of each call, each case of each
-    /// answer, and each of [`MOVES`].
+    /// answer, and each of [`MOVES`] and [`EQUALITIES`].
     pub fn missing(&self) -> Vec<String> {
         let (row, variable, budget, limit) = (0, 0, 0, 0);
         let all = [
@@ -96,9 +154,10 @@ impl Coverage {
             (Operation::BookRead, 1),
             (Operation::BookWrite, 1),
         ];
-        let mut missing: Vec<String> = MOVES
+        let mut missing: Vec<String> = [&MOVES[..], &EQUALITIES]
+            .concat()
             .into_iter()
-            .filter(|what| !self.moves.contains(what))
+            .filter(|what| !self.met.contains(what))
             .map(str::to_string)
             .collect();
         for (operation, cases) in all {

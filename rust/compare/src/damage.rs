@@ -1,5 +1,7 @@
 //! Makes a call fail a chosen check, at its boundary where it has one.
 
+use reference::row::EQUAL;
+
 use crate::lent::{Lent, Operation};
 use crate::models::{MAX_BOUND, MAX_BUDGET, MAX_COEF, MAX_RHS, MAX_WIDTH, MIN_BOUND};
 use crate::rng::Rng;
@@ -9,13 +11,14 @@ use crate::rng::Rng;
 pub fn checks(operation: Operation) -> &'static [u32] {
     match operation {
         Operation::PropagateRow { .. } | Operation::RemoveRedundantRow { .. } => {
-            &[3, 5, 6, 7, 23, 8, 9, 12]
+            &[3, 5, 6, 7, 23, 8, 9, 16, 12]
         }
-        Operation::Propagate { .. } => &[3, 5, 6, 7, 23, 8, 9, 15],
-        Operation::Probe { .. } => &[3, 5, 6, 7, 23, 8, 9, 10, 13, 14, 15],
-        Operation::TightenCoefficient { .. } => &[3, 5, 6, 7, 23, 8, 9, 12, 13, 14],
-        Operation::IsProbingFixpoint | Operation::BookWrite => &[3, 5, 6, 7, 23, 8, 9],
-        Operation::Run | Operation::Rounds { .. } => &[3, 5, 6, 7, 23, 8, 9, 10],
+        Operation::Propagate { .. } => &[3, 5, 6, 7, 23, 8, 9, 16, 15],
+        Operation::Probe { .. } => &[3, 5, 6, 7, 23, 8, 9, 16, 10, 13, 14, 15],
+        Operation::TightenCoefficient { .. } => &[3, 5, 6, 7, 23, 8, 9, 16, 12, 13, 14],
+        Operation::IsProbingFixpoint => &[3, 5, 6, 7, 23, 8, 9, 16],
+        Operation::BookWrite => &[3, 5, 6, 7, 23, 8, 9, 16, 17],
+        Operation::Run | Operation::Rounds { .. } => &[3, 5, 6, 7, 23, 8, 9, 16, 10],
         Operation::BookTrailer => &[1, 5, 3, 4],
         Operation::BookRead => &[1, 2, 3, 4, 5, 6, 7, 23, 8, 9],
     }
@@ -49,6 +52,8 @@ fn damage_one(rng: &mut Rng, operation: &mut Operation, lent: &mut Lent, check: 
                 write_book(lent);
             }
         }
+        16 => *any(rng, &mut lent.kinds) = rng.pick(&[2, 3, 128, 255]),
+        17 => *any(rng, &mut lent.kinds) = EQUAL,
         10 => *any(rng, &mut lent.table) = rng.pick(&[2, 3, 128, 255]),
         _ => wrong_argument(rng, operation, lent, check),
     }
@@ -113,6 +118,7 @@ fn wrong_size(rng: &mut Rng, operation: Operation, lent: &mut Lent) {
         lent.bounds.resize(2 * lent.n, 0);
         lent.coefs.resize(lent.n * lent.m, 0);
         lent.rhs.resize(lent.m, 0);
+        lent.kinds.resize(lent.m, 0);
         lent.table.resize(4 * lent.n * lent.n, 0);
     }
 }
@@ -142,20 +148,23 @@ fn wrong_layout(rng: &mut Rng, operation: Operation, lent: &mut Lent) {
 
 /// Check 5: one buffer of the call is an element too short or too long, or empty.
 fn wrong_length(rng: &mut Rng, operation: Operation, lent: &mut Lent) {
-    let model = ["bounds", "coefs", "rhs", "answer"];
-    let buffer = match operation {
-        Operation::Probe { .. } | Operation::Rounds { .. } => {
-            rng.pick(&["bounds", "coefs", "rhs", "answer", "table"])
-        }
-        Operation::Run => rng.pick(&["bounds", "coefs", "rhs", "answer", "table", "calls"]),
-        Operation::BookTrailer => rng.pick(&["trailer", "answer"]),
-        Operation::BookWrite => rng.pick(&["bounds", "coefs", "rhs", "book"]),
-        _ => rng.pick(&model),
+    let model = ["bounds", "coefs", "rhs", "kinds"];
+    let others: &[&str] = match operation {
+        Operation::Probe { .. } | Operation::Rounds { .. } => &["answer", "table"],
+        Operation::Run => &["answer", "table", "calls"],
+        Operation::BookTrailer => &["answer", "trailer"],
+        Operation::BookWrite => &["book"],
+        _ => &["answer"],
     };
-    match buffer {
+    let buffers = match operation {
+        Operation::BookTrailer => others.to_vec(),
+        _ => [&model, others].concat(),
+    };
+    match rng.pick(&buffers) {
         "bounds" => resize(rng, &mut lent.bounds),
         "coefs" => resize(rng, &mut lent.coefs),
         "rhs" => resize(rng, &mut lent.rhs),
+        "kinds" => resize(rng, &mut lent.kinds),
         "table" => resize(rng, &mut lent.table),
         "answer" if rng.chance(20) => lent.answer.truncate(6), // its length before C-11
         "answer" => resize(rng, &mut lent.answer),

@@ -10,6 +10,7 @@ pub struct Lent {
     pub bounds: Vec<i32>,
     pub coefs: Vec<i32>,
     pub rhs: Vec<i32>,
+    pub kinds: Vec<u8>,
     pub table: Vec<u8>,
     /// Four numbers a record.
     pub calls: Vec<u32>,
@@ -25,6 +26,7 @@ pub struct Loan<'a> {
     pub bounds: &'a mut [i32],
     pub coefs: &'a mut [i32],
     pub rhs: &'a mut [i32],
+    pub kinds: &'a mut [u8],
     pub table: &'a mut [u8],
     pub calls: &'a mut [u32],
     pub book: &'a mut [u8],
@@ -38,6 +40,7 @@ impl Lent {
         self.bounds.clone_from(&to.bounds);
         self.coefs.clone_from(&to.coefs);
         self.rhs.clone_from(&to.rhs);
+        self.kinds.clone_from(&to.kinds);
         self.table.clone_from(&to.table);
         self.calls.clone_from(&to.calls);
         self.book.clone_from(&to.book);
@@ -51,6 +54,7 @@ impl Lent {
             bounds: &mut self.bounds,
             coefs: &mut self.coefs,
             rhs: &mut self.rhs,
+            kinds: &mut self.kinds,
             table: &mut self.table,
             calls: &mut self.calls,
             book: &mut self.book,
@@ -122,33 +126,33 @@ pub struct Reference;
 
 impl Backend for Reference {
     fn call(&mut self, operation: Operation, loan: Loan) -> u32 {
-        let Loan { n, m, bounds, coefs, rhs, table, calls, book, answer } = loan;
+        let Loan { n, m, bounds, coefs, rhs, kinds, table, calls, book, answer } = loan;
         match operation {
             Operation::PropagateRow { row } => {
-                calls::propagate_row(n, m, bounds, coefs, rhs, row, answer)
+                calls::propagate_row(n, m, bounds, coefs, rhs, kinds, row, answer)
             }
             Operation::Propagate { budget } => {
-                calls::propagate(n, m, bounds, coefs, rhs, budget, answer)
+                calls::propagate(n, m, bounds, coefs, rhs, kinds, budget, answer)
             }
             Operation::Probe { variable, budget } => {
-                calls::probe(n, m, bounds, coefs, rhs, table, variable, budget, answer)
+                calls::probe(n, m, bounds, coefs, rhs, kinds, table, variable, budget, answer)
             }
             Operation::TightenCoefficient { row, variable } => {
-                calls::tighten_coefficient(n, m, bounds, coefs, rhs, row, variable, answer)
+                calls::tighten_coefficient(n, m, bounds, coefs, rhs, kinds, row, variable, answer)
             }
             Operation::RemoveRedundantRow { row } => {
-                calls::remove_redundant_row(n, m, bounds, coefs, rhs, row, answer)
+                calls::remove_redundant_row(n, m, bounds, coefs, rhs, kinds, row, answer)
             }
             Operation::IsProbingFixpoint => {
-                calls::is_probing_fixpoint(n, m, bounds, coefs, rhs, answer)
+                calls::is_probing_fixpoint(n, m, bounds, coefs, rhs, kinds, answer)
             }
-            Operation::Run => calls::run(n, m, bounds, coefs, rhs, table, calls, answer),
+            Operation::Run => calls::run(n, m, bounds, coefs, rhs, kinds, table, calls, answer),
             Operation::Rounds { limit } => {
-                calls::rounds(n, m, bounds, coefs, rhs, table, limit, answer)
+                calls::rounds(n, m, bounds, coefs, rhs, kinds, table, limit, answer)
             }
             Operation::BookTrailer => calls::book_trailer(book, answer),
-            Operation::BookRead => calls::book_read(book, bounds, coefs, rhs, answer),
-            Operation::BookWrite => calls::book_write(n, m, bounds, coefs, rhs, book),
+            Operation::BookRead => calls::book_read(book, bounds, coefs, rhs, kinds, answer),
+            Operation::BookWrite => calls::book_write(n, m, bounds, coefs, rhs, kinds, book),
         }
     }
 }

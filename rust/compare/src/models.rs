@@ -1,6 +1,7 @@
-//! Families of accepted models.
+//! Families of accepted models; each has models with = rows.
 
 use reference::calls::ANSWER;
+use reference::row::{AT_MOST, EQUAL};
 
 use crate::lent::Lent;
 use crate::rng::Rng;
@@ -133,21 +134,40 @@ fn pair_around_the_widest(rng: &mut Rng) -> [i32; 2] {
     [l, l + width]
 }
 
-/// The model of a box and m generated rows of `density` per cent nonzero coefficients up to `coef`.
+/// The model of a box and m generated rows of `density` per cent nonzero coefficients up to `coef`. In some
+/// models there are = rows among them, in some there is no other.
 fn rows(rng: &mut Rng, bounds: Vec<i32>, m: usize, density: i64, coef: i32) -> Lent {
     let n = bounds.len() / 2;
     // Most right sides hold at this point: a model of unrelated rows is nearly always infeasible.
     let witness = witness(rng, &bounds);
     // How many rows only just bind: those are the ones that tightening and removal look for.
     let loose = rng.pick(&[0, 20, 90]);
+    let equal = equal_share(rng);
     let mut lent = Lent { n, m, bounds, ..Lent::default() };
     for _ in 0..m {
         let row: Vec<i32> = (0..n).map(|_| coefficient(rng, density, coef)).collect();
         let at = activity_at(&witness, &row);
-        lent.rhs.push(right_side(rng, &lent.bounds, &row, at, loose));
+        let kind = kind(rng, equal);
+        // An = row nearly always goes through the witness: else hardly a model would have a point.
+        lent.rhs.push(if kind == EQUAL && rng.chance(90) {
+            at.clamp((-MAX_RHS).into(), MAX_RHS.into()) as i32
+        } else {
+            right_side(rng, &lent.bounds, &row, at, loose)
+        });
+        lent.kinds.push(kind);
         lent.coefs.extend(row);
     }
     lent
+}
+
+/// How many rows of a model are = rows, in per cent.
+fn equal_share(rng: &mut Rng) -> i64 {
+    rng.pick(&[0, 0, 15, 50, 100])
+}
+
+/// An = row in `equal` of 100 cases; without a number from the generator where there is to be none.
+fn kind(rng: &mut Rng, equal: i64) -> u8 {
+    if equal > 0 && rng.chance(equal) { EQUAL } else { AT_MOST }
 }
 
 /// A point of the box.
@@ -196,6 +216,7 @@ fn limits(rng: &mut Rng) -> Lent {
     let coefs = [-MAX_COEF, 1 - MAX_COEF, -1, 0, 1, MAX_COEF - 1, MAX_COEF];
     let ends = [-MAX_RHS, 1 - MAX_RHS, -1, 0, 1, MAX_RHS - 1, MAX_RHS];
     let bounds: Vec<i32> = (0..n).flat_map(|_| rng.pick(&pairs)).collect();
+    let equal = equal_share(rng);
     let mut lent = Lent { n, m, bounds, ..Lent::default() };
     for _ in 0..m {
         let row: Vec<i32> = (0..n).map(|_| rng.pick(&coefs)).collect();
@@ -203,6 +224,7 @@ fn limits(rng: &mut Rng) -> Lent {
         let near = near.clamp((-MAX_RHS).into(), MAX_RHS.into()) as i32;
         let end = rng.pick(&ends);
         lent.rhs.push(if rng.chance(60) { near } else { end });
+        lent.kinds.push(kind(rng, equal));
         lent.coefs.extend(row);
     }
     lent
@@ -210,7 +232,7 @@ fn limits(rng: &mut Rng) -> Lent {
 
 /// One row `a x + 1,000,000 y + z` over a free binary x, with y at most −1,000 and z fixed at −1, 0 or 1:
 /// the greatest activity is −1,000,000,000 + a + z, so tightening at x makes the right side
-/// −1,000,000,000 + z, which is written unless z is −1.
+/// −1,000,000,000 + z, which is written unless z is −1; now and then it is an = row, and stays.
 fn least_rhs(rng: &mut Rng) -> Lent {
     let a = rng.between(2, MAX_COEF.into()) as i32;
     let z = rng.between(-1, 1) as i32;
@@ -221,6 +243,7 @@ fn least_rhs(rng: &mut Rng) -> Lent {
         bounds: vec![0, 1, lowest_y, -1_000, z, z],
         coefs: vec![a, MAX_COEF, 1],
         rhs: vec![-MAX_RHS + rng.between(0, i64::from(a) - 1) as i32],
+        kinds: vec![kind(rng, 20)],
         ..Lent::default()
     }
 }
@@ -239,6 +262,7 @@ fn crawling(rng: &mut Rng) -> Lent {
         ends_at_zero,
         switched: rng.chance(50),
         reversed: rng.chance(50),
+        equal: rng.chance(40),
     }
     .model()
 }
@@ -257,6 +281,8 @@ pub struct Ring {
     /// The rows stand in reverse: a pass carries an upper bound all the way round and a lower bound one
     /// row further. Else it is the other way about.
     pub reversed: bool,
+    /// The rows but the closing one are = rows: each bound of a variable is carried to the next one.
+    pub equal: bool,
 }
 
 impl Ring {
@@ -265,15 +291,16 @@ impl Ring {
         let ring = self.variables;
         let n = ring + usize::from(self.switched);
         let mut bounds = self.bounds.repeat(ring);
-        let mut rows: Vec<(Vec<i32>, i32)> = (0..ring)
+        let mut rows: Vec<(Vec<i32>, i32, u8)> = (0..ring)
             .map(|j| {
                 let mut row = vec![0; n];
                 row[j] = 1;
                 row[(j + 1) % ring] = -1;
-                (row, 0)
+                (row, 0, if self.equal { EQUAL } else { AT_MOST })
             })
             .collect();
-        let (closing, rhs) = rows.last_mut().expect("a ring has variables");
+        let (closing, rhs, kind) = rows.last_mut().expect("a ring has variables");
+        *kind = AT_MOST;
         if self.ends_at_zero {
             closing[ring - 1] = MAX_COEF;
             closing[0] = 1 - MAX_COEF;
@@ -290,21 +317,29 @@ impl Ring {
             rows.reverse();
         }
         let m = rows.len();
-        let (coefs, rhs): (Vec<Vec<i32>>, Vec<i32>) = rows.into_iter().unzip();
-        Lent { n, m, bounds, coefs: coefs.concat(), rhs, ..Lent::default() }
+        let mut lent = Lent { n, m, bounds, ..Lent::default() };
+        for (row, rhs, kind) in rows {
+            lent.coefs.extend(row);
+            lent.rhs.push(rhs);
+            lent.kinds.push(kind);
+        }
+        lent
     }
 }
 
-/// A feasible model of a given size and density, four in five variables binary: what a benchmark
-/// measures.
-pub fn sized(rng: &mut Rng, n: usize, m: usize, density: i64) -> Lent {
+/// A feasible model of a given size and density, four in five variables binary, `equal` per cent of its rows
+/// = rows: what a benchmark measures.
+pub fn sized(rng: &mut Rng, n: usize, m: usize, density: i64, equal: i64) -> Lent {
     let bounds: Vec<i32> =
         (0..n).flat_map(|_| if rng.chance(80) { [0, 1] } else { pair_of_width(rng, 30) }).collect();
     let mut lent = Lent { n, m, bounds, ..Lent::default() };
     let witness = witness(rng, &lent.bounds);
     for _ in 0..m {
         let row: Vec<i32> = (0..n).map(|_| coefficient(rng, density, 20)).collect();
-        lent.rhs.push(activity_at(&witness, &row) as i32 + rng.between(0, 20) as i32);
+        let kind = kind(rng, equal);
+        let slack = if kind == EQUAL { 0 } else { rng.between(0, 20) as i32 };
+        lent.rhs.push(activity_at(&witness, &row) as i32 + slack);
+        lent.kinds.push(kind);
         lent.coefs.extend(row);
     }
     lent

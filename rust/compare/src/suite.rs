@@ -66,15 +66,15 @@ pub fn play(
         }
         // No answer looks like this: what a call leaves unwritten is seen.
         lent.answer.fill(0x5a5a_5a5a_5a5a_5a5a);
-        let before = lent.bounds.clone();
+        let before = lent.clone();
         let said = compare(operation, &mut lent, expected, actual)?;
         if let Some(number) = case.returns {
             assert_eq!(said, number, "{operation:?} was made to return {number}: {lent:?}");
         }
         if said == 0 {
-            check_moved(operation, &before, &lent);
+            check_moved(operation, &before.bounds, &lent);
         }
-        coverage.note(operation, lent.n, said, &lent.answer);
+        coverage.note(operation, &before, said, &lent);
     }
     Ok(())
 }
@@ -156,6 +156,7 @@ impl Guarded {
             bounds: guard(&lent.bounds, 0x5555_5555),
             coefs: guard(&lent.coefs, 0x5555_5555),
             rhs: guard(&lent.rhs, 0x5555_5555),
+            kinds: guard(&lent.kinds, 0x55),
             table: guard(&lent.table, 0x55),
             calls: guard(&lent.calls, 0x5555_5555),
             book: guard(&lent.book, 0x55),
@@ -176,6 +177,7 @@ impl Guarded {
             bounds: inner(&mut cells.bounds),
             coefs: inner(&mut cells.coefs),
             rhs: inner(&mut cells.rhs),
+            kinds: inner(&mut cells.kinds),
             table: inner(&mut cells.table),
             calls: inner(&mut cells.calls),
             book: inner(&mut cells.book),
@@ -191,6 +193,7 @@ impl Guarded {
             bounds: loan.bounds.to_vec(),
             coefs: loan.coefs.to_vec(),
             rhs: loan.rhs.to_vec(),
+            kinds: loan.kinds.to_vec(),
             table: loan.table.to_vec(),
             calls: loan.calls.to_vec(),
             book: loan.book.to_vec(),
@@ -238,6 +241,7 @@ impl fmt::Display for Difference {
         first(f, "bounds", [&left.bounds, &right.bounds])?;
         first(f, "coefs", [&left.coefs, &right.coefs])?;
         first(f, "rhs", [&left.rhs, &right.rhs])?;
+        first(f, "kinds", [&left.kinds, &right.kinds])?;
         first(f, "table", [&left.table, &right.table])?;
         first(f, "calls", [&left.calls, &right.calls])?;
         first(f, "book", [&left.book, &right.book])?;

@@ -3,6 +3,7 @@
 
 use compare::lent::{Backend, Loan, Operation, Reference};
 use compare::suite::{self, Plan, SEED};
+use reference::row::{AT_MOST, EQUAL, Outcome, Row, RowPropagation};
 
 const PLAN: Plan = Plan { seed: SEED, first: 0, cases: 20_000 };
 
@@ -23,6 +24,7 @@ struct Before {
     bounds: Vec<i32>,
     coefs: Vec<i32>,
     rhs: Vec<i32>,
+    kinds: Vec<u8>,
     table: Vec<u8>,
 }
 
@@ -32,6 +34,7 @@ impl<F: FnMut(Operation, &Before, u32, &mut Loan) -> u32> Backend for Broken<F> 
             bounds: loan.bounds.to_vec(),
             coefs: loan.coefs.to_vec(),
             rhs: loan.rhs.to_vec(),
+            kinds: loan.kinds.to_vec(),
             table: loan.table.to_vec(),
         };
         let said = Reference.call(operation, reborrow(&mut loan));
@@ -46,6 +49,7 @@ fn reborrow<'a>(loan: &'a mut Loan) -> Loan<'a> {
         bounds: loan.bounds,
         coefs: loan.coefs,
         rhs: loan.rhs,
+        kinds: loan.kinds,
         table: loan.table,
         calls: loan.calls,
         book: loan.book,
@@ -209,6 +213,181 @@ fn catches_a_redundant_row_that_stays() {
     });
 }
 
+/// The number of the row of an accepted call that changed a bound or a row, where it is an = row.
+fn equality(operation: Operation, before: &Before, said: u32) -> Option<usize> {
+    match operation {
+        Operation::PropagateRow { row }
+        | Operation::TightenCoefficient { row, .. }
+        | Operation::RemoveRedundantRow { row }
+            if said == 0 && before.kinds[row as usize] == EQUAL =>
+        {
+            Some(row as usize)
+        }
+        _ => None,
+    }
+}
+
+/// The reference's propagation of row r as it was lent, as a ≤ row with this sign, over the box given: case
+/// and bounds moved.
+fn at_most(before: &Before, r: usize, sign: i32, bounds: &mut [i32]) -> [u64; 2] {
+    let n = bounds.len() / 2;
+    let coefs: Vec<i32> = before.coefs[r * n..][..n].iter().map(|a| sign * a).collect();
+    let row = Row { coefs: &coefs, rhs: sign * before.rhs[r], kind: AT_MOST };
+    match reference::row::propagate_row(bounds, row) {
+        RowPropagation::Infeasible => [0, 0],
+        RowPropagation::Tightened(moved) => [1, moved.into()],
+        RowPropagation::Unchanged => [2, 0],
+    }
+}
+
+#[test]
+fn catches_an_equality_row_propagated_as_at_most_only() {
+    is_caught(|operation, before, said, loan| {
+        if let (Operation::PropagateRow { .. }, Some(r)) =
+            (operation, equality(operation, before, said))
+            && !reference::bounds::is_empty(&before.bounds)
+        {
+            loan.bounds.copy_from_slice(&before.bounds);
+            let said = at_most(before, r, 1, loan.bounds);
+            loan.answer[..2].copy_from_slice(&said);
+        }
+        said
+    });
+}
+
+#[test]
+fn catches_the_negated_form_on_the_old_box() {
+    is_caught(|operation, before, said, loan| {
+        if let (Operation::PropagateRow { .. }, Some(r)) =
+            (operation, equality(operation, before, said))
+            && loan.answer[0] != 0
+        {
+            // Both forms over the box as it was lent, and what they leave in common.
+            let [mut left, mut right] = [before.bounds.clone(), before.bounds.clone()];
+            at_most(before, r, 1, &mut left);
+            at_most(before, r, -1, &mut right);
+            for (at, bound) in loan.bounds.iter_mut().enumerate() {
+                let both = [left[at], right[at]];
+                *bound = if at % 2 == 0 { both[0].max(both[1]) } else { both[0].min(both[1]) };
+            }
+        }
+        said
+    });
+}
+
+#[test]
+fn catches_bounds_counted_before_an_infeasible_second_form() {
+    is_caught(|operation, before, said, loan| {
+        if let (Operation::PropagateRow { .. }, Some(r)) =
+            (operation, equality(operation, before, said))
+            && loan.answer[0] == 0
+            && !reference::bounds::is_empty(&before.bounds)
+        {
+            loan.answer[1] = at_most(before, r, 1, &mut before.bounds.clone())[1];
+        }
+        said
+    });
+}
+
+#[test]
+fn catches_an_equality_row_removed_as_at_most() {
+    is_caught(|operation, before, said, loan| {
+        if let (Operation::RemoveRedundantRow { .. }, Some(r)) =
+            (operation, equality(operation, before, said))
+            && loan.answer[0] == 2
+        {
+            let coefs = &mut loan.coefs[r * loan.n..][..loan.n];
+            let (rhs, kind) = (&mut loan.rhs[r], &mut loan.kinds[r]);
+            *kind = AT_MOST;
+            match reference::row::remove_redundant_row(loan.bounds, coefs, rhs, kind) {
+                Outcome::Changed => loan.answer[0] = 1,
+                _ => *kind = EQUAL,
+            }
+        }
+        said
+    });
+}
+
+#[test]
+fn catches_a_kind_kept_at_removal() {
+    // By a call of its own, in a list and in the rounds.
+    for kept in ["remove_redundant_row", "run", "rounds"] {
+        is_caught(|operation, before, said, loan| {
+            if operation.name() == kept && said == 0 {
+                loan.kinds.copy_from_slice(&before.kinds);
+            }
+            said
+        });
+    }
+    // A row 0 = 0 whose kind changes, and which is called unchanged.
+    is_caught(|operation, before, said, loan| {
+        if let (Operation::RemoveRedundantRow { .. }, Some(r)) =
+            (operation, equality(operation, before, said))
+            && before.coefs[r * loan.n..][..loan.n].iter().all(|&a| a == 0)
+            && before.rhs[r] == 0
+            && loan.answer[0] == 1
+        {
+            loan.answer[0] = 2;
+        }
+        said
+    });
+}
+
+#[test]
+fn catches_an_equality_row_tightened() {
+    is_caught(|operation, before, said, loan| {
+        if let (Operation::TightenCoefficient { variable, .. }, Some(r)) =
+            (operation, equality(operation, before, said))
+        {
+            let coefs = &mut loan.coefs[r * loan.n..][..loan.n];
+            let (rhs, k) = (&mut loan.rhs[r], variable as usize);
+            let outcome = reference::row::tighten_coefficient(loan.bounds, coefs, rhs, AT_MOST, k);
+            if outcome == Outcome::Changed {
+                loan.answer[0] = 1;
+            }
+        }
+        said
+    });
+}
+
+#[test]
+fn catches_kinds_that_a_read_book_leaves() {
+    is_caught(|operation, before, said, loan| {
+        if operation == Operation::BookRead && said == 0 {
+            loan.kinds.copy_from_slice(&before.kinds);
+        }
+        said
+    });
+}
+
+#[test]
+fn catches_kinds_in_another_place() {
+    let above_1 = |bytes: &[u8]| bytes.iter().any(|&byte| byte > 1);
+    // 16 before 9, 10 before 16, 17 before 16.
+    is_caught(|_, before, said, _| if said == 9 && above_1(&before.kinds) { 16 } else { said });
+    is_caught(|operation, before, said, _| match operation {
+        Operation::Probe { .. } | Operation::Run | Operation::Rounds { .. }
+            if said == 16 && above_1(&before.table) =>
+        {
+            10
+        }
+        _ => said,
+    });
+    is_caught(|operation, before, said, _| {
+        let equal = before.kinds.contains(&EQUAL);
+        if operation == Operation::BookWrite && said == 16 && equal { 17 } else { said }
+    });
+    // A kind of 2 alone accepted; 17 said of a length that is wrong, too.
+    is_caught(|_, before, said, _| {
+        let most = before.kinds.iter().max();
+        if said == 16 && most == Some(&2) { 0 } else { said }
+    });
+    is_caught(|operation, before, said, _| {
+        let equal = before.kinds.contains(&EQUAL);
+        if operation == Operation::BookWrite && said == 5 && equal { 17 } else { said }
+    });
+}
+
 #[test]
 fn catches_a_count_of_all_bytes_instead_of_new_ones() {
     is_caught(|operation, _, said, loan| {
@@ -290,7 +469,7 @@ fn catches_the_width_in_another_place() {
 
 #[test]
 fn catches_each_check_left_out() {
-    for left_out in (1..=15).chain([23]) {
+    for left_out in (1..=17).chain([23]) {
         // Check 11 refuses records only: it is seen in the counts.
         if left_out == 11 {
             continue;

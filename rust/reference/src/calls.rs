@@ -10,7 +10,7 @@ use crate::list;
 use crate::probing::{self, Verdict};
 use crate::propagation::{self, Ending};
 use crate::rounds::{self, Rounds};
-use crate::row::{self, Outcome, RowPropagation, Rows};
+use crate::row::{self, AT_MOST, Outcome, RowPropagation, Rows};
 use crate::{State, book, bounds as boxes};
 
 /// The places of an answer.
@@ -37,24 +37,31 @@ fn reply(answer: &mut [u64], call: impl FnOnce(usize) -> Answer) -> u32 {
     }
 }
 
-/// Checks 3, 5, 6, 7, 23, 8, 9 and 10 of a model, with its table where the call is lent one; `others` are the lengths
-/// of further lent buffers, with the lengths that they need.
+/// Checks 3, 5, 6, 7, 23, 8, 9, 16 and 10 of a model, with its table where the call is lent one; `others` are
+/// the lengths of further lent buffers, with the lengths that they need.
 fn check_model(
     n: usize,
     m: usize,
     bounds: &[i32],
     coefs: &[i32],
     rhs: &[i32],
+    kinds: &[u8],
     table: Option<&[u8]>,
     others: &[(usize, usize)],
 ) -> Check {
     checks::size(n, m)?;
-    checks::lengths(&[(bounds.len(), 2 * n), (coefs.len(), m * n), (rhs.len(), m)])?;
+    checks::lengths(&[
+        (bounds.len(), 2 * n),
+        (coefs.len(), m * n),
+        (rhs.len(), m),
+        (kinds.len(), m),
+    ])?;
     if let Some(table) = table {
         checks::lengths(&[(table.len(), 4 * n * n)])?;
     }
     checks::lengths(others)?;
     checks::numbers(bounds, coefs, rhs)?;
+    checks::kinds(kinds)?;
     table.map_or(Ok(()), checks::table)
 }
 
@@ -73,17 +80,18 @@ pub fn propagate_row(
     bounds: &mut [i32],
     coefs: &[i32],
     rhs: &[i32],
+    kinds: &[u8],
     row: u32,
     answer: &mut [u64],
 ) -> u32 {
     reply(answer, |places_lent| {
-        check_model(n, m, bounds, coefs, rhs, None, &[(places_lent, ANSWER)])?;
+        check_model(n, m, bounds, coefs, rhs, kinds, None, &[(places_lent, ANSWER)])?;
         checks::row(row, m)?;
         if boxes::is_empty(bounds) {
             return Ok(places([0, 0]));
         }
-        let r = row as usize;
-        Ok(match row::propagate_row(bounds, &coefs[r * n..][..n], rhs[r]) {
+        let row = Rows::new(n, coefs, rhs, kinds).at(row as usize);
+        Ok(match row::propagate_row(bounds, row) {
             RowPropagation::Infeasible => places([0, 0]),
             RowPropagation::Tightened(moved) => places([1, moved.into()]),
             RowPropagation::Unchanged => places([2, 0]),
@@ -98,13 +106,14 @@ pub fn propagate(
     bounds: &mut [i32],
     coefs: &[i32],
     rhs: &[i32],
+    kinds: &[u8],
     budget: u32,
     answer: &mut [u64],
 ) -> u32 {
     reply(answer, |places_lent| {
-        check_model(n, m, bounds, coefs, rhs, None, &[(places_lent, ANSWER)])?;
+        check_model(n, m, bounds, coefs, rhs, kinds, None, &[(places_lent, ANSWER)])?;
         checks::budget(budget)?;
-        let rows = Rows::new(n, coefs, rhs);
+        let rows = Rows::new(n, coefs, rhs, kinds);
         let propagation = propagation::propagate(bounds, rows, budget);
         let case = match propagation.ending {
             Ending::Infeasible => 0,
@@ -122,16 +131,17 @@ pub fn probe(
     bounds: &mut [i32],
     coefs: &[i32],
     rhs: &[i32],
+    kinds: &[u8],
     table: &mut [u8],
     variable: u32,
     budget: u32,
     answer: &mut [u64],
 ) -> u32 {
     reply(answer, |places_lent| {
-        check_model(n, m, bounds, coefs, rhs, Some(table), &[(places_lent, ANSWER)])?;
+        check_model(n, m, bounds, coefs, rhs, kinds, Some(table), &[(places_lent, ANSWER)])?;
         checks::free_variable(variable, bounds)?;
         checks::budget(budget)?;
-        let rows = Rows::new(n, coefs, rhs);
+        let rows = Rows::new(n, coefs, rhs, kinds);
         let probe = probing::probe(bounds, rows, table, variable as usize, budget);
         let [side0, side1] = probe.sides;
         let (case, value) = match probe.verdict {
@@ -159,17 +169,18 @@ pub fn tighten_coefficient(
     bounds: &[i32],
     coefs: &mut [i32],
     rhs: &mut [i32],
+    kinds: &[u8],
     row: u32,
     variable: u32,
     answer: &mut [u64],
 ) -> u32 {
     reply(answer, |places_lent| {
-        check_model(n, m, bounds, coefs, rhs, None, &[(places_lent, ANSWER)])?;
+        check_model(n, m, bounds, coefs, rhs, kinds, None, &[(places_lent, ANSWER)])?;
         checks::row(row, m)?;
         checks::free_variable(variable, bounds)?;
         let (r, k) = (row as usize, variable as usize);
         let coefs = &mut coefs[r * n..][..n];
-        Ok(outcome(row::tighten_coefficient(bounds, coefs, &mut rhs[r], k)))
+        Ok(outcome(row::tighten_coefficient(bounds, coefs, &mut rhs[r], kinds[r], k)))
     })
 }
 
@@ -180,15 +191,16 @@ pub fn remove_redundant_row(
     bounds: &[i32],
     coefs: &mut [i32],
     rhs: &mut [i32],
+    kinds: &mut [u8],
     row: u32,
     answer: &mut [u64],
 ) -> u32 {
     reply(answer, |places_lent| {
-        check_model(n, m, bounds, coefs, rhs, None, &[(places_lent, ANSWER)])?;
+        check_model(n, m, bounds, coefs, rhs, kinds, None, &[(places_lent, ANSWER)])?;
         checks::row(row, m)?;
         let r = row as usize;
         let coefs = &mut coefs[r * n..][..n];
-        Ok(outcome(row::remove_redundant_row(bounds, coefs, &mut rhs[r])))
+        Ok(outcome(row::remove_redundant_row(bounds, coefs, &mut rhs[r], &mut kinds[r])))
     })
 }
 
@@ -199,11 +211,12 @@ pub fn is_probing_fixpoint(
     bounds: &[i32],
     coefs: &[i32],
     rhs: &[i32],
+    kinds: &[u8],
     answer: &mut [u64],
 ) -> u32 {
     reply(answer, |places_lent| {
-        check_model(n, m, bounds, coefs, rhs, None, &[(places_lent, ANSWER)])?;
-        let rows = Rows::new(n, coefs, rhs);
+        check_model(n, m, bounds, coefs, rhs, kinds, None, &[(places_lent, ANSWER)])?;
+        let rows = Rows::new(n, coefs, rhs, kinds);
         Ok(places([probing::is_probing_fixpoint(bounds, rows).into()]))
     })
 }
@@ -215,6 +228,7 @@ pub fn run(
     bounds: &mut [i32],
     coefs: &mut [i32],
     rhs: &mut [i32],
+    kinds: &mut [u8],
     table: &mut [u8],
     calls: &[u32],
     answer: &mut [u64],
@@ -222,8 +236,8 @@ pub fn run(
     reply(answer, |places_lent| {
         let (records, rest) = calls.as_chunks();
         let lengths = [(rest.len(), 0), (places_lent, ANSWER)];
-        check_model(n, m, bounds, coefs, rhs, Some(table), &lengths)?;
-        let counts = list::run(&mut State { n, bounds, coefs, rhs, table }, records);
+        check_model(n, m, bounds, coefs, rhs, kinds, Some(table), &lengths)?;
+        let counts = list::run(&mut State { n, bounds, coefs, rhs, kinds, table }, records);
         Ok(places([counts.refused, counts.none, counts.changed, counts.unchanged]))
     })
 }
@@ -235,13 +249,14 @@ pub fn rounds(
     bounds: &mut [i32],
     coefs: &mut [i32],
     rhs: &mut [i32],
+    kinds: &mut [u8],
     table: &mut [u8],
     limit: u32,
     answer: &mut [u64],
 ) -> u32 {
     reply(answer, |places_lent| {
-        check_model(n, m, bounds, coefs, rhs, Some(table), &[(places_lent, ANSWER)])?;
-        let mut state = State { n, bounds, coefs, rhs, table };
+        check_model(n, m, bounds, coefs, rhs, kinds, Some(table), &[(places_lent, ANSWER)])?;
+        let mut state = State { n, bounds, coefs, rhs, kinds, table };
         Ok(match rounds::rounds(&mut state, limit) {
             Rounds::Infeasible(made) => places([0, made.into()]),
             Rounds::Unchanged(made) => places([1, made.into()]),
@@ -258,12 +273,13 @@ pub fn book_trailer(bytes: &[u8], answer: &mut [u64]) -> u32 {
     })
 }
 
-/// Reads a book into lent buffers.
+/// Reads a book into lent buffers. 02, C-14: "First-edition books have kind 0 throughout."
 pub fn book_read(
     book: &[u8],
     bounds: &mut [i32],
     coefs: &mut [i32],
     rhs: &mut [i32],
+    kinds: &mut [u8],
     answer: &mut [u64],
 ) -> u32 {
     reply(answer, |places_lent| {
@@ -272,6 +288,7 @@ pub fn book_read(
             (bounds.len(), 2 * n),
             (coefs.len(), m * n),
             (rhs.len(), m),
+            (kinds.len(), m),
             (places_lent, ANSWER),
         ])?;
         let (new_bounds, new_coefs, new_rhs) = book::numbers(book, n, m);
@@ -279,22 +296,25 @@ pub fn book_read(
         bounds.copy_from_slice(&new_bounds);
         coefs.copy_from_slice(&new_coefs);
         rhs.copy_from_slice(&new_rhs);
+        kinds.fill(AT_MOST);
         Ok(places([n as u64, m as u64]))
     })
 }
 
-/// Writes the book of a model into a lent buffer of exactly its length.
+/// Writes the book of a model into a lent buffer of exactly its length. A first-edition book holds no = row.
 pub fn book_write(
     n: usize,
     m: usize,
     bounds: &[i32],
     coefs: &[i32],
     rhs: &[i32],
+    kinds: &[u8],
     book: &mut [u8],
 ) -> u32 {
     let check = || -> Check {
         checks::size(n, m)?; // before a length is reckoned from it
-        check_model(n, m, bounds, coefs, rhs, None, &[(book.len(), book::length(n, m))])
+        check_model(n, m, bounds, coefs, rhs, kinds, None, &[(book.len(), book::length(n, m))])?;
+        checks::no_equality(kinds)
     };
     if let Err(check) = check() {
         return check;

@@ -3,6 +3,7 @@
 
 use crate::bounds;
 use crate::propagation::MAX_BUDGET;
+use crate::row::AT_MOST;
 
 /// `Err` has the number of the failed check.
 pub type Check = Result<(), u32>;
@@ -31,6 +32,16 @@ pub fn numbers(bounds: &[i32], coefs: &[i32], rhs: &[i32]) -> Check {
     ensure(23, bounds.chunks_exact(2).all(|pair| pair[1] - pair[0] <= 4_096))?; // the empty box: −1
     ensure(8, within(coefs, -1_000_000, 1_000_000))?;
     ensure(9, within(rhs, -1_000_000_000, 1_000_000_000))
+}
+
+/// Check 16: "a kind byte above 1, after check 9" (02, C-14).
+pub fn kinds(bytes: &[u8]) -> Check {
+    ensure(16, bytes.iter().all(|&byte| byte <= 1))
+}
+
+/// Check 17: "an = row to be written into a first-edition book, straight after 16" (02, C-14).
+pub fn no_equality(kinds: &[u8]) -> Check {
+    ensure(17, kinds.iter().all(|&kind| kind == AT_MOST))
 }
 
 /// Check 10.

@@ -8,7 +8,7 @@
 //! | module | 01's section |
 //! |---|---|
 //! | [`bounds`] | The model: the box, the empty ("void") box, free binary ("free 0-1") variables |
-//! | [`row`] | Row sums; visit; sharpen and drop |
+//! | [`row`] | Row sums; visit; sharpen and drop; each by the row's kind (02, C-14) |
 //! | [`propagation`] | Settle |
 //! | [`probing`] | Probe, rest |
 //! | [`list`] | Run sheet |
@@ -35,43 +35,57 @@ pub struct State<'a> {
     pub bounds: &'a mut [i32],
     pub coefs: &'a mut [i32],
     pub rhs: &'a mut [i32],
+    /// A byte for each row: 0 for ≤, 1 for = (02, C-14).
+    pub kinds: &'a mut [u8],
     pub table: &'a mut [u8],
 }
 
 /// A copy of every number of a [`State`], to tell later whether one changed.
 #[derive(PartialEq)]
-pub struct Snapshot(Vec<i32>, Vec<i32>, Vec<i32>, Vec<u8>);
+pub struct Snapshot {
+    bounds: Vec<i32>,
+    coefs: Vec<i32>,
+    rhs: Vec<i32>,
+    kinds: Vec<u8>,
+    table: Vec<u8>,
+}
 
 impl State<'_> {
     pub fn rows(&self) -> row::Rows<'_> {
-        row::Rows::new(self.n, self.coefs, self.rhs)
+        row::Rows::new(self.n, self.coefs, self.rhs, self.kinds)
     }
 
     pub fn snapshot(&self) -> Snapshot {
-        Snapshot(self.bounds.to_vec(), self.coefs.to_vec(), self.rhs.to_vec(), self.table.to_vec())
+        Snapshot {
+            bounds: self.bounds.to_vec(),
+            coefs: self.coefs.to_vec(),
+            rhs: self.rhs.to_vec(),
+            kinds: self.kinds.to_vec(),
+            table: self.table.to_vec(),
+        }
     }
 
     /// Tightens the coefficient of variable `k` in row `r` (01's sharpen).
     pub fn tighten_coefficient(&mut self, r: usize, k: usize) -> row::Outcome {
         let coefs = &mut self.coefs[r * self.n..][..self.n];
-        row::tighten_coefficient(self.bounds, coefs, &mut self.rhs[r], k)
+        row::tighten_coefficient(self.bounds, coefs, &mut self.rhs[r], self.kinds[r], k)
     }
 
     /// Removes row `r` where it is redundant (01's drop).
     pub fn remove_redundant_row(&mut self, r: usize) -> row::Outcome {
         let coefs = &mut self.coefs[r * self.n..][..self.n];
-        row::remove_redundant_row(self.bounds, coefs, &mut self.rhs[r])
+        row::remove_redundant_row(self.bounds, coefs, &mut self.rhs[r], &mut self.kinds[r])
     }
 
     /// Propagates the rows over the box (01's settle).
     pub fn propagate(&mut self, budget: u32) -> propagation::Propagation {
-        let rows = row::Rows::new(self.n, self.coefs, self.rhs);
+        let rows = row::Rows::new(self.n, self.coefs, self.rhs, self.kinds);
         propagation::propagate(self.bounds, rows, budget)
     }
 
     /// Probes variable `k`.
     pub fn probe(&mut self, k: usize, budget: u32) -> probing::Probe {
-        let rows = row::Rows::new(self.n, self.coefs, self.rhs);
+        let rows = row::Rows::new(self.n, self.coefs, self.rhs, self.kinds);
         probing::probe(self.bounds, rows, self.table, k, budget)
     }
 }

@@ -5,7 +5,7 @@ use crate::bounds;
 use crate::checks::{self, Check};
 use crate::probing::Verdict;
 use crate::propagation::Ending;
-use crate::row::{self, Outcome, RowPropagation};
+use crate::row::{self, Outcome, RowPropagation, Rows};
 
 /// A call record: kind, row, variable, budget. A field that its kind lacks is ignored.
 pub type Call = [u32; 4];
@@ -69,6 +69,6 @@ fn propagate_row(state: &mut State, r: usize) -> RowPropagation {
     if bounds::is_empty(state.bounds) {
         return RowPropagation::Infeasible;
     }
-    let coefs = &state.coefs[r * state.n..][..state.n];
-    row::propagate_row(state.bounds, coefs, state.rhs[r])
+    let row = Rows::new(state.n, state.coefs, state.rhs, state.kinds).at(r);
+    row::propagate_row(state.bounds, row)
 }

@@ -111,8 +111,7 @@ pub fn is_probing_fixpoint(bounds: &[i32], rows: Rows) -> bool {
 
 /// Whether no row changes the box (01's quiet).
 pub fn is_fixpoint(bounds: &[i32], rows: Rows) -> bool {
-    let on_a_copy = |coefs, rhs| propagate_row(&mut bounds.to_vec(), coefs, rhs);
-    rows.iter().all(|(coefs, rhs)| on_a_copy(coefs, rhs) == RowPropagation::Unchanged)
+    rows.iter().all(|row| propagate_row(&mut bounds.to_vec(), row) == RowPropagation::Unchanged)
 }
 
 /// Whether both sides of `k` are feasible and their hull is the box itself. The largest budget is

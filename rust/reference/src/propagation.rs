@@ -57,8 +57,8 @@ struct Pass {
 /// Propagates each row once, upwards; an infeasible one ends the pass.
 fn pass(bounds: &mut [i32], rows: Rows) -> Pass {
     let mut moved = 0;
-    for (coefs, rhs) in rows.iter() {
-        match row::propagate_row(bounds, coefs, rhs) {
+    for row in rows.iter() {
+        match row::propagate_row(bounds, row) {
             RowPropagation::Infeasible => return Pass { feasible: false, moved },
             RowPropagation::Tightened(more) => moved += more,
             RowPropagation::Unchanged => {}

@@ -3,6 +3,7 @@
 use std::fmt::Write;
 
 use crate::rounds::{Rounds, rounds};
+use crate::row::{AT_MOST, Row};
 use crate::{State, book, checks};
 
 /// The rounds that `reduce` makes at most.
@@ -22,9 +23,15 @@ fn reduced(input: &[u8]) -> Result<Option<String>, u32> {
     let (n, m) = book::size(input)?;
     let (mut bounds, mut coefs, mut rhs) = book::numbers(input, n, m);
     checks::numbers(&bounds, &coefs, &rhs)?;
-    let mut table = vec![0; 4 * n * n];
-    let mut state =
-        State { n, bounds: &mut bounds, coefs: &mut coefs, rhs: &mut rhs, table: &mut table };
+    let (mut kinds, mut table) = (vec![AT_MOST; m], vec![0; 4 * n * n]);
+    let mut state = State {
+        n,
+        bounds: &mut bounds,
+        coefs: &mut coefs,
+        rhs: &mut rhs,
+        kinds: &mut kinds,
+        table: &mut table,
+    };
     Ok(match rounds(&mut state, LIMIT) {
         Rounds::Infeasible(_) => None,
         Rounds::Unchanged(made) | Rounds::LimitReached(made) => Some(print(&state, made)),
@@ -37,7 +44,7 @@ fn print(state: &State, rounds: u32) -> String {
     for (j, pair) in state.bounds.chunks_exact(2).enumerate() {
         writeln!(out, "v {j} {} {}", pair[0], pair[1]).unwrap();
     }
-    for (r, (coefs, rhs)) in state.rows().iter().enumerate() {
+    for (r, Row { coefs, rhs, .. }) in state.rows().iter().enumerate() {
         if rhs != 0 || coefs.iter().any(|&a| a != 0) {
             write!(out, "r {r} {rhs}").unwrap();
             coefs.iter().for_each(|a| write!(out, " {a}").unwrap());

@@ -27,7 +27,8 @@ impl Rng {
     }
 }
 
-/// A model of few variables, most of them binary, whose rows are neither all loose nor all infeasible.
+/// A model of few variables, most of them binary, whose rows are neither all loose nor all infeasible; in
+/// half of the models some or all of them are = rows.
 fn small_model(rng: &mut Rng, max_n: i32) -> Model {
     let n = rng.between(1, max_n) as usize;
     let m = rng.between(0, 4) as usize;
@@ -47,7 +48,19 @@ fn small_model(rng: &mut Rng, max_n: i32) -> Model {
         })
         .collect();
     let rows: Vec<(&[i32], i32)> = rows.iter().map(|(coefs, b)| (&coefs[..], *b)).collect();
-    Model::new(&bounds, &rows)
+    let mut model = Model::new(&bounds, &rows);
+    let equal = [0, 0, 30, 100][rng.between(0, 3) as usize];
+    for ((coefs, _), (kind, b)) in rows.iter().zip(model.kinds.iter_mut().zip(&mut model.rhs)) {
+        if rng.between(1, 100) > equal {
+            continue;
+        }
+        *kind = 1;
+        // Mostly with the sum at some point of the box as right side: else nearly every model is empty.
+        if rng.between(0, 3) > 0 {
+            *b = bounds.iter().zip(*coefs).map(|(&(l, u), a)| a * rng.between(l, u)).sum();
+        }
+    }
+    model
 }
 
 /// All lists of whole numbers inside the box, without the rows.
@@ -65,7 +78,8 @@ fn box_points(bounds: &[i32]) -> Vec<Vec<i32>> {
 fn meets_rows(model: &Model, point: &[i32]) -> bool {
     (0..model.m).all(|r| {
         let (coefs, b) = model.row(r);
-        coefs.iter().zip(point).map(|(a, x)| a * x).sum::<i32>() <= b
+        let sum: i32 = coefs.iter().zip(point).map(|(a, x)| a * x).sum();
+        if model.kinds[r] == 1 { sum == b } else { sum <= b }
     })
 }
 
@@ -183,7 +197,9 @@ fn moved_bounds_are_those_that_differ() {
                     [0, 0, ..] => break 'passes,
                     [1, more, ..] => {
                         assert_eq!(more, differing(&before, &one.bounds));
-                        assert!(1 <= more && more <= model.n as u64);
+                        // "from 1 to n"; of an = row "up to 2n" (C-14).
+                        let sides = if model.kinds[row as usize] == 1 { 2 } else { 1 };
+                        assert!(1 <= more && more <= sides * model.n as u64);
                         sum += more;
                     }
                     answer => assert_eq!(
@@ -361,23 +377,141 @@ fn two_runs_at_rest_end_in_equal_boxes() {
     }
 }
 
+/// The ≤ form of row r, then its negated form, each as the only row of a model over the box.
+fn forms(model: &Model, r: usize) -> [Model; 2] {
+    let (coefs, b) = model.row(r);
+    let negated: Vec<i32> = coefs.iter().map(|a| -a).collect();
+    let only = |coefs: &[i32], b| {
+        let bounds: Vec<(i32, i32)> =
+            model.bounds.chunks(2).map(|pair| (pair[0], pair[1])).collect();
+        Model::new(&bounds, &[(coefs, b)])
+    };
+    [only(coefs, b), only(&negated, -b)]
+}
+
+#[test]
+fn an_equality_row_is_its_form_at_most_and_then_its_negated_form() {
+    // C-14, row by row; and that a second visit can move more.
+    let mut rng = Rng(10);
+    let [mut first_none, mut second_none, mut second_alone, mut more_again, mut above_n] = [0; 5];
+    for _ in 0..20_000 {
+        let model = small_model(&mut rng, 5);
+        for r in (0..model.m).filter(|&r| model.kinds[r] == 1) {
+            let mut whole = model.clone();
+            let said = whole.propagate_row(r as u32).unwrap();
+            let [mut first, mut second] = forms(&model, r);
+            let first_said = first.propagate_row(0).unwrap();
+            if first_said[0] == 0 {
+                assert_eq!((said, whole.is_empty()), (common::ok(&[0, 0]).unwrap(), true));
+                first_none += 1;
+                continue;
+            }
+            second.bounds.clone_from(&first.bounds);
+            let second_said = second.propagate_row(0).unwrap();
+            if second_said[0] == 0 {
+                assert_eq!((said, whole.is_empty()), (common::ok(&[0, 0]).unwrap(), true));
+                second_none += 1;
+                continue;
+            }
+            // The two forms move different bounds, so their numbers add up to those that differ.
+            let moved = first_said[1] + second_said[1];
+            assert_eq!(moved, differing(&model.bounds, &second.bounds));
+            assert_eq!(said, common::ok(&[if moved > 0 { 1 } else { 2 }, moved]).unwrap());
+            assert_eq!(whole.bounds, second.bounds);
+            second_alone += u32::from(first_said[1] == 0 && moved > 0);
+            above_n += u32::from(moved > model.n as u64);
+            more_again += u32::from(whole.propagate_row(r as u32).unwrap()[0] != 2);
+        }
+    }
+    let seen = [first_none, second_none, second_alone, more_again, above_n];
+    assert!(seen.iter().all(|&cases| cases > 50), "{seen:?}");
+}
+
+#[test]
+fn an_equality_row_and_its_two_rows_end_in_the_same_quiet_box() {
+    let mut rng = Rng(11);
+    let mut seen = [0; 2];
+    for _ in 0..4_000 {
+        let model = small_model(&mut rng, 5);
+        let two = model.in_two_rows();
+        assert_eq!(integer_points(&model), integer_points(&two));
+        // Wherever the two rows stand, and in the model of = rows wherever that one does.
+        let mut turned = two.clone();
+        turned.coefs = turned.coefs.chunks(model.n).rev().flatten().copied().collect();
+        turned.rhs.reverse();
+        assert_eq!(model.clone().at_rest(), two.clone().at_rest());
+        let ends = [&model, &two, &turned].map(|start| {
+            let mut end = start.clone();
+            let case = end.propagate(MAX_BUDGET).unwrap()[0];
+            assert_eq!(end.at_rest(), at_rest_in(&turned, &end.bounds));
+            (case, end.bounds)
+        });
+        assert!(ends[0] == ends[1] && ends[1] == ends[2], "{model:?}");
+        seen[ends[0].0 as usize] += u32::from(model.kinds.contains(&1));
+        // A pass over an = row is a pass over its two rows: the passes are the same too, and the bounds
+        // moved where it does not end in None.
+        let (one, both) = (model.clone().propagate(9).unwrap(), two.clone().propagate(9).unwrap());
+        assert_eq!(one[..2], both[..2]);
+        assert!(one[2] == both[2] || one[0] == 0 && one[2] < both[2]);
+    }
+    assert!(seen.iter().all(|&cases| cases > 500), "{seen:?}");
+}
+
+/// What the rest call says of the model's rows over another box.
+fn at_rest_in(model: &Model, bounds: &[i32]) -> common::Said {
+    Model { bounds: bounds.to_vec(), ..model.clone() }.at_rest()
+}
+
+#[test]
+fn an_equality_row_is_removed_where_every_point_of_the_box_meets_it() {
+    let mut rng = Rng(12);
+    let mut seen = [0; 2];
+    for _ in 0..20_000 {
+        let mut model = small_model(&mut rng, 3);
+        for r in (0..model.m).filter(|&r| model.kinds[r] == 1).collect::<Vec<_>>() {
+            let (coefs, b) = model.row(r);
+            let meets =
+                |point: &Vec<i32>| coefs.iter().zip(point).map(|(a, x)| a * x).sum::<i32>() == b;
+            let implied = box_points(&model.bounds).iter().all(meets);
+            let before = model.clone();
+            if implied {
+                assert_eq!(model.remove(r as u32), common::ok(&[1]));
+                assert_eq!((model.row(r), model.kinds[r]), ((&vec![0; model.n][..], 0), 0));
+            } else {
+                assert_eq!(model.remove(r as u32), common::ok(&[2]));
+                assert_eq!(model, before);
+            }
+            seen[usize::from(implied)] += 1;
+        }
+    }
+    assert!(seen.iter().all(|&rows| rows > 500), "{seen:?}");
+}
+
 #[test]
 fn books_come_back() {
     let mut rng = Rng(7);
+    let mut refused = 0;
     for _ in 0..1_000 {
-        let model = small_model(&mut rng, 6);
+        let mut model = small_model(&mut rng, 6);
+        if model.kinds.contains(&1) {
+            assert_eq!(model.write(), Err(17));
+            model.kinds.fill(0);
+            refused += 1;
+        }
         let book = model.book();
         let mut read = Model {
             bounds: vec![0; 2 * model.n],
             coefs: vec![0; model.m * model.n],
             rhs: vec![0; model.m],
+            kinds: vec![9; model.m],
             ..model.clone()
         };
         let mut answer = [0; ANSWER];
-        let (bounds, coefs, rhs) = (&mut read.bounds, &mut read.coefs, &mut read.rhs);
-        assert_eq!(reference::calls::book_read(&book, bounds, coefs, rhs, &mut answer), 0);
+        let Model { bounds, coefs, rhs, kinds, .. } = &mut read;
+        assert_eq!(reference::calls::book_read(&book, bounds, coefs, rhs, kinds, &mut answer), 0);
         assert_eq!(Ok(answer), common::ok(&[model.n as u64, model.m as u64]));
         assert_eq!(read, model);
         assert_eq!(read.book(), book);
     }
+    assert!(refused > 100);
 }

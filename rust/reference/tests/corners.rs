@@ -14,8 +14,10 @@ fn empty_box() -> Model {
 
 #[test]
 fn checks_run_strictly_in_their_order() {
-    // D-1: everything is wrong; repairing one check after another shows the next number, 23 after 7.
+    // D-1: everything is wrong; repairing one check after another shows the next number, 23 after 7 and
+    // 16 after 9.
     let mut model = Model::new(&[(0, 40_000), (1, 0)], &[(&[1_000_001, 0], 1_000_000_001)]);
+    model.kinds[0] = 2;
     model.table[0] = 2;
     assert_eq!(model.probe(9, 0), Err(6));
     model.bounds[1] = 1;
@@ -27,6 +29,8 @@ fn checks_run_strictly_in_their_order() {
     model.coefs[0] = 1_000_000;
     assert_eq!(model.probe(9, 0), Err(9));
     model.rhs[0] = 1_000_000_000;
+    assert_eq!(model.probe(9, 0), Err(16));
+    model.kinds[0] = 0;
     assert_eq!(model.probe(9, 0), Err(10));
     model.table[0] = 1;
     assert_eq!(model.probe(2, 0), Err(13));
@@ -41,7 +45,7 @@ fn lengths_come_after_the_size_and_before_the_numbers() {
     let mut answer = [7; ANSWER];
     let mut bounds = [0, 40_000, 0];
     let said = |n, m, bounds: &mut [i32], answer: &mut [u64]| {
-        calls::propagate_row(n, m, bounds, &[1], &[1], 0, answer)
+        calls::propagate_row(n, m, bounds, &[1], &[1], &[2], 0, answer)
     };
     assert_eq!(said(0, 1, &mut bounds, &mut answer), 3);
     assert_eq!(said(129, 1, &mut bounds, &mut answer), 3);
@@ -102,10 +106,13 @@ fn every_call(model: &mut Model) -> [u32; 10] {
     }
     let (n, m) = (model.n, model.m);
     let mut book = reference::book::write(n, m, &model.bounds, &model.coefs, &model.rhs);
-    let (mut bounds, mut coefs, mut rhs) = (vec![9; 2 * n], vec![9; m * n], vec![9; m]);
-    numbers[8] = calls::book_read(&book, &mut bounds, &mut coefs, &mut rhs, &mut [0; ANSWER]);
+    let (mut bounds, mut coefs) = (vec![9; 2 * n], vec![9; m * n]);
+    let (mut rhs, mut kinds) = (vec![9; m], vec![9; m]);
+    let answer = &mut [0; ANSWER];
+    numbers[8] = calls::book_read(&book, &mut bounds, &mut coefs, &mut rhs, &mut kinds, answer);
     assert_eq!(numbers[8] == 0, bounds != vec![9; 2 * n], "a refusal writes nothing");
-    numbers[9] = calls::book_write(n, m, &model.bounds, &model.coefs, &model.rhs, &mut book);
+    let (rhs, kinds) = (&model.rhs, &model.kinds);
+    numbers[9] = calls::book_write(n, m, &model.bounds, &model.coefs, rhs, kinds, &mut book);
     numbers
 }
 
@@ -155,11 +162,16 @@ fn a_book_is_checked_in_order() {
     let good = model.book();
     let read = |book: &[u8], lent: usize| {
         let (mut bounds, mut coefs, mut rhs) = (vec![9; lent], vec![9; 2], vec![9; 1]);
-        let mut answer = [7; ANSWER];
-        let said = calls::book_read(book, &mut bounds, &mut coefs, &mut rhs, &mut answer);
-        let written =
-            bounds != vec![9; lent] || coefs != [9; 2] || rhs != [9] || answer != [7; ANSWER];
+        let (mut kinds, mut answer) = (vec![9; 1], [7; ANSWER]);
+        let said =
+            calls::book_read(book, &mut bounds, &mut coefs, &mut rhs, &mut kinds, &mut answer);
+        let written = bounds != vec![9; lent]
+            || coefs != [9; 2]
+            || rhs != [9]
+            || kinds != [9]
+            || answer != [7; ANSWER];
         assert_eq!(said == 0, written, "a refusal writes nothing");
+        assert!(said != 0 || kinds == [0], "a first-edition book has kind 0 throughout");
         said
     };
     let with = |at: usize, byte: u8| {
@@ -389,4 +401,176 @@ fn reduce_prints_none_and_refusals() {
     let widest = reference::book::write(1, 0, &[-2_048, 2_048], &[], &[]);
     assert_eq!(reduce(&widest), "reduced 1 0 1\nv 0 -2048 2048\n");
     assert_eq!(reduce(&Model::new(&[(-2, 7)], &[(&[0], 5)]).book()), "reduced 1 1 2\nv 0 -2 7\n");
+}
+
+/// C-14: "16, a kind byte above 1, after check 9", in every call on a model.
+#[test]
+fn a_kind_byte_is_0_or_1() {
+    let mut model = Model::binary(2, &[(&[1, 1], 1), (&[1, 0], 1)]);
+    for place in 0..2 {
+        for byte in [2, 3, 128, 255] {
+            model.kinds = vec![0, 0];
+            model.kinds[place] = byte;
+            // A book holds no kinds: reading one never fails by 16.
+            assert_eq!(every_call(&mut model), [16, 16, 16, 16, 16, 16, 16, 16, 0, 16]);
+        }
+    }
+    // The empty box is checked as any other.
+    let mut empty = empty_box();
+    empty.kinds[0] = 2;
+    assert_eq!(empty.propagate_row(0), Err(16));
+    assert_eq!(empty.at_rest(), Err(16));
+}
+
+#[test]
+fn kinds_are_as_many_as_rows() {
+    let said = |kinds: &[u8], b| {
+        calls::propagate_row(1, 1, &mut [0, 1], &[1], &[b], kinds, 0, &mut [0; ANSWER])
+    };
+    assert_eq!(said(&[1], 1), 0);
+    assert_eq!(said(&[], 1), 5);
+    assert_eq!(said(&[0, 0], 1), 5);
+    assert_eq!(said(&[2, 2], 2_000_000_000), 5);
+    assert_eq!(said(&[2], 2_000_000_000), 9);
+    assert_eq!(said(&[2], 1), 16);
+    // Without rows there are none.
+    let without =
+        |kinds: &[u8]| calls::propagate(1, 0, &mut [0, 1], &[], &[], kinds, 1, &mut [0; ANSWER]);
+    assert_eq!(without(&[]), 0);
+    assert_eq!(without(&[0]), 5);
+    // In a book's call too.
+    let book = Model::binary(1, &[(&[1], 1)]).book();
+    let read = |kinds: &mut [u8]| {
+        calls::book_read(&book, &mut [9; 2], &mut [9], &mut [9], kinds, &mut [0; ANSWER])
+    };
+    assert_eq!(read(&mut [9]), 0);
+    assert_eq!(read(&mut []), 5);
+    assert_eq!(read(&mut [9, 9]), 5);
+}
+
+#[test]
+fn the_kinds_come_after_9_and_before_10() {
+    let mut model = Model::binary(1, &[(&[1], 1_000_000_001), (&[1], 1)]);
+    model.kinds = vec![0, 2];
+    model.table[0] = 2;
+    assert_eq!(model.rounds(0), Err(9));
+    model.rhs[0] = 1;
+    assert_eq!(model.rounds(0), Err(16));
+    model.kinds[1] = 1;
+    assert_eq!(model.rounds(0), Err(10));
+    // And before a call's own: 12 to 15.
+    model.kinds[1] = 2;
+    assert_eq!(model.propagate_row(9), Err(16));
+    assert_eq!(model.tighten(9, 9), Err(16));
+    assert_eq!(model.propagate(0), Err(16));
+    assert_eq!(model.remove(9), Err(16));
+}
+
+#[test]
+fn an_equality_row_does_not_go_into_a_first_edition_book() {
+    // C-14: "17, an = row to be written into a first-edition book, straight after 16".
+    let model = Model::binary(2, &[(&[1, 1], 1), (&[0, 0], 0)]);
+    assert!(model.write().is_ok());
+    assert_eq!(model.clone().with_equal(&[0]).write(), Err(17));
+    assert_eq!(model.clone().with_equal(&[1]).write(), Err(17)); // 0 = 0 is one as well
+    let mut both = model.clone().with_equal(&[0]);
+    both.kinds[1] = 2;
+    assert_eq!(both.write(), Err(16));
+    both.rhs[1] = -1_000_000_001;
+    assert_eq!(both.write(), Err(9));
+    // Removed, its kind is 0, and the model has a book again.
+    let mut removed = model.with_equal(&[1]);
+    assert_eq!(removed.remove(1), ok(&[1]));
+    assert!(removed.write().is_ok());
+}
+
+#[test]
+fn all_zero_equality_rows() {
+    // 0 = 0 holds, 0 = 1 fails by the negated form, 0 = −1 by the ≤ form.
+    let zero = |b| Model::binary(1, &[(&[0], b)]).with_equal(&[0]);
+    assert_eq!(zero(0).propagate_row(0), ok(&[2]));
+    assert_eq!(zero(1).propagate_row(0), ok(&[0]));
+    assert_eq!(zero(-1).propagate_row(0), ok(&[0]));
+    // 0 ≤ 1 would be redundant; 0 = 1 is not.
+    assert_eq!(zero(1).remove(0), ok(&[2]));
+    assert_eq!(zero(-1).remove(0), ok(&[2]));
+    // 0 = 0: nothing but its kind changes, and that counts.
+    let mut model = zero(0);
+    assert_eq!(model.remove(0), ok(&[1]));
+    assert_eq!((model.row(0), model.kinds[0]), ((&[0][..], 0), 0));
+    assert_eq!(model.remove(0), ok(&[2]));
+    assert_eq!(zero(0).run(&[5, 0, 0, 0, 5, 0, 0, 0]), ok(&[0, 0, 1, 1]));
+    assert_eq!(zero(0).rounds(8), ok(&[1, 2]));
+    assert_eq!(zero(0).rounds(1), ok(&[2, 1]));
+}
+
+#[test]
+fn an_equality_row_is_removed_only_where_it_always_holds() {
+    let model = |bounds: &[(i32, i32)]| Model::new(bounds, &[(&[3, 2], 5)]).with_equal(&[0]);
+    // Lmax = b alone would do for 3x + 2y ≤ 5; Lmin = b alone for ≥.
+    assert_eq!(model(&[(0, 1), (0, 1)]).remove(0), ok(&[2]));
+    assert_eq!(model(&[(1, 2), (1, 1)]).remove(0), ok(&[2]));
+    assert_eq!(model(&[(1, 1), (1, 1)]).remove(0), ok(&[1]));
+    assert_eq!(model(&[(0, 0), (1, 1)]).remove(0), ok(&[2])); // 2 < 5: no point, but not redundant
+    assert_eq!(model(&[(1, 0), (1, 0)]).remove(0), ok(&[0]));
+}
+
+#[test]
+fn an_equality_row_is_not_tightened() {
+    // Tightened as 3x + 2y ≤ 4 is, it would say x + 2y = 2, which (0, 1) meets; no integer point meets it.
+    let mut model = Model::binary(2, &[(&[3, 2], 4)]).with_equal(&[0]);
+    let before = model.clone();
+    assert_eq!(model.tighten(0, 0), ok(&[2]));
+    assert_eq!(model.tighten(0, 1), ok(&[2]));
+    // Its checks come first.
+    assert_eq!(model.tighten(1, 0), Err(12));
+    assert_eq!(model.tighten(0, 2), Err(13));
+    assert_eq!(model, before);
+    model.bounds = vec![0, 0, 0, 1];
+    assert_eq!(model.tighten(0, 0), Err(14));
+    // On the empty box None, as every call.
+    model.bounds = vec![1, 0, 1, 0];
+    assert_eq!(model.tighten(0, 0), ok(&[0]));
+}
+
+#[test]
+fn the_empty_box_with_an_equality_row() {
+    let mut model = empty_box().with_equal(&[0]);
+    let before = model.clone();
+    assert_eq!(model.propagate_row(0), ok(&[0]));
+    assert_eq!(model.propagate(3), ok(&[0, 1]));
+    assert_eq!(model.probe(0, 3), ok(&[0]));
+    assert_eq!(model.tighten(0, 0), ok(&[0]));
+    assert_eq!(model.remove(0), ok(&[0]));
+    assert_eq!(model.at_rest(), ok(&[1]));
+    assert_eq!(model, before);
+}
+
+#[test]
+fn equality_rows_at_the_limits() {
+    // The negated form of a row at its limits is within the limits: both say x = 1,000.
+    let bounds = [(0, 1_000), (-32_768, -32_768 + 4_096)];
+    let mut model = Model::new(&bounds, &[(&[-1_000_000, 0], -1_000_000_000)]).with_equal(&[0]);
+    assert_eq!(model.propagate_row(0), ok(&[1, 1]));
+    assert_eq!(model.bounds[..2], [1_000, 1_000]);
+    assert_eq!(model.remove(0), ok(&[1]));
+    let mut model = Model::new(&bounds, &[(&[1_000_000, 0], 1_000_000_000)]).with_equal(&[0]);
+    assert_eq!(model.propagate_row(0), ok(&[1, 1]));
+    assert_eq!(model.bounds[..2], [1_000, 1_000]);
+}
+
+#[test]
+fn a_call_list_reads_and_writes_kinds() {
+    // Row 0: x + y = 1, row 1: z = 0. Visit row 1 (z to 0), drop it (its kind too), sharpen row 0 (Same),
+    // drop row 0 (needed), probe x (4 bytes).
+    let bounds = [(0, 1), (0, 1), (0, 3)];
+    let mut model = Model::new(&bounds, &[(&[1, 1, 0], 1), (&[0, 0, 1], 0)]).with_equal(&[0, 1]);
+    let calls = [1, 1, 0, 0, 5, 1, 0, 0, 4, 0, 0, 0, 5, 0, 0, 0, 3, 0, 0, 9, 2, 0, 0, 9];
+    assert_eq!(model.run(&calls), ok(&[0, 0, 3, 3]));
+    assert_eq!((&model.kinds[..], &model.coefs[3..]), (&[1, 0][..], &[0, 0, 0][..]));
+    assert_eq!(model.bounds, [0, 1, 0, 1, 0, 0]);
+    // A list is refused as a whole by 16.
+    model.kinds[1] = 2;
+    assert_eq!(model.run(&calls), Err(16));
+    assert_eq!(model.run(&[]), Err(16));
 }

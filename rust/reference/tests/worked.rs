@@ -178,3 +178,120 @@ fn thirty_lots_typed_as_thirty_thousand() {
     model.bounds = vec![0, 30];
     assert_eq!(model.propagate(1_000), ok(&[SETTLED, 1, 0]));
 }
+
+// C-14, equality rows. docs/WORKED.md has each number by hand.
+
+#[test]
+fn two_x_equal_to_five_has_no_integer_point() {
+    // The ≤ form gives 0..2, and −2x ≤ −5 has Lmin −4 there: None as a whole, and no bound counted.
+    let model = Model::new(&[(0, 5)], &[(&[2], 5)]).with_equal(&[0]);
+    let mut visited = model.clone();
+    assert_eq!(visited.propagate_row(0), ok(&[NONE, 0]));
+    assert!(visited.is_empty());
+    assert_eq!(model.clone().propagate(9), ok(&[NONE, 1, 0]));
+    // As two rows the first one's bound is counted.
+    assert_eq!(model.in_two_rows().propagate(9), ok(&[NONE, 1, 1]));
+}
+
+#[test]
+fn x_plus_y_equal_to_one() {
+    let mut model = Model::binary(2, &[(&[1, 1], 1)]).with_equal(&[0]);
+    assert_eq!(model.propagate_row(0), ok(&[SAME]));
+    assert_eq!(model.tighten(0, 0), ok(&[SAME]));
+    assert_eq!(model.remove(0), ok(&[SAME]));
+    assert_eq!(model.at_rest(), ok(&[1]));
+    // Each side fixes y: x is 0 gives y is 1 by the negated form, x is 1 gives y is 0 by the ≤ form.
+    assert_eq!(model.probe(0, 1_000), ok(&[2, 4, 2, 0, 1, 2, 0, 1]));
+    let at: Vec<usize> = (0..16).filter(|&at| model.table[at] == 1).collect();
+    assert_eq!(at, [3, 4 + 2, 2 * 4 + 1, 3 * 4]);
+    assert_eq!(model.probe(1, 1_000), ok(&[2, 0, 2, 0, 1, 2, 0, 1]));
+    assert_eq!(model.bounds, [0, 1, 0, 1]);
+    // Once y is 1 the row moves x and is then redundant.
+    model.bounds = vec![0, 1, 1, 1];
+    assert_eq!(model.propagate_row(0), ok(&[CHANGED, 1]));
+    assert_eq!(model.bounds, [0, 0, 1, 1]);
+    assert_eq!(model.remove(0), ok(&[CHANGED]));
+    assert_eq!((model.row(0), model.kinds[0]), ((&[0, 0][..], 0), 0));
+}
+
+#[test]
+fn an_equality_row_can_move_more_when_it_is_propagated_again() {
+    // −2x + y = 0: the negated form, 2x ≤ y, puts x at 0; only then the ≤ form puts y at 0.
+    let model = Model::binary(2, &[(&[-2, 1], 0)]).with_equal(&[0]);
+    let mut visited = model.clone();
+    assert_eq!(visited.propagate_row(0), ok(&[CHANGED, 1]));
+    assert_eq!(visited.bounds, [0, 0, 0, 1]);
+    assert_eq!(visited.propagate_row(0), ok(&[CHANGED, 1]));
+    assert_eq!(visited.bounds, [0, 0, 0, 0]);
+    assert_eq!(visited.propagate_row(0), ok(&[SAME]));
+    assert_eq!(model.clone().propagate(1), ok(&[SPENT, 1, 1]));
+    assert_eq!(model.clone().propagate(9), ok(&[SETTLED, 3, 2]));
+    // 2x + 2y = 3: the negated form puts both at 1, and the second visit finds 4 > 3.
+    let mut model = Model::binary(2, &[(&[2, 2], 3)]).with_equal(&[0]);
+    assert_eq!(model.clone().propagate(9), ok(&[NONE, 2, 2]));
+    assert_eq!(model.propagate_row(0), ok(&[CHANGED, 2]));
+    assert_eq!(model.bounds, [1, 1, 1, 1]);
+    assert_eq!(model.propagate_row(0), ok(&[NONE, 0]));
+}
+
+#[test]
+fn an_exact_tonnage_is_one_row() {
+    // Receipts of 30, 25 and 20 tons for a notice of exactly 45.
+    let mut model = Model::binary(3, &[(&[30, 25, 20], 45)]).with_equal(&[0]);
+    assert_eq!(model.propagate(1_000), ok(&[SETTLED, 1, 0]));
+    assert_eq!(model.at_rest(), ok(&[0]));
+    // With the first one at 1 the ≤ form puts the others at 0, and 30 < 45: None, and nothing counted.
+    assert_eq!(model.in_two_rows().probe(0, 1_000), ok(&[1, 0, 2, 0, 2, 1, 0, 2]));
+    assert_eq!(model.probe(0, 1_000), ok(&[1, 0, 2, 0, 2, 1, 0, 0]));
+    assert_eq!(model.bounds, [0, 0, 1, 1, 1, 1]);
+    assert_eq!(model.remove(0), ok(&[CHANGED]));
+    assert_eq!(model.at_rest(), ok(&[1]));
+}
+
+#[test]
+fn both_bounds_of_every_variable_can_move() {
+    // 2x + 3y = 11 over 0..9: the ≤ form gives x ≤ 5 and y ≤ 3, and in that box the negated form x ≥ 1 and
+    // y ≥ 1: 2n bounds in one visit. The next one gives x ≤ 4: (1, 3) and (4, 1) are the integer points.
+    let model = Model::new(&[(0, 9), (0, 9)], &[(&[2, 3], 11)]).with_equal(&[0]);
+    let mut visited = model.clone();
+    assert_eq!(visited.propagate_row(0), ok(&[CHANGED, 4]));
+    assert_eq!(visited.bounds, [1, 5, 1, 3]);
+    assert_eq!(visited.propagate_row(0), ok(&[CHANGED, 1]));
+    assert_eq!(visited.bounds, [1, 4, 1, 3]);
+    assert_eq!(visited.propagate_row(0), ok(&[SAME]));
+    assert_eq!(model.clone().propagate(9), ok(&[SETTLED, 3, 5]));
+    // In the box from before the ≤ form the negated form would have moved nothing.
+    let mut negated = Model::new(&[(0, 9), (0, 9)], &[(&[-2, -3], -11)]);
+    assert_eq!(negated.propagate_row(0), ok(&[SAME]));
+}
+
+#[test]
+fn facility_location_with_its_equalities() {
+    // 000, 2.2.3: three demands as = rows, four capacities. The same box as with each in two rows.
+    let mut rows = vec![];
+    for (j, demand) in [80, 70, 40].into_iter().enumerate() {
+        let mut row = vec![0; 16];
+        row[4 + 4 * j..][..4].fill(1);
+        rows.push((row, demand));
+    }
+    for i in 0..4 {
+        let mut row = vec![0; 16];
+        row[i] = -100;
+        (0..3).for_each(|j| row[4 + 4 * j + i] = 1);
+        rows.push((row, 0));
+    }
+    let bounds: Vec<(i32, i32)> = [vec![(0, 1); 4], vec![(0, 4_096); 12]].concat();
+    let rows: Vec<(&[i32], i32)> = rows.iter().map(|(row, b)| (&row[..], *b)).collect();
+    let mut model = Model::new(&bounds, &rows).with_equal(&[0, 1, 2]);
+    let mut two = model.in_two_rows();
+    assert_eq!((model.m, two.m), (7, 10));
+    assert_eq!(model.propagate(1_000), ok(&[SETTLED, 2, 12]));
+    assert_eq!(two.propagate(1_000), ok(&[SETTLED, 2, 12]));
+    assert_eq!(model.bounds, two.bounds);
+    let uppers: Vec<i32> = model.bounds.chunks(2).map(|pair| pair[1]).collect();
+    assert_eq!(uppers, [1, 1, 1, 1, 80, 80, 80, 80, 70, 70, 70, 70, 40, 40, 40, 40]);
+    for x in 0..4 {
+        assert_eq!(model.probe(x, 1_000), ok(&[2, 0, 2, 0, 3, 1, 0, 0]));
+    }
+    assert_eq!(model.at_rest(), ok(&[1]));
+}

@@ -23,6 +23,7 @@ impl Backend for Native {
         let (bounds, bounds_len) = raw(loan.bounds);
         let (coefs, coefs_len) = raw(loan.coefs);
         let (rhs, rhs_len) = raw(loan.rhs);
+        let (kinds, kinds_len) = raw(loan.kinds);
         let (table, table_len) = raw(loan.table);
         let (calls, calls_len) = raw(loan.calls);
         let (book, book_len) = raw(loan.book);
@@ -31,47 +32,49 @@ impl Backend for Native {
         unsafe {
             match operation {
                 Operation::PropagateRow { row } => ffi::astrolabe_propagate_row(
-                    n, m, bounds, bounds_len, coefs, coefs_len, rhs, rhs_len, row, answer,
-                    answer_len,
+                    n, m, bounds, bounds_len, coefs, coefs_len, rhs, rhs_len, kinds, kinds_len,
+                    row, answer, answer_len,
                 ),
                 Operation::Propagate { budget } => ffi::astrolabe_propagate(
-                    n, m, bounds, bounds_len, coefs, coefs_len, rhs, rhs_len, budget, answer,
-                    answer_len,
+                    n, m, bounds, bounds_len, coefs, coefs_len, rhs, rhs_len, kinds, kinds_len,
+                    budget, answer, answer_len,
                 ),
                 Operation::Probe { variable, budget } => ffi::astrolabe_probe(
-                    n, m, bounds, bounds_len, coefs, coefs_len, rhs, rhs_len, table, table_len,
-                    variable, budget, answer, answer_len,
+                    n, m, bounds, bounds_len, coefs, coefs_len, rhs, rhs_len, kinds, kinds_len,
+                    table, table_len, variable, budget, answer, answer_len,
                 ),
                 Operation::TightenCoefficient { row, variable } => {
                     ffi::astrolabe_tighten_coefficient(
-                        n, m, bounds, bounds_len, coefs, coefs_len, rhs, rhs_len, row, variable,
-                        answer, answer_len,
+                        n, m, bounds, bounds_len, coefs, coefs_len, rhs, rhs_len, kinds, kinds_len,
+                        row, variable, answer, answer_len,
                     )
                 }
                 Operation::RemoveRedundantRow { row } => ffi::astrolabe_remove_redundant_row(
-                    n, m, bounds, bounds_len, coefs, coefs_len, rhs, rhs_len, row, answer,
-                    answer_len,
+                    n, m, bounds, bounds_len, coefs, coefs_len, rhs, rhs_len, kinds, kinds_len,
+                    row, answer, answer_len,
                 ),
                 Operation::IsProbingFixpoint => ffi::astrolabe_is_probing_fixpoint(
-                    n, m, bounds, bounds_len, coefs, coefs_len, rhs, rhs_len, answer, answer_len,
+                    n, m, bounds, bounds_len, coefs, coefs_len, rhs, rhs_len, kinds, kinds_len,
+                    answer, answer_len,
                 ),
                 Operation::Run => ffi::astrolabe_run(
-                    n, m, bounds, bounds_len, coefs, coefs_len, rhs, rhs_len, table, table_len,
-                    calls, calls_len, answer, answer_len,
+                    n, m, bounds, bounds_len, coefs, coefs_len, rhs, rhs_len, kinds, kinds_len,
+                    table, table_len, calls, calls_len, answer, answer_len,
                 ),
                 Operation::Rounds { limit } => ffi::astrolabe_rounds(
-                    n, m, bounds, bounds_len, coefs, coefs_len, rhs, rhs_len, table, table_len,
-                    limit, answer, answer_len,
+                    n, m, bounds, bounds_len, coefs, coefs_len, rhs, rhs_len, kinds, kinds_len,
+                    table, table_len, limit, answer, answer_len,
                 ),
                 Operation::BookTrailer => {
                     ffi::astrolabe_book_trailer(book, book_len, answer, answer_len)
                 }
                 Operation::BookRead => ffi::astrolabe_book_read(
-                    book, book_len, bounds, bounds_len, coefs, coefs_len, rhs, rhs_len, answer,
-                    answer_len,
+                    book, book_len, bounds, bounds_len, coefs, coefs_len, rhs, rhs_len, kinds,
+                    kinds_len, answer, answer_len,
                 ),
                 Operation::BookWrite => ffi::astrolabe_book_write(
-                    n, m, bounds, bounds_len, coefs, coefs_len, rhs, rhs_len, book, book_len,
+                    n, m, bounds, bounds_len, coefs, coefs_len, rhs, rhs_len, kinds, kinds_len,
+                    book, book_len,
                 ),
             }
         }

@@ -83,7 +83,7 @@ use Rattle.call_list.proofs.run.Key.{name as #call-list·run}
 use Rattle.call_list.proofs.run as run
 use Rattle.call_list.proofs.run.Statement as stated
 use Rattle.call_list.proofs.run.Code as code
-use Rattle.call_list.proofs.run.Code.Mir.{turn-1, t-1, t-12}
+use Rattle.call_list.proofs.run.Code.Mir.{turn-1, t-1, t-14}
 
 abbrev stayed : Stays (run.ended .signature .params) (run.ended .kept)
 stayed = (
@@ -94,7 +94,10 @@ stayed = (
       stay-slice (0 ∷ []) tt (plain (λ _. i32)),
       (
         stay-slice (1 ∷ []) tt (plain (λ _. i32)),
-        (stay-slice (2 ∷ []) tt (plain (λ _. i32)), (stay-slice (3 ∷ []) tt (plain (λ _. u8)), (stay-none-slice (4 ∷ []) tt (plain (λ _. R.the-row)) yes, tt))),
+        (
+          stay-slice (2 ∷ []) tt (plain (λ _. i32)),
+          (stay-slice (3 ∷ []) tt (plain (λ _. u8)), (stay-slice (4 ∷ []) tt (plain (λ _. u8)), (stay-none-slice (5 ∷ []) tt (plain (λ _. R.the-row)) yes, tt))),
+        ),
       ),
     ),
   ),
@@ -230,7 +233,7 @@ module _ {M : Type 1} (𝓤 : URA M) (H : Heap 𝓤) (A : Atoms 𝓤) (W : Given
   v = sliceVal (s .ptr) (length ys)
 
   abbrev Shr : Fml
-  Shr = ShrSlice (named 4) κ R.the-row .own s (v ∷ [])
+  Shr = ShrSlice (named 5) κ R.the-row .own s (v ∷ [])
 
   abbrev κs : Times Bs (Lft × Unit {0})
   κs = times Bs (κ, tt)
@@ -340,7 +343,7 @@ module _ {M : Type 1} (𝓤 : URA M) (H : Heap 𝓤) (A : Atoms 𝓤) (W : Given
 
   module _ (𝓣 : Tables 𝓤 H) (known-record : Triple 𝓤 (𝓣 .C #call-list·record-at) (RecordAt 𝓤 H A at-mem go))
       (known-none : Triple 𝓤 (𝓣 .C #call-list·run-none) (RunNone 𝓤 H A at-mem go)) (known-next : Triple 𝓤 (𝓣 .C #call-list·run-next) (RunNext 𝓤 H A at-mem go))
-      (rooms : Rooms Bs) (first : Long Bs xs) (is-list : Is (ShrSlice (named 4) κ R.the-row) s (v ∷ [])) where
+      (rooms : Rooms Bs) (first : Long Bs xs) (is-list : Is (ShrSlice (named 5) κ R.the-row) s (v ∷ [])) where
     abbrev C : Calls 𝓤 H
     C = 𝓣 .C
 
@@ -384,7 +387,7 @@ module _ {M : Type 1} (𝓤 : URA M) (H : Heap 𝓤) (A : Atoms 𝓤) (W : Given
 
       -- when the loop is left, the rest of the body runs
       abbrev After : Out → SProp 𝓤
-      After = afterBlock 𝓤 H (afterSeq 𝓤 H (Wp 𝓤 H C Λ En t-12 (atReturn 𝓤 H En Post)) (atReturn 𝓤 H En Post))
+      After = afterBlock 𝓤 H (afterSeq 𝓤 H (Wp 𝓤 H C Λ En t-14 (atReturn 𝓤 H En Post)) (atReturn 𝓤 H En Post))
 
       -- the turn that leaves the loop, and the rest of the body
       ends : (t : T) (X : SProp 𝓤) → ltb (t .i) (length ys) ≡ false → ent 𝓤 (Inv t) (Wp 𝓤 H C Λ En turn-1 (afterTurn 𝓤 H X After))
@@ -394,7 +397,7 @@ module _ {M : Type 1} (𝓤 : URA M) (H : Heap 𝓤) (A : Atoms 𝓤) (W : Given
           assigns ! (of-opd ! (load ! (from ! (fld ! refl (stop !))) (look-in ! calls (sub ! 1 refl (whole !))))) (from ! (stop !)) (init ! count refl (tt, record { fits = long-fits })) $
           assigns ! (bin ! (has ! index refl) (has ! count refl) tt) (from ! (stop !)) (init ! inside? refl (tt, tt)) $
           rewrite ! inside? (λ (y : Bool). cell (tyBool, blockOf En inside?) (holds (vbool y))) f refl $
-          leaves-loop ! (has ! inside? refl) $ exec ! C Λ En t-12 (atRet En Post) $
+          leaves-loop ! (has ! inside? refl) $ exec ! C Λ En t-14 (atRet En Post) $
           assigns ! (of-opd ! (has ! answer refl)) (from ! (stop !)) (init ! 0 refl (EL.lawful S.the-type S′.the-laws 𝓤 H A W tt .typed (t .a) _ (t .is) .0)) $
           returns ! (look ! 0 refl) $
           freed ! En (told (holds (t .u)) (holds (t .u) ∷ holds (vint w64 (t .i)) ∷ free ∷ room Bs (holds (vint w64 (length ys)) ∷ holds (vbool false) ∷ []))) $
@@ -413,7 +416,7 @@ module _ {M : Type 1} (𝓤 : URA M) (H : Heap 𝓤) (A : Atoms 𝓤) (W : Given
           rewrite ! inside? (λ (y : Bool). cell (tyBool, blockOf En inside?) (holds (vbool y))) f refl $
           stays ! (has ! inside? refl) $
           -- the records are Copy: one copy goes to `record_at`
-          move ! ((2 + dies) ∷ []) $ use1 W (‵ Shr ⊛ ‵ Shr) (shr-slice-copy 𝓤 H A W (named 4) κ R.the-row .twice s (v ∷ [])) $ split ! $ move ! ((4 + dies) ∷ 1 ∷ []) $
+          move ! ((2 + dies) ∷ []) $ use1 W (‵ Shr ⊛ ‵ Shr) (shr-slice-copy 𝓤 H A W (named 5) κ R.the-row .twice s (v ∷ [])) $ split ! $ move ! ((4 + dies) ∷ 1 ∷ []) $
           use2 W (raw (RecordAt 𝓤 H A at-mem go .pre (to-record (t .i)))) (asks-record (t .i) (lt-trans inside long-fits) inside) $
           -- [what `record_at` asks; the records; the locals; …]
           calls-at ! fm (RecordAt 𝓤 H A at-mem go) known-record (to-record (t .i))
@@ -429,6 +432,7 @@ module _ {M : Type 1} (𝓤 : URA M) (H : Heap 𝓤) (A : Atoms 𝓤) (W : Given
           reborrows ! (lent + 4) (for-next + 5) (for-next + 6) refl refl refl (tt, tt) refl refl refl (tt, (tt, (record { fits = rooms .1 .0 .0 }, tt))) $
           reborrows ! (lent + 5) (for-next + 7) (for-next + 8) refl refl refl (tt, tt) refl refl refl (tt, (tt, (record { fits = rooms .1 .1 .0 .0 }, tt))) $
           reborrows ! (lent + 6) (for-next + 9) (for-next + 10) refl refl refl (tt, tt) refl refl refl (tt, (tt, (record { fits = rooms .1 .1 .1 .0 .0 }, tt))) $
+          reborrows ! (lent + 7) (for-next + 11) (for-next + 12) refl refl refl (tt, tt) refl refl refl (tt, (tt, (record { fits = rooms .1 .1 .1 .1 .0 .0 }, tt))) $
           lft-new ! tt (λ ν. nothing ! $ move ! (2 ∷ 0 ∷ []) $ fjoin ! $ owned ! S.the-row (Is S.the-row) (EL.makes S.the-type S′.the-plain 𝓤 H A) (t .a) _ (t .is) $ fjoin ! $
           -- [answer and record; ν; the token; the records; the locals; …]
           move ! ((5 + dies) ∷ 0 ∷ []) $ use2 W (later (some (λ (δs : Names Bs). ‵ (Lents Bs ν δs (t .zs) (Rest (t .a) (t .u) c p)) ⊛ ‵ (Claims Bs ν δs (t .zs)))))
@@ -438,7 +442,7 @@ module _ {M : Type 1} (𝓤 : URA M) (H : Heap 𝓤) (A : Atoms 𝓤) (W : Given
           calls-at ! fm (RunNext 𝓤 H A at-mem go) known-next (to-next (t .zs) (t .a) (t .u) c p ν δs)
           (takes ! 5 refl (takes ! 6 refl
           (takes ! (for-next + 5) refl (takes ! (for-next + 7) refl (takes ! (for-next + 9) refl (takes ! (for-next + 11) refl
-          (takes ! (4 + answer) refl (takes ! (4 + call) refl (no-more !))))))))) (λ u.
+          (takes ! (for-next + 13) refl (takes ! (4 + answer) refl (takes ! (4 + call) refl (no-more !)))))))))) (λ u.
           use2 W (Back 𝓤 H A W ν Bs δs (t .zs) S.the-row next-left (λ a z. NextSaid n m ys ps xs (t .zs) (t .a) c a (next-left z)) (fsep ftrue (fsep ftrue ftrue)) u)
           (comes 𝓤 H A W ν Bs δs (t .zs) S.the-row next-left (λ a z. NextSaid n m ys ps xs (t .zs) (t .a) c a (next-left z)) (fsep ftrue (fsep ftrue ftrue)) u rooms (t .long)) $ await ! tt $
           pick ! (λ a. pick ! (λ z. learn ! (λ is. learn ! (λ d. learn ! (λ long.
@@ -479,12 +483,14 @@ module _ {M : Type 1} (𝓤 : URA M) (H : Heap 𝓤) (A : Atoms 𝓤) (W : Given
           reborrows ! (lent + 1) (for-none + 2) (for-none + 3) refl refl refl (tt, tt) refl refl refl (tt, (tt, (record { fits = rooms .1 .0 .0 }, tt))) $
           reborrows ! (lent + 2) (for-none + 4) (for-none + 5) refl refl refl (tt, tt) refl refl refl (tt, (tt, (record { fits = rooms .1 .1 .0 .0 }, tt))) $
           reborrows ! (lent + 3) (for-none + 6) (for-none + 7) refl refl refl (tt, tt) refl refl refl (tt, (tt, (record { fits = rooms .1 .1 .1 .0 .0 }, tt))) $
+          reborrows ! (lent + 4) (for-none + 8) (for-none + 9) refl refl refl (tt, tt) refl refl refl (tt, (tt, (record { fits = rooms .1 .1 .1 .1 .0 .0 }, tt))) $
           lft-new ! tt (λ ν. nothing ! $ move ! ((3 + dies) ∷ 0 ∷ []) $ use2 W (later (some (λ (δs : Names Bs). ‵ (Lents Bs ν δs xs ftrue) ⊛ ‵ (Claims Bs ν δs xs))))
           (lend 𝓤 H A W ν Bs xs ftrue first) $ await ! tt $ pick ! (λ δs. split ! $ move ! (2 ∷ 0 ∷ []) $ use2 W (raw (RunNone 𝓤 H A at-mem go .pre (to-none ν δs))) (asks-none ν δs) $
           -- [what `run_none` asks; the claims; the locals; …]
           calls-at ! fm (RunNone 𝓤 H A at-mem go) known-none (to-none ν δs)
           (takes ! 3 refl (takes ! 4 refl
-          (takes ! (for-none + 3) refl (takes ! (for-none + 5) refl (takes ! (for-none + 7) refl (takes ! (for-none + 9) refl (no-more !))))))) (λ u.
+          (takes ! (for-none + 3) refl (takes ! (for-none + 5) refl (takes ! (for-none + 7) refl (takes ! (for-none + 9) refl
+          (takes ! (for-none + 11) refl (no-more !)))))))) (λ u.
           use2 W (Back 𝓤 H A W ν Bs δs xs S.the-row none-left (λ a z. NoneSaid n m ys ps xs a (none-left z)) ftrue u)
           (comes 𝓤 H A W ν Bs δs xs S.the-row none-left (λ a z. NoneSaid n m ys ps xs a (none-left z)) ftrue u rooms first) $ await ! tt $
           pick ! (λ a. pick ! (λ z. learn ! (λ is. learn ! (λ d. learn ! (λ long.
@@ -507,7 +513,8 @@ module _ {M : Type 1} (𝓤 : URA M) (H : Heap 𝓤) (A : Atoms 𝓤) (W : Given
         pass1 ! (init ! (lent + 1) refl (tt, (tt, (record { fits = rooms .1 .0 .0 }, tt)))) $
         pass1 ! (init ! (lent + 2) refl (tt, (tt, (record { fits = rooms .1 .1 .0 .0 }, tt)))) $
         pass1 ! (init ! (lent + 3) refl (tt, (tt, (record { fits = rooms .1 .1 .1 .0 .0 }, tt)))) $
-        pass1 ! (init ! calls refl (shr-slice-lawful 𝓤 H A W (named 4) κ R.the-row .typed s (v ∷ []) is-list .0)) $ pass0 ! $
+        pass1 ! (init ! (lent + 4) refl (tt, (tt, (record { fits = rooms .1 .1 .1 .1 .0 .0 }, tt)))) $
+        pass1 ! (init ! calls refl (shr-slice-lawful 𝓤 H A W (named 5) κ R.the-row .typed s (v ∷ []) is-list .0)) $ pass0 ! $
         by ! (begins bs))
 
 module _ {M : Type 1} (𝓤 : URA M) (H : Heap 𝓤) (A : Atoms 𝓤) (W : Given 𝓤 H A) (mem : Memory → SProp 𝓤) (go : Routine → Fun 𝓤) (𝓣 : Tables 𝓤 H)
@@ -515,7 +522,7 @@ module _ {M : Type 1} (𝓤 : URA M) (H : Heap 𝓤) (A : Atoms 𝓤) (W : Given
     (known-next : Triple 𝓤 (𝓣 .C #call-list·run-next) (RunNext 𝓤 H A mem go)) where
   run-walks : Walks 𝓤 H A run.ended stayed (WpFn 𝓤 H (𝓣 .C) (𝓣 .Λ) code.function) (run.clauses 𝓤 H A mem go)
   run-walks = walked 𝓤 H A run.ended stayed (run.clauses 𝓤 H A mem go) (WpFn 𝓤 H (𝓣 .C) (𝓣 .Λ) code.function)
-      (λ κs. (uint-vals w64, (uint-vals w64, (slice-vals, (slice-vals, (slice-vals, (slice-vals, (slice-vals, tt))))))))
+      (λ κs. (uint-vals w64, (uint-vals w64, (slice-vals, (slice-vals, (slice-vals, (slice-vals, (slice-vals, (slice-vals, tt)))))))))
       (λ κs. (
         uint-tells w64,
         (
@@ -526,7 +533,10 @@ module _ {M : Type 1} (𝓤 : URA M) (H : Heap 𝓤) (A : Atoms 𝓤) (W : Given
               mut-slice-tells (named 1) (κs .1 .0) i32,
               (
                 mut-slice-tells (named 2) (κs .1 .1 .0) i32,
-                (mut-slice-tells (named 3) (κs .1 .1 .1 .0) u8, (shr-slice-tells (named 4) (κs .1 .1 .1 .1 .0) R.the-row, tt)),
+                (
+                  mut-slice-tells (named 3) (κs .1 .1 .1 .0) u8,
+                  (mut-slice-tells (named 4) (κs .1 .1 .1 .1 .0) u8, (shr-slice-tells (named 5) (κs .1 .1 .1 .1 .1 .0) R.the-row, tt)),
+                ),
               ),
             ),
           ),
@@ -535,19 +545,26 @@ module _ {M : Type 1} (𝓤 : URA M) (H : Heap 𝓤) (A : Atoms 𝓤) (W : Given
       (λ κs qs bounds a g are. via 𝓤 _ (fst∗ 𝓤 _ (emp 𝓤))
       (walk 𝓤 H A W mem go (a .0) (a .1 .0)
       (spots κs qs (a .1 .1)) (texts (a .1 .1))
-      (κs .1 .1 .1 .1 .0) (qs .1 .1 .1 .1 .0) (a .1 .1 .1 .1 .1 .1 .0) (are .0 .1) (are .1 .0 .1) 𝓣 known-record known-none known-next
-      (are .1 .1 .0 .0 .1, (are .1 .1 .1 .0 .0 .1, (are .1 .1 .1 .1 .0 .0 .1, (are .1 .1 .1 .1 .1 .0 .0 .1, tt)))) (refl, (refl, (refl, (refl, tt)))) (are .1 .1 .1 .1 .1 .1 .0)))
+      (κs .1 .1 .1 .1 .1 .0) (qs .1 .1 .1 .1 .1 .0) (a .1 .1 .1 .1 .1 .1 .1 .0) (are .0 .1) (are .1 .0 .1) 𝓣 known-record known-none known-next
+      (are .1 .1 .0 .0 .1, (are .1 .1 .1 .0 .0 .1, (are .1 .1 .1 .1 .0 .0 .1, (are .1 .1 .1 .1 .1 .0 .0 .1, (are .1 .1 .1 .1 .1 .1 .0 .0 .1, tt)))))
+      (refl, (refl, (refl, (refl, (refl, tt))))) (are .1 .1 .1 .1 .1 .1 .1 .0)))
 
   run-meets : Meets 𝓤 H A run.signature (WpFn 𝓤 H (𝓣 .C) (𝓣 .Λ) code.function) (run.spec 𝓤 H A mem go)
   run-meets = walk-meets 𝓤 H A run.ended stayed W (
-    goes-none 𝓤 H A W 5 (λ _. usize) yes (λ κs x f. refl),
+    goes-none 𝓤 H A W 6 (λ _. usize) yes (λ κs x f. refl),
     (
-      goes-none 𝓤 H A W 5 (λ _. usize) yes (λ κs x f. refl),
+      goes-none 𝓤 H A W 6 (λ _. usize) yes (λ κs x f. refl),
       (
-        goes-slice 𝓤 H A W 5 0 tt (plain (λ _. i32)),
+        goes-slice 𝓤 H A W 6 0 tt (plain (λ _. i32)),
         (
-          goes-slice 𝓤 H A W 5 1 tt (plain (λ _. i32)),
-          (goes-slice 𝓤 H A W 5 2 tt (plain (λ _. i32)), (goes-slice 𝓤 H A W 5 3 tt (plain (λ _. u8)), (goes-none-slice 𝓤 H A W 5 (4 ∷ []) tt (plain (λ _. R.the-row)) yes, tt))),
+          goes-slice 𝓤 H A W 6 1 tt (plain (λ _. i32)),
+          (
+            goes-slice 𝓤 H A W 6 2 tt (plain (λ _. i32)),
+            (
+              goes-slice 𝓤 H A W 6 3 tt (plain (λ _. u8)),
+              (goes-slice 𝓤 H A W 6 4 tt (plain (λ _. u8)), (goes-none-slice 𝓤 H A W 6 (5 ∷ []) tt (plain (λ _. R.the-row)) yes, tt)),
+            ),
+          ),
         ),
       ),
     ),

@@ -78,7 +78,10 @@ stayed = (
       gave-slice (0 ∷ []) tt (plain (λ _. i32)),
       (
         gave-slice (1 ∷ []) tt (plain (λ _. i32)),
-        (gave-slice (2 ∷ []) tt (plain (λ _. i32)), (gave-slice (3 ∷ []) tt (plain (λ _. u8)), (stay-none (λ _. Array R.the-row 4) yes, tt))),
+        (
+          gave-slice (2 ∷ []) tt (plain (λ _. i32)),
+          (gave-slice (3 ∷ []) tt (plain (λ _. u8)), (gave-slice (4 ∷ []) tt (plain (λ _. u8)), (stay-none (λ _. Array R.the-row 4) yes, tt))),
+        ),
       ),
     ),
   ),
@@ -154,7 +157,7 @@ module _ {M : Type 1} (𝓤 : URA M) (H : Heap 𝓤) (A : Atoms 𝓤) (W : Given
   slice l δ = record { ptr = (l, 0); name = δ; now = ys }
 
   abbrev Shr : ℕ → ℕ → GName → Fml
-  Shr l ν δ = ShrSlice (named 4) (ν ∷ []) R.the-row .own (slice l δ) (sliceVal (l, 0) (length ys) ∷ [])
+  Shr l ν δ = ShrSlice (named 5) (ν ∷ []) R.the-row .own (slice l δ) (sliceVal (l, 0) (length ys) ∷ [])
 
   abbrev lfts : ℕ → Times Bs (Lft × Unit {0})
   lfts ν = times Bs (ν ∷ [], tt)
@@ -244,19 +247,20 @@ module _ {M : Type 1} (𝓤 : URA M) (H : Heap 𝓤) (A : Atoms 𝓤) (W : Given
           reborrows ! (lent + 1) (for-run + 2) (for-run + 3) refl refl refl (tt, tt) refl refl refl (tt, (tt, (record { fits = rooms .1 .0 .0 }, tt))) $
           reborrows ! (lent + 2) (for-run + 4) (for-run + 5) refl refl refl (tt, tt) refl refl refl (tt, (tt, (record { fits = rooms .1 .1 .0 .0 }, tt))) $
           reborrows ! (lent + 3) (for-run + 6) (for-run + 7) refl refl refl (tt, tt) refl refl refl (tt, (tt, (record { fits = rooms .1 .1 .1 .0 .0 }, tt))) $
+          reborrows ! (lent + 4) (for-run + 8) (for-run + 9) refl refl refl (tt, tt) refl refl refl (tt, (tt, (record { fits = rooms .1 .1 .1 .1 .0 .0 }, tt))) $
           assigns ! (addr ! (from ! (stop !))) (from ! (stop !)) (init ! array refl (tt, tt)) $
           assigns ! (agg ! (takes ! array refl (and-then ! (lit ! tt) (no-more !)))) (from ! (stop !)) (init ! records refl (tt, (tt, (record { fits = lit< tt }, tt)))) $
           rewrite ! records (λ (k : ℕ). cell (rec, blockOf En records) (holds (sliceVal (l, 0) k))) (sym long) refl $
           -- the array is lent as a slice, for a lifetime ν of the call
           lft-new ! tt (λ ν. owned ! (Array R.the-row 4) (Is (Array R.the-row 4)) made-array ys (arr ∷ []) is-arr $ move ! ((2 + copy) ∷ 0 ∷ []) $
           use2 W (later (some (λ (δ : GName). ‵ (Shr l ν δ) ⊛ ‵ (Claim R.the-row tt 4 (ν ∷ []) l ys))))
-          (lends-array R.the-row tt 4 (ν ∷ []) l 𝓤 H A W ys long (named 4) arr (subst (Room R.the-row) (sym long) (lit< tt, lit< tt))) $ await ! tt $ pick ! (λ δ. split ! $
+          (lends-array R.the-row tt 4 (ν ∷ []) l 𝓤 H A W ys long (named 5) arr (subst (Room R.the-row) (sym long) (lit< tt, lit< tt))) $ await ! tt $ pick ! (λ δ. split ! $
           -- [the slice; the claim on the array; ν; the locals but the array; …]
           move ! ((3 + dies) ∷ 2 ∷ 0 ∷ []) $ use3 W (raw (Run 𝓤 H A at-mem go .pre (to l ν δ))) (asks l ν δ) $
           calls-at ! fm (Run 𝓤 H A at-mem go) known (to l ν δ)
           (takes ! 3 refl (takes ! 4 refl
           (takes ! (for-run + 2) refl (takes ! (for-run + 4) refl (takes ! (for-run + 6) refl (takes ! (for-run + 8) refl
-          (takes ! (records + 1) refl (no-more !)))))))) (λ u.
+          (takes ! (for-run + 10) refl (takes ! (records + 1) refl (no-more !))))))))) (λ u.
           use1 W (later (some (λ (a : RunAnswer). (‵ (Tokens Bs (fsep (flft (ν ∷ []) fullShare) ftrue)) ⊛ ‵ (S.the-row .own a (u ∷ [])))
           ⊛ raw (ensured 𝓤 H A run.ended (run.clauses 𝓤 H A at-mem go) (lfts ν) (args l δ) tt a)))) (id⊢ 𝓤 _) $ await ! tt $ pick ! (λ a. split ! $ move ! (1 ∷ []) $
           use1 W (some (λ (z : Last). ‵ (lasts run.ended (lfts ν) (args l δ) z) ⊛ raw (fact 𝓤 (Said a (last z))) ⊛ raw (fact 𝓤 (Meaning a (last z)))
@@ -282,13 +286,14 @@ module _ {M : Type 1} (𝓤 : URA M) (H : Heap 𝓤) (A : Atoms 𝓤) (W : Given
         pass1 ! (init ! lent refl (tt, (tt, (record { fits = rooms .0 .0 }, tt)))) $
         pass1 ! (init ! (lent + 1) refl (tt, (tt, (record { fits = rooms .1 .0 .0 }, tt)))) $
         pass1 ! (init ! (lent + 2) refl (tt, (tt, (record { fits = rooms .1 .1 .0 .0 }, tt)))) $
-        pass1 ! (init ! (lent + 3) refl (tt, (tt, (record { fits = rooms .1 .1 .1 .0 .0 }, tt)))) $ pass1 ! (init ! calls refl typed) $ pass0 ! $ by ! (begins bs))
+        pass1 ! (init ! (lent + 3) refl (tt, (tt, (record { fits = rooms .1 .1 .1 .0 .0 }, tt)))) $
+        pass1 ! (init ! (lent + 4) refl (tt, (tt, (record { fits = rooms .1 .1 .1 .1 .0 .0 }, tt)))) $ pass1 ! (init ! calls refl typed) $ pass0 ! $ by ! (begins bs))
 
 module _ {M : Type 1} (𝓤 : URA M) (H : Heap 𝓤) (A : Atoms 𝓤) (W : Given 𝓤 H A) (mem : Memory → SProp 𝓤) (go : Routine → Fun 𝓤) (𝓣 : Tables 𝓤 H)
     (known : Triple 𝓤 (𝓣 .C #call-list·run) (Run 𝓤 H A mem go)) where
   four-walks : Walks 𝓤 H A four-run.ended stayed (WpFn 𝓤 H (𝓣 .C) (𝓣 .Λ) code.function) (four-run.clauses 𝓤 H A mem go)
   four-walks = walked 𝓤 H A four-run.ended stayed (four-run.clauses 𝓤 H A mem go) (WpFn 𝓤 H (𝓣 .C) (𝓣 .Λ) code.function)
-      (λ κs. (uint-vals w64, (uint-vals w64, (slice-vals, (slice-vals, (slice-vals, (slice-vals, (array-vals (LL.vals R.the-type R′.the-laws), tt))))))))
+      (λ κs. (uint-vals w64, (uint-vals w64, (slice-vals, (slice-vals, (slice-vals, (slice-vals, (slice-vals, (array-vals (LL.vals R.the-type R′.the-laws), tt)))))))))
       (λ κs. (
         uint-tells w64,
         (
@@ -299,7 +304,13 @@ module _ {M : Type 1} (𝓤 : URA M) (H : Heap 𝓤) (A : Atoms 𝓤) (W : Given
               mut-slice-tells (named 1) (κs .1 .0) i32,
               (
                 mut-slice-tells (named 2) (κs .1 .1 .0) i32,
-                (mut-slice-tells (named 3) (κs .1 .1 .1 .0) u8, (array-tells R.the-row (LL.vals R.the-type R′.the-laws) (LL.tells R.the-type R′.the-laws) 4, tt)),
+                (
+                  mut-slice-tells (named 3) (κs .1 .1 .1 .0) u8,
+                  (
+                    mut-slice-tells (named 4) (κs .1 .1 .1 .1 .0) u8,
+                    (array-tells R.the-row (LL.vals R.the-type R′.the-laws) (LL.tells R.the-type R′.the-laws) 4, tt),
+                  ),
+                ),
               ),
             ),
           ),
@@ -307,19 +318,26 @@ module _ {M : Type 1} (𝓤 : URA M) (H : Heap 𝓤) (A : Atoms 𝓤) (W : Given
       ))
       (λ κs qs bounds a g are. via 𝓤 _ (fst∗ 𝓤 _ (emp 𝓤))
       (walk 𝓤 H A W mem go (a .0) (a .1 .0)
-      (spots κs qs (a .1 .1)) (texts (a .1 .1)) (a .1 .1 .1 .1 .1 .1 .0) (are .0 .1) (are .1 .0 .1) 𝓣 known
-      (are .1 .1 .0 .0 .1, (are .1 .1 .1 .0 .0 .1, (are .1 .1 .1 .1 .0 .0 .1, (are .1 .1 .1 .1 .1 .0 .0 .1, tt)))) (are .1 .1 .1 .1 .1 .1 .0)))
+      (spots κs qs (a .1 .1)) (texts (a .1 .1)) (a .1 .1 .1 .1 .1 .1 .1 .0) (are .0 .1) (are .1 .0 .1) 𝓣 known
+      (are .1 .1 .0 .0 .1, (are .1 .1 .1 .0 .0 .1, (are .1 .1 .1 .1 .0 .0 .1, (are .1 .1 .1 .1 .1 .0 .0 .1, (are .1 .1 .1 .1 .1 .1 .0 .0 .1, tt)))))
+      (are .1 .1 .1 .1 .1 .1 .1 .0)))
 
   four-meets : Meets 𝓤 H A four-run.signature (WpFn 𝓤 H (𝓣 .C) (𝓣 .Λ) code.function) (four-run.spec 𝓤 H A mem go)
   four-meets = walk-meets 𝓤 H A four-run.ended stayed W (
-    goes-none 𝓤 H A W 4 (λ _. usize) yes (λ κs x f. refl),
+    goes-none 𝓤 H A W 5 (λ _. usize) yes (λ κs x f. refl),
     (
-      goes-none 𝓤 H A W 4 (λ _. usize) yes (λ κs x f. refl),
+      goes-none 𝓤 H A W 5 (λ _. usize) yes (λ κs x f. refl),
       (
-        goes-gave-slice 𝓤 H A W 4 0 tt (plain (λ _. i32)),
+        goes-gave-slice 𝓤 H A W 5 0 tt (plain (λ _. i32)),
         (
-          goes-gave-slice 𝓤 H A W 4 1 tt (plain (λ _. i32)),
-          (goes-gave-slice 𝓤 H A W 4 2 tt (plain (λ _. i32)), (goes-gave-slice 𝓤 H A W 4 3 tt (plain (λ _. u8)), (goes-none 𝓤 H A W 4 (λ _. Array R.the-row 4) yes (λ κs x f. refl), tt))),
+          goes-gave-slice 𝓤 H A W 5 1 tt (plain (λ _. i32)),
+          (
+            goes-gave-slice 𝓤 H A W 5 2 tt (plain (λ _. i32)),
+            (
+              goes-gave-slice 𝓤 H A W 5 3 tt (plain (λ _. u8)),
+              (goes-gave-slice 𝓤 H A W 5 4 tt (plain (λ _. u8)), (goes-none 𝓤 H A W 5 (λ _. Array R.the-row 4) yes (λ κs x f. refl), tt)),
+            ),
+          ),
         ),
       ),
     ),

@@ -34,16 +34,20 @@ returns-3 : tie.Need-returns-3
 returns-3 c = refused _ (λ h. omega arith)
 
 returns-4 : tie.Need-returns-4
-returns-4 c =
-    let after2 = c .before .before in
+returns-4 c = refused _ (λ h. omega arith)
+
+returns-5 : tie.Need-returns-5
+returns-5 c =
+    let after2 = c .before .before .before in
     let after1 = after2 .before .before in
     accepted _ (
       eqb-true _ _ (told-true _ (after1 .is-product .ensures) (after2 .before .if1 .left)),
-      eqb-true _ _ (told-true _ (after2 .is-product2 .ensures) (c .before .if2 .left)),
-      c .if3 .left,
+      eqb-true _ _ (told-true _ (after2 .is-product2 .ensures) (c .before .before .if2 .left)),
+      c .before .if3 .left,
+      c .if4 .left,
     )
 
 pub length-fault-spec : {M : Type 1} → statement M
 length-fault-spec =
     tie.close
-    (tie.spec is-product-requires returns is-product-requires-2 returns-2 returns-3 returns-4)
+    (tie.spec is-product-requires returns is-product-requires-2 returns-2 returns-3 returns-4 returns-5)

@@ -6,6 +6,7 @@ use mathlib.Core.Path.{_≡_, refl}
 use Rattle.integer.proofs.Tests.{told-false, told-true}
 use Rattle.model.specs.Checks.{Check, boxChecks, first, lengthChecks, modelChecks, modelFault, numberChecks, sizeChecks, tableByteChecks, tableLengthChecks}
 use Rattle.model.specs.Model.{modelOf}
+use Rattle.model.specs.Rows.{rowsOf}
 use Rattle.model.proofs.CheckLaws.{fails, goes, past, stops}
 use Rattle.model.proofs.model_fault.Statement.{statement}
 use Rattle.model.proofs.model_fault.Tie as tie
@@ -15,7 +16,7 @@ abbrev sizes : tie.Start → List Check
 sizes s = sizeChecks (s .args .n) (s .args .m)
 
 abbrev lengths : tie.Start → List Check
-lengths s = lengthChecks (modelOf (s .args .n) (s .args .m) (s .args .bounds .now) (s .args .coefs .now) (s .args .rhs .now))
+lengths s = lengthChecks (modelOf (s .args .n) (s .args .m) (s .args .bounds .now) (rowsOf (s .args .coefs .now) (s .args .rhs .now) (s .args .kinds .now)))
 
 size-fault-requires : tie.Need-size-fault-requires
 size-fault-requires c κs = search needs
@@ -28,19 +29,19 @@ length-fault-requires : tie.Need-length-fault-requires
 length-fault-requires c κs = search needs
 
 -- past a list of checks, what the later ones answer is the answer
-past-1 : (c : tie.Else1) {r : ℕ} (ys : List Check) → r ≡ first ys → r ≡ first (sizes (c .before .before) ++ ys)
+past-1 : (c : tie.Else1) {r : ℕ} (ys : List Check) → r ≡ first ys → r ≡ first (sizes (c .before .before .before) ++ ys)
 unfolding sizeChecks
-past-1 c ys h = goes (sizes (c .before .before)) ys tt (c .before .size-fault .ensures) (c .if1 .left) h
+past-1 c ys h = goes (sizes (c .before .before .before)) ys tt (c .before .size-fault .ensures) (c .if1 .left) h
 
 returns-2 : tie.Need-returns-2
 unfolding modelFault modelChecks
 returns-2 c = past-1 (c .before .before) _ (stops _ _ (c .before .length-fault .ensures) (c .if2 .taken))
 
 past-2 : (c : tie.Else2) {r : ℕ} (ys : List Check) → r ≡ first ys
-    → let s = c .before .before .before .before in r ≡ first (sizes s ++ (lengths s ++ ys))
+    → let s = c .before .before .before .before .before in r ≡ first (sizes s ++ (lengths s ++ ys))
 unfolding lengthChecks
 past-2 c ys h =
-    past-1 (c .before .before) _ (goes (lengths (c .before .before .before .before)) ys tt (c .before .length-fault .ensures) (c .if2 .left) h)
+    past-1 (c .before .before) _ (goes (lengths (c .before .before .before .before .before)) ys tt (c .before .length-fault .ensures) (c .if2 .left) h)
 
 returns-3 : tie.Need-returns-3
 unfolding modelFault modelChecks tableLengthChecks

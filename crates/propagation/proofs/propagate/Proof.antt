@@ -13,15 +13,15 @@ array-borrow-prefix-seen : tie.Need-array-borrow-prefix-seen
 array-borrow-prefix-seen c = search needs
 
 slice-aggregate-copy-box : tie.Need-slice-aggregate-copy-box
-slice-aggregate-copy-box c = sym (box-room (c .before .before .pre))
+slice-aggregate-copy-box c = sym (box-room (c .before .before .before .pre))
 
 copy-box-requires : tie.Need-copy-box-requires
-copy-box-requires c κs = sym (box-room (c .before .before .pre))
+copy-box-requires c κs = sym (box-room (c .before .before .before .pre))
 
 -- the array's front is the box
 module _ (c : tie.After-copy-box) where
   abbrev s : tie.Start
-  s = c .before .before .before
+  s = c .before .before .before .before
 
   abbrev B : List ℤ
   B = s .args .bounds .now

@@ -14,11 +14,11 @@ use native.Mathlib.Nat.{sub-zero}
 use native.Mathlib.Omega.{arith}
 use Rattle.integer.proofs.Parts.{zarith, zify}
 use Rattle.integer.proofs.Tests.{false→T}
-use Rattle.model.specs.Box.{at, isEmpty, width}
-use Rattle.model.specs.Rows.{rowOf, rowsOf}
+use Rattle.model.specs.Box.{isEmpty, width}
+use Rattle.model.specs.Rows.{Row, Rows, rowAt, rowsOf}
 use Rattle.row.specs.Answers.{propagatedRowOf}
 use Rattle.row.specs.Outcome.{isInfeasible}
-use Rattle.row.specs.Propagation.{propagateRow}
+use Rattle.row.specs.Kinds.{propagateRowOf}
 use Rattle.row.specs.declared.propagation.RowPropagation.the-variants.{Tightened, Unchanged}
 use Rattle.semantics.specs.Propagate.{Propagated, propagate, propagateFrom}
 use Rattle.propagation.specs.Results.{propagationOf}
@@ -31,28 +31,28 @@ use Rattle.propagation.proofs.propagate_marked.Statement.{statement}
 use Rattle.propagation.proofs.propagate_marked.Tie as tie
 
 abbrev Inv-rows : tie.InvT-rows
-Inv-rows n m bounds₀ coefs rhs budget across₀ signs₀ seen₀ marks₀ passes tally₀ infeasible₀ before r₀ bounds across signs seen marks tally infeasible r =
+Inv-rows n m bounds₀ coefs rhs kinds budget across₀ signs₀ seen₀ marks₀ passes tally₀ infeasible₀ before r₀ bounds across signs seen marks tally infeasible r =
     (r ≤ m)
-    × PassIs n r coefs rhs bounds₀ before false (tally .moved) bounds
-    × Ready n m coefs rhs bounds₀ across₀ signs₀ seen₀ marks₀ bounds across signs seen marks
+    × PassIs n r (rowsOf coefs rhs kinds) bounds₀ before false (tally .moved) bounds
+    × Ready n m (rowsOf coefs rhs kinds) bounds₀ across₀ signs₀ seen₀ marks₀ bounds across signs seen marks
     × (infeasible ≡ false)
 
 abbrev μ-rows : tie.MeasureT-rows
-μ-rows n m bounds₀ coefs rhs budget across₀ signs₀ seen₀ marks₀ passes tally₀ infeasible₀ before r₀ bounds across signs seen marks tally infeasible r = m - r
+μ-rows n m bounds₀ coefs rhs kinds budget across₀ signs₀ seen₀ marks₀ passes tally₀ infeasible₀ before r₀ bounds across signs seen marks tally infeasible r = m - r
 
 abbrev Inv-passes : tie.InvT-passes
-Inv-passes n m bounds₀ coefs rhs budget across₀ signs₀ seen₀ marks₀ passes₀ tally₀ infeasible₀ bounds across signs seen marks passes tally infeasible =
+Inv-passes n m bounds₀ coefs rhs kinds budget across₀ signs₀ seen₀ marks₀ passes₀ tally₀ infeasible₀ bounds across signs seen marks passes tally infeasible =
     (passes ≤ budget)
-    × (propagateFrom (budget - passes) passes (tally .moved) n m (rowsOf coefs rhs) bounds ≡ propagateFrom budget 0 0 n m (rowsOf coefs rhs) bounds₀)
-    × Ready n m coefs rhs bounds₀ across₀ signs₀ seen₀ marks₀ bounds across signs seen marks
+    × (propagateFrom (budget - passes) passes (tally .moved) n m (rowsOf coefs rhs kinds) bounds ≡ propagateFrom budget 0 0 n m (rowsOf coefs rhs kinds) bounds₀)
+    × Ready n m (rowsOf coefs rhs kinds) bounds₀ across₀ signs₀ seen₀ marks₀ bounds across signs seen marks
     × (infeasible ≡ false)
     × ((pos (tally .moved) +ℤ width n bounds) ≤ℤ width n bounds₀)
 
 abbrev μ-passes : tie.MeasureT-passes
-μ-passes n m bounds₀ coefs rhs budget across₀ signs₀ seen₀ marks₀ passes₀ tally₀ infeasible₀ bounds across signs seen marks passes tally infeasible = budget - passes
+μ-passes n m bounds₀ coefs rhs kinds budget across₀ signs₀ seen₀ marks₀ passes₀ tally₀ infeasible₀ bounds across signs seen marks passes tally infeasible = budget - passes
 
 is-empty-requires : tie.Need-is-empty-requires Inv-rows μ-rows Inv-passes μ-passes
-is-empty-requires c κs = let p = c .before .before .before .before .pre .0 in omega (arith, p .some, p .box .len)
+is-empty-requires c κs = let p = c .before .before .before .before .before .pre .0 in omega (arith, p .some, p .box .len)
 
 same-length : tie.Need-same-length Inv-rows μ-rows Inv-passes μ-passes
 same-length c = search needs
@@ -60,13 +60,13 @@ same-length c = search needs
 returns : tie.Need-returns Inv-rows μ-rows Inv-passes μ-passes
 unfolding propagate propagationOf
 returns c =
-    let s = c .before .before .before .before .before .before in
+    let s = c .before .before .before .before .before .before .before in
     let p = s .pre .0 in
     (rw (sym (c .before .is-empty .ensures _ (p .some) (p .box)) ∙ c .if1 .taken), s .pre .1 .0)
 
 passes-holds : tie.Need-passes-holds Inv-rows μ-rows Inv-passes μ-passes
 passes-holds c =
-    let s = c .before .before .before .before .before .before in
+    let s = c .before .before .before .before .before .before .before in
     let p = s .pre .0 in
     let e = sym (c .before .is-empty .ensures _ (p .some) (p .box)) ∙ c .if1 .left in
     (omega arith, rw sub-zero, ready (p .box) (valid-nonEmpty (p .box) (false→T (isEmpty (s .args .n) (s .args .bounds .now)) e)) (s .pre .1 .0), refl, simp zify (omega zarith))
@@ -77,18 +77,18 @@ add-passes c = omega arith
 next-row-requires : tie.Need-next-row-requires Inv-rows μ-rows Inv-passes μ-passes
 next-row-requires c κs =
     let q = c .before .before in
-    (omega arith, omega (arith, q .before .before .before .before .before .before .before .pre .1 .1, q .passes .inv .2 .marksLen))
+    (omega arith, omega (arith, q .before .before .before .before .before .before .before .before .pre .1 .1, q .passes .inv .2 .marksLen))
 
 rows-holds : tie.Need-rows-holds Inv-rows μ-rows Inv-passes μ-passes
 rows-holds c =
     let i = c .before .before .before .passes .inv in
     let t = c .next-row .ensures in
-    (t .1, pass-over _ 0 _ (pass-begins _ _ _ _ _) (i .2 .nonEmpty) (i .2 .watched .clean) (t .0) (t .1) (t .2), ready (i .2 .box) (i .2 .nonEmpty) (i .2 .watched), i .3)
+    (t .1, pass-over _ 0 _ (pass-begins _ _ _ _) (i .2 .nonEmpty) (i .2 .watched .clean) (t .0) (t .1) (t .2), ready (i .2 .box) (i .2 .nonEmpty) (i .2 .watched), i .3)
 
 -- the call, where it comes to a pass
 module _ (h : tie.At-passes Inv-rows μ-rows Inv-passes μ-passes) where
   abbrev s : tie.Start Inv-rows μ-rows Inv-passes μ-passes
-  s = h .before .before .before .before .before .before .before
+  s = h .before .before .before .before .before .before .before .before
 
   abbrev n : ℕ
   n = s .args .n
@@ -99,11 +99,8 @@ module _ (h : tie.At-passes Inv-rows μ-rows Inv-passes μ-passes) where
   abbrev budget : ℕ
   budget = s .args .budget
 
-  abbrev C : List ℤ
-  C = s .args .coefs .now
-
-  abbrev R : List ℤ
-  R = s .args .rhs .now
+  abbrev A : Rows
+  A = rowsOf (s .args .coefs .now) (s .args .rhs .now) (s .args .kinds .now)
 
   abbrev B₀ : List ℤ
   B₀ = s .args .bounds .now
@@ -117,7 +114,7 @@ module _ (h : tie.At-passes Inv-rows μ-rows Inv-passes μ-passes) where
   abbrev before : ℕ
   before = h .passes .tally .moved
 
-  whole : propagate budget n m (rowsOf C R) B₀ ≡ propagateFrom budget 0 0 n m (rowsOf C R) B₀
+  whole : propagate budget n m A B₀ ≡ propagateFrom budget 0 0 n m A B₀
   unfolding propagate
   whole = rw (sym (h .before .before .is-empty .ensures _ (s .pre .0 .some) (s .pre .0 .box)) ∙ h .before .if1 .left)
 
@@ -158,32 +155,29 @@ module _ (c : tie.After-propagate-row-marked Inv-rows μ-rows Inv-passes μ-pass
   abbrev Q : List ℤ
   Q = c .propagate-row-marked .last .1 .1 .0
 
-  abbrev A : List ℤ
-  A = rowOf (n h) (C h) (r row)
+  abbrev its : Row
+  its = rowAt (n h) (A h) (r row)
 
-  abbrev b : ℤ
-  b = at (R h) (r row)
-
-  heard : propagatedRowOf (c .propagate-row-marked .result) Q ≡ propagateRow (n h) A b (P row)
+  heard : propagatedRowOf (c .propagate-row-marked .result) Q ≡ propagateRowOf (n h) its (P row)
   heard = c .propagate-row-marked .ensures .0
 
-  left : Q ≡ propagateRow (n h) A b (P row) .box
+  left : Q ≡ propagateRowOf (n h) its (P row) .box
   left = left-by _ Q heard
 
   -- one that is feasible leaves all ready for the next
-  row-ready : T (not (isInfeasible (propagateRow (n h) A b (P row) .outcome))) →
-      let q = c .propagate-row-marked .last .1 .1 .1 .1 .1 .1 in
-      Ready (n h) (m h) (C h) (R h) (B h) (h .passes .across) (h .passes .signs) (h .passes .seen) (h .passes .marks) Q (q .0) (q .1 .0) (q .1 .1 .0) (q .1 .1 .1 .0)
+  row-ready : T (not (isInfeasible (propagateRowOf (n h) its (P row) .outcome))) →
+      let q = c .propagate-row-marked .last .1 .1 .1 .1 .1 .1 .1 in
+      Ready (n h) (m h) (A h) (B h) (h .passes .across) (h .passes .signs) (h .passes .seen) (h .passes .marks) Q (q .0) (q .1 .0) (q .1 .1 .0) (q .1 .1 .1 .0)
   row-ready f =
       let l = c .propagate-row-marked .kept .1 .1 in
-      ready-visit A b (row .before .rows .inv .2) left f (c .propagate-row-marked .ensures .1)
-      (l .0) (l .1 .1 .1 .1 .0) (l .1 .1 .1 .1 .1 .0) (l .1 .1 .1 .1 .1 .1 .0) (l .1 .1 .1 .1 .1 .1 .1 .0)
+      ready-visit its (row .before .rows .inv .2) left f (c .propagate-row-marked .ensures .1)
+      (l .0) (l .1 .1 .1 .1 .1 .0) (l .1 .1 .1 .1 .1 .1 .0) (l .1 .1 .1 .1 .1 .1 .1 .0) (l .1 .1 .1 .1 .1 .1 .1 .1 .0)
 
   -- and the pass so far, with it
   one-row : {k now : ℕ} → ((c .propagate-row-marked .result ≡ Tightened k) × (now ≡ row .before .rows .tally .moved + k))
       ⊎ ((c .propagate-row-marked .result ≡ Unchanged) × (now ≡ row .before .rows .tally .moved))
-      → PassIs (n h) (r row + 1) (C h) (R h) (B h) (before h) false now Q
-  one-row = row-feasible (n h) (r row) (C h) (R h) (B h) (before h) _ Q (row .before .rows .inv .1) heard
+      → PassIs (n h) (r row + 1) (A h) (B h) (before h) false now Q
+  one-row = row-feasible (n h) (r row) (A h) (B h) (before h) _ Q (row .before .rows .inv .1) heard
 
 enum-told : tie.Need-enum-told Inv-rows μ-rows Inv-passes μ-passes
 enum-told c = search needs
@@ -208,10 +202,10 @@ module _ (c : tie.At-match-came Inv-rows μ-rows Inv-passes μ-passes) where
   abbrev k : tie.At-rows Inv-rows μ-rows Inv-passes μ-passes
   k = row d .before
 
-  feasible : T (not (isInfeasible (propagateRow (n (h d)) (A d) (b d) (P (row d)) .outcome)))
+  feasible : T (not (isInfeasible (propagateRowOf (n (h d)) (its d) (P (row d)) .outcome)))
   feasible = ⊎-elim (λ w. tightened _ (Q d) (heard d) (w .1 .given .1)) (λ w. unmoved _ (Q d) (heard d) (w .1 .given .1) .0) (c .match .came)
 
-  counted : PassIs (n (h d)) (r (row d) + 1) (C (h d)) (R (h d)) (B (h d)) (before (h d)) false (c .match .tally .moved) (Q d)
+  counted : PassIs (n (h d)) (r (row d) + 1) (A (h d)) (B (h d)) (before (h d)) false (c .match .tally .moved) (Q d)
   counted =
       ⊎-elim
       (λ w. one-row d (inl (w .1 .given .1, ap (λ t. t .moved) (w .4) ∙ w .3 .ensures)))
@@ -225,7 +219,7 @@ next-row-requires-2 : tie.Need-next-row-requires-2 Inv-rows μ-rows Inv-passes �
 next-row-requires-2 c κs =
     let e = d (c .before) in
     let q = h e in
-    let l = e .propagate-row-marked .kept .1 .1 .1 .1 .1 .1 .1 .1 .1 .0 in
+    let l = e .propagate-row-marked .kept .1 .1 .1 .1 .1 .1 .1 .1 .1 .1 .0 in
     (omega (arith, row e .rows-test .taken), omega (arith, s q .pre .1 .1, l, k (c .before) .rows .inv .2 .marksLen, q .passes .inv .2 .marksLen))
 
 rows-less : tie.Need-rows-less Inv-rows μ-rows Inv-passes μ-passes
@@ -241,7 +235,7 @@ rows-again c =
 -- a pass over all rows
 passed : (c : tie.After-rows Inv-rows μ-rows Inv-passes μ-passes) →
     let q = c .before .before .before .before .before in
-    PassIs (n q) (m q) (C q) (R q) (B q) (before q) false (c .before .rows .tally .moved) (c .before .rows .bounds)
+    PassIs (n q) (m q) (A q) (B q) (before q) false (c .before .rows .tally .moved) (c .before .rows .bounds)
 passed c =
     let q = c .before .before .before .before .before in
     let k : c .before .rows .r ≡ m q = omega arith in
@@ -251,7 +245,7 @@ passed c =
 pass-ready : (c : tie.After-rows Inv-rows μ-rows Inv-passes μ-passes) →
     let q = c .before .before .before .before .before in
     let w = c .before .rows in
-    Ready (n q) (m q) (C q) (R q) (B₀ q) (s q .args .across .now) (s q .args .signs .now) (s q .args .seen .now) (s q .args .marks .now) (w .bounds) (w .across) (w .signs) (w .seen) (w .marks)
+    Ready (n q) (m q) (A q) (B₀ q) (s q .args .across .now) (s q .args .signs .now) (s q .args .seen .now) (s q .args .marks .now) (w .bounds) (w .across) (w .signs) (w .seen) (w .marks)
 pass-ready c = ready-trans (c .before .before .before .before .before .passes .inv .2) (c .before .rows .inv .2)
 
 same-length-2 : tie.Need-same-length-2 Inv-rows μ-rows Inv-passes μ-passes
@@ -275,7 +269,7 @@ returns-2 c =
     let e = c .before .before in
     let q = e .before .before .before .before .before in
     let i = rw (c .if2 .taken) at (passed e) in (
-      sym (whole q ∙ pass-converged (budget q) (made q) (before q) (n q) (m q) (C q) (R q) (B q) (e .before .before .before .before .passes-test .taken) (q .passes .inv .1) i),
+      sym (whole q ∙ pass-converged (budget q) (made q) (before q) (n q) (m q) (A q) (B q) (e .before .before .before .before .passes-test .taken) (q .passes .inv .1) i),
       e .before .rows .inv .2 .watched,
     )
 
@@ -287,7 +281,7 @@ passes-again c =
     let e = c .before .before in
     let q = e .before .before .before .before .before in (
       omega arith,
-      pass-moved (budget q) (made q) (before q) (n q) (m q) (C q) (R q) (B q) (e .before .before .before .before .passes-test .taken) (q .passes .inv .1) (passed e) (c .if2 .left),
+      pass-moved (budget q) (made q) (before q) (n q) (m q) (A q) (B q) (e .before .before .before .before .passes-test .taken) (q .passes .inv .1) (passed e) (c .if2 .left),
       pass-ready e,
       e .before .rows .inv .3,
       pass-width (passed e) (B₀ q) (q .passes .inv .4),
@@ -300,8 +294,8 @@ after i p k B = propagationOf (cond i (code.Infeasible p k) (code.BudgetSpent p 
 after-is : {i j : Bool} {p q k l : ℕ} {B P : List ℤ} → i ≡ j → p ≡ q → k ≡ l → B ≡ P → after i p k B ≡ after j q l P
 after-is d e t f = rw (d, e, t, f)
 
-watched-is : {n m : ℕ} {C R B P : List ℤ} {a a′ s s′ : List ℕ} {e e′ : List ℤ} {k k′ : List ℕ} → B ≡ P → a ≡ a′ → s ≡ s′ → e ≡ e′ → k ≡ k′
-    → Watched n m C R P a′ s′ e′ k′ → Watched n m C R B a s e k
+watched-is : {n m : ℕ} {A : Rows} {B P : List ℤ} {a a′ s s′ : List ℕ} {e e′ : List ℤ} {k k′ : List ℕ} → B ≡ P → a ≡ a′ → s ≡ s′ → e ≡ e′ → k ≡ k′
+    → Watched n m A P a′ s′ e′ k′ → Watched n m A B a s e k
 watched-is b a s e k w = rw (b, a, s, e, k) w
 
 -- the lengths of what is lent, and what is known of the rows
@@ -311,12 +305,12 @@ record Left (q : tie.At-passes Inv-rows μ-rows Inv-passes μ-passes) (bounds : 
   signsLen : length signs ≡ length (s q .args .signs .now)
   seenLen : length seen ≡ length (s q .args .seen .now)
   marksLen : length marks ≡ length (s q .args .marks .now)
-  watched : Watched (n q) (m q) (C q) (R q) bounds across signs seen marks
+  watched : Watched (n q) (m q) (A q) bounds across signs seen marks
 
 met : (c : tie.Left-passes Inv-rows μ-rows Inv-passes μ-passes) →
     let q = c .before in
     let o = c .passes-test in
-    (after (o .infeasible) (o .passes) (o .tally .moved) (o .bounds) ≡ propagate (budget q) (n q) (m q) (rowsOf (C q) (R q)) (B₀ q)) × Left q (o .bounds) (o .across) (o .signs) (o .seen) (o .marks)
+    (after (o .infeasible) (o .passes) (o .tally .moved) (o .bounds) ≡ propagate (budget q) (n q) (m q) (A q) (B₀ q)) × Left q (o .bounds) (o .across) (o .signs) (o .seen) (o .marks)
 unfolding propagationOf
 met c =
     let q = c .before in
@@ -324,7 +318,7 @@ met c =
     ⊎-elim
     (λ w. (
       after-is (w .8 ∙ q .passes .inv .3) (w .6) (ap (λ t. t .moved) (w .7)) (w .1)
-          ∙ sym (whole q ∙ budget-spent (budget q) (made q) (before q) (n q) (m q) (C q) (R q) (B q) (w .0 .left) (q .passes .inv .1)),
+          ∙ sym (whole q ∙ budget-spent (budget q) (made q) (before q) (n q) (m q) (A q) (B q) (w .0 .left) (q .passes .inv .1)),
       record {
         boxLen = ap length (w .1) ∙ y .boxLen;
         acrossLen = ap length (w .2) ∙ y .acrossLen;
@@ -348,15 +342,15 @@ met c =
     } in
     let z = ready-trans y (w .3 .inv .2) in
     let k = w .10 .kept in
-    let e = row-infeasible (n q) (r (row d)) (C q) (R q) (B q) (before q) _ (Q d) (w .3 .inv .1) (heard d) (m q) (w .4 .taken) (w .20 .given .1) in (
+    let e = row-infeasible (n q) (r (row d)) (A q) (B q) (before q) _ (Q d) (w .3 .inv .1) (heard d) (m q) (w .4 .taken) (w .20 .given .1) in (
       after-is (w .28) (w .26) (ap (λ t. t .moved) (w .27)) (w .21)
-          ∙ sym (whole q ∙ pass-infeasible (budget q) (made q) (before q) (n q) (m q) (C q) (R q) (B q) (w .0 .taken) (q .passes .inv .1) e),
+          ∙ sym (whole q ∙ pass-infeasible (budget q) (made q) (before q) (n q) (m q) (A q) (B q) (w .0 .taken) (q .passes .inv .1) e),
       record {
         boxLen = ap length (w .21) ∙ k .1 .1 .0 ∙ z .boxLen;
-        acrossLen = ap length (w .22) ∙ k .1 .1 .1 .1 .1 .1 .0 ∙ z .acrossLen;
-        signsLen = ap length (w .23) ∙ k .1 .1 .1 .1 .1 .1 .1 .0 ∙ z .signsLen;
-        seenLen = ap length (w .24) ∙ k .1 .1 .1 .1 .1 .1 .1 .1 .0 ∙ z .seenLen;
-        marksLen = ap length (w .25) ∙ k .1 .1 .1 .1 .1 .1 .1 .1 .1 .0 ∙ z .marksLen;
+        acrossLen = ap length (w .22) ∙ k .1 .1 .1 .1 .1 .1 .1 .0 ∙ z .acrossLen;
+        signsLen = ap length (w .23) ∙ k .1 .1 .1 .1 .1 .1 .1 .1 .0 ∙ z .signsLen;
+        seenLen = ap length (w .24) ∙ k .1 .1 .1 .1 .1 .1 .1 .1 .1 .0 ∙ z .seenLen;
+        marksLen = ap length (w .25) ∙ k .1 .1 .1 .1 .1 .1 .1 .1 .1 .1 .0 ∙ z .marksLen;
         watched = watched-is (w .21) (w .22) (w .23) (w .24) (w .25) (w .10 .ensures .1);
       },
     ))

@@ -19,6 +19,9 @@ most-coefs-requires c κs = search needs
 most-rhs-requires : tie.Need-most-rhs-requires
 most-rhs-requires c κs = search needs
 
+most-kinds-requires : tie.Need-most-kinds-requires
+most-kinds-requires c κs = search needs
+
 largest-table-requires : tie.Need-largest-table-requires
 largest-table-requires c κs = search needs
 
@@ -35,13 +38,13 @@ whole : (c : tie.After-largest-table) → length (c .largest-table .result) ≡ 
 whole c = ap length (c .largest-table .ensures) ∙ length-zeros 65_536
 
 mul-coefs-len : tie.Need-mul-coefs-len
-mul-coefs-len c = omega (arith, coefs (c .before .before .before .before .before))
+mul-coefs-len c = omega (arith, coefs (c .before .before .before .before .before .before))
 
 mul-table-len : tie.Need-mul-table-len
-mul-table-len c = omega (arith, table (c .before .before .before .before .before))
+mul-table-len c = omega (arith, table (c .before .before .before .before .before .before))
 
 mul-table-len-2 : tie.Need-mul-table-len-2
-mul-table-len-2 c = omega (arith, table (c .before .before .before .before .before))
+mul-table-len-2 c = omega (arith, table (c .before .before .before .before .before .before))
 
 array-borrow-prefix-bounds : tie.Need-array-borrow-prefix-bounds
 array-borrow-prefix-bounds c = search needs
@@ -50,10 +53,10 @@ slice-aggregate-reduce-in : tie.Need-slice-aggregate-reduce-in
 slice-aggregate-reduce-in c = sym (length-take-le _ _ (omega arith))
 
 array-borrow-prefix-coefs : tie.Need-array-borrow-prefix-coefs
-array-borrow-prefix-coefs c = omega (arith, coefs (c .before .before .before .before .before .before))
+array-borrow-prefix-coefs c = omega (arith, coefs (c .before .before .before .before .before .before .before))
 
 slice-aggregate-reduce-in-2 : tie.Need-slice-aggregate-reduce-in-2
-slice-aggregate-reduce-in-2 c = sym (length-take-le _ _ (omega (arith, coefs (c .before .before .before .before .before .before .before))))
+slice-aggregate-reduce-in-2 c = sym (length-take-le _ _ (omega (arith, coefs (c .before .before .before .before .before .before .before .before))))
 
 array-borrow-prefix-rhs : tie.Need-array-borrow-prefix-rhs
 array-borrow-prefix-rhs c = search needs
@@ -61,20 +64,27 @@ array-borrow-prefix-rhs c = search needs
 slice-aggregate-reduce-in-3 : tie.Need-slice-aggregate-reduce-in-3
 slice-aggregate-reduce-in-3 c = sym (length-take-le _ _ (omega arith))
 
-array-borrow-prefix-table : tie.Need-array-borrow-prefix-table
-array-borrow-prefix-table c = omega (arith, table (c .before .before .before .before .before .before .before .before), whole (c .before .before .before))
+array-borrow-prefix-kinds : tie.Need-array-borrow-prefix-kinds
+array-borrow-prefix-kinds c = search needs
 
 slice-aggregate-reduce-in-4 : tie.Need-slice-aggregate-reduce-in-4
-slice-aggregate-reduce-in-4 c = sym (length-take-le _ _ (omega (arith, table (c .before .before .before .before .before .before .before .before .before), whole (c .before .before .before .before))))
+slice-aggregate-reduce-in-4 c = sym (length-take-le _ _ (omega arith))
+
+array-borrow-prefix-table : tie.Need-array-borrow-prefix-table
+array-borrow-prefix-table c = omega (arith, table (c .before .before .before .before .before .before .before .before .before .before), whole (c .before .before .before .before))
+
+slice-aggregate-reduce-in-5 : tie.Need-slice-aggregate-reduce-in-5
+slice-aggregate-reduce-in-5 c = sym (length-take-le _ _ (omega (arith, table (c .before .before .before .before .before .before .before .before .before .before .before), whole (c .before .before .before .before .before))))
 
 reduce-in-requires : tie.Need-reduce-in-requires
 reduce-in-requires c κs =
-    let s = c .before .before .before .before .before .before .before .before .before .before in
-    let b = c .before .before .before .before .before .before .before .before .most-bounds in
-    let k = c .before .before .before .before .before .before .before .most-coefs in
-    let r = c .before .before .before .before .before .before .most-rhs in (
-      parts-ready (s .pre .0 .0) (s .pre .0 .1) (b .result) (k .result) (r .result) (s .pre .0 .2) (b .ensures) (k .ensures) (r .ensures)
-          (c .before .before .before .before .before .largest-table .ensures),
+    let s = c .before .before .before .before .before .before .before .before .before .before .before .before in
+    let b = c .before .before .before .before .before .before .before .before .before .before .most-bounds in
+    let k = c .before .before .before .before .before .before .before .before .before .most-coefs in
+    let r = c .before .before .before .before .before .before .before .before .most-rhs in
+    let q = c .before .before .before .before .before .before .before .most-kinds in (
+      parts-ready (s .pre .0 .0) (s .pre .0 .1) (b .result) (k .result) (r .result) (q .result) (s .pre .0 .2) (b .ensures) (k .ensures) (r .ensures) (q .ensures)
+          (c .before .before .before .before .before .before .largest-table .ensures),
       s .pre .1,
     )
 
@@ -88,6 +98,7 @@ reduce-spec =
     most-bounds-requires
     most-coefs-requires
     most-rhs-requires
+    most-kinds-requires
     largest-table-requires
     mul-bounds-len
     mul-coefs-len
@@ -99,7 +110,9 @@ reduce-spec =
     slice-aggregate-reduce-in-2
     array-borrow-prefix-rhs
     slice-aggregate-reduce-in-3
-    array-borrow-prefix-table
+    array-borrow-prefix-kinds
     slice-aggregate-reduce-in-4
+    array-borrow-prefix-table
+    slice-aggregate-reduce-in-5
     reduce-in-requires
     returns)

@@ -39,12 +39,12 @@ same-length-3 c = search needs
 same-length-4 : tie.Need-same-length-4
 same-length-4 c = search needs
 
-returns : tie.Need-returns
-unfolding answerText
-returns c = λ t. c .refused .ensures t ∙ ap length (rw (c .before .before .before .number .given .1) at (c .before .before .before .before .before .before .before .before .before .before .solve .ensures .0))
-
 same-length-5 : tie.Need-same-length-5
 same-length-5 c = search needs
+
+returns : tie.Need-returns
+unfolding answerText
+returns c = λ t. c .refused .ensures t ∙ ap length (rw (c .before .before .before .number .given .1) at (c .before .before .before .before .before .before .before .before .before .before .before .before .solve .ensures .0))
 
 same-length-6 : tie.Need-same-length-6
 same-length-6 c = search needs
@@ -55,15 +55,15 @@ same-length-7 c = search needs
 same-length-8 : tie.Need-same-length-8
 same-length-8 c = search needs
 
-returns-2 : tie.Need-returns-2
-unfolding answerText
-returns-2 c = λ t. c .none .ensures t ∙ ap length (rw (c .before .before .enum-told .given .1) at (c .before .before .before .before .before .before .before .before .before .solve .ensures .0))
-
 same-length-9 : tie.Need-same-length-9
 same-length-9 c = search needs
 
 same-length-10 : tie.Need-same-length-10
 same-length-10 c = search needs
+
+returns-2 : tie.Need-returns-2
+unfolding answerText
+returns-2 c = λ t. c .none .ensures t ∙ ap length (rw (c .before .before .enum-told .given .1) at (c .before .before .before .before .before .before .before .before .before .before .before .solve .ensures .0))
 
 same-length-11 : tie.Need-same-length-11
 same-length-11 c = search needs
@@ -71,9 +71,18 @@ same-length-11 c = search needs
 same-length-12 : tie.Need-same-length-12
 same-length-12 c = search needs
 
+same-length-13 : tie.Need-same-length-13
+same-length-13 c = search needs
+
+same-length-14 : tie.Need-same-length-14
+same-length-14 c = search needs
+
+same-length-15 : tie.Need-same-length-15
+same-length-15 c = search needs
+
 returns-3 : tie.Need-returns-3
 unfolding answerText
-returns-3 c = λ t. c .reduced .ensures t ∙ ap length (rw (c .before .before .before .before .before .before .before .made .given .1) at (c .before .before .before .before .before .before .before .before .before .before .before .before .before .before .solve .ensures .0))
+returns-3 c = λ t. c .reduced .ensures t ∙ ap length (rw (c .before .before .before .before .before .before .before .made .given .1) at (c .before .before .before .before .before .before .before .before .before .before .before .before .before .before .before .before .solve .ensures .0))
 
 pub reduce-in-spec : {M : Type 1} → statement M
 reduce-in-spec =
@@ -90,14 +99,17 @@ reduce-in-spec =
     same-length-2
     same-length-3
     same-length-4
-    returns
     same-length-5
+    returns
     same-length-6
     same-length-7
     same-length-8
-    returns-2
     same-length-9
     same-length-10
+    returns-2
     same-length-11
     same-length-12
+    same-length-13
+    same-length-14
+    same-length-15
     returns-3)

@@ -8,6 +8,7 @@ use native.Mathlib.Omega.{arith}
 use Rattle.model.specs.Box.{isFree}
 use Rattle.probing.specs.Marked.{Marked}
 use Rattle.semantics.specs.Call.{callOf}
+use Rattle.model.specs.Rows.{rowsOf}
 use Rattle.model.specs.State.{stateOf}
 use Rattle.rounds.specs.Rounds.{probeCall, probes}
 use Rattle.rounds.proofs.RoundsLaws.{Turns, all-turns, call-turn, flag-kept, flag-raised, no-turn, skip-turn, turns-lengths, turns-valid}
@@ -15,18 +16,18 @@ use Rattle.rounds.proofs.probe_variables_marked.Statement.{statement}
 use Rattle.rounds.proofs.probe_variables_marked.Tie as tie
 
 abbrev Inv-loop : tie.InvT-loop
-Inv-loop n m bounds₀ coefs rhs table₀ across₀ signs₀ marks₀ changed₀ k₀ bounds table across signs marks changed k =
-    Turns n probeCall (stateOf n m bounds₀ coefs rhs table₀) (stateOf n m bounds coefs rhs table) changed k
-    × Marked n m bounds coefs rhs across signs marks
+Inv-loop n m bounds₀ coefs rhs kinds table₀ across₀ signs₀ marks₀ changed₀ k₀ bounds table across signs marks changed k =
+    Turns n probeCall (stateOf n m bounds₀ (rowsOf coefs rhs kinds) table₀) (stateOf n m bounds (rowsOf coefs rhs kinds) table) changed k
+    × Marked n m bounds (rowsOf coefs rhs kinds) across signs marks
     × (length across ≡ length across₀)
     × (length signs ≡ length signs₀)
 
 abbrev μ-loop : tie.MeasureT-loop
-μ-loop n m bounds₀ coefs rhs table₀ across₀ signs₀ marks₀ changed₀ k₀ bounds table across signs marks changed k = n - k
+μ-loop n m bounds₀ coefs rhs kinds table₀ across₀ signs₀ marks₀ changed₀ k₀ bounds table across signs marks changed k = n - k
 
 loop-holds : tie.Need-loop-holds Inv-loop μ-loop
 unfolding stateOf
-loop-holds c = let s = c .before .before .before .before in (no-turn (s .args .n) probeCall (s .pre .0), s .pre .1, refl, refl)
+loop-holds c = let s = c .before .before .before .before .before in (no-turn (s .args .n) probeCall (s .pre .0), s .pre .1, refl, refl)
 
 cast-loop : tie.Need-cast-loop Inv-loop μ-loop
 cast-loop c = omega arith
@@ -57,11 +58,11 @@ loop-again : tie.Need-loop-again Inv-loop μ-loop
 unfolding stateOf callOf probeCall
 loop-again c =
     let t = c .before .before .before in
-    let s = t .before .before .before .before .before .before in
+    let s = t .before .before .before .before .before .before .before in
     let l = t .before .loop in
     let known = sym (c .before .is-free .ensures) in
     let free = isFree (l .bounds) (l .k) in
-    let call = callOf (stateOf (s .args .n) (s .args .m) (l .bounds) (s .args .coefs .now) (s .args .rhs .now) (l .table)) 3 0 (l .k) 1000 in
+    let call = callOf (stateOf (s .args .n) (s .args .m) (l .bounds) (rowsOf (s .args .coefs .now) (s .args .rhs .now) (s .args .kinds .now)) (l .table)) 3 0 (l .k) 1000 in
     let f = probeCall in
     let h = t .loop-test .taken in
     ⊎-elim
@@ -69,16 +70,16 @@ loop-again c =
       call-turn (s .args .n) f (l .inv .0) free call refl h (known ∙ w .0 .taken) (e .0, e .1 .0) (w .16 .ensures)
           (flag-raised (l .changed) (w .17 .taken) (w .23)),
       e .1 .1,
-      w .6 .kept .1 .1 .1 .1 .1 .1 .1 .1 .0 ∙ l .inv .2,
-      w .6 .kept .1 .1 .1 .1 .1 .1 .1 .1 .1 .0 ∙ l .inv .3,
+      w .6 .kept .1 .1 .1 .1 .1 .1 .1 .1 .1 .0 ∙ l .inv .2,
+      w .6 .kept .1 .1 .1 .1 .1 .1 .1 .1 .1 .1 .0 ∙ l .inv .3,
     ))
     (⊎-elim
     (λ w. let e = w .6 .ensures in rw (w .18, w .19, w .20, w .21, w .22) (
       call-turn (s .args .n) f (l .inv .0) free call refl h (known ∙ w .0 .taken) (e .0, e .1 .0) (w .16 .ensures)
           (flag-kept (l .changed) (w .17 .left) (w .23)),
       e .1 .1,
-      w .6 .kept .1 .1 .1 .1 .1 .1 .1 .1 .0 ∙ l .inv .2,
-      w .6 .kept .1 .1 .1 .1 .1 .1 .1 .1 .1 .0 ∙ l .inv .3,
+      w .6 .kept .1 .1 .1 .1 .1 .1 .1 .1 .1 .0 ∙ l .inv .2,
+      w .6 .kept .1 .1 .1 .1 .1 .1 .1 .1 .1 .1 .0 ∙ l .inv .3,
     ))
     (λ w. rw (w .1, w .2, w .3, w .4, w .5) (skip-turn (s .args .n) f (l .inv .0) free call refl h (known ∙ w .0 .left) (w .6), l .inv .1, l .inv .2, l .inv .3)))
     (c .if1 .came)
@@ -98,12 +99,12 @@ same-length-4 : tie.Need-same-length-4 Inv-loop μ-loop
 same-length-4 c = c .before .loop .inv .3
 
 same-length-5 : tie.Need-same-length-5 Inv-loop μ-loop
-same-length-5 c = c .before .loop .inv .1 .len ∙ sym (c .before .before .before .before .before .before .pre .1 .len)
+same-length-5 c = c .before .loop .inv .1 .len ∙ sym (c .before .before .before .before .before .before .before .pre .1 .len)
 
 returns : tie.Need-returns Inv-loop μ-loop
 unfolding stateOf probes
 returns c =
-    let s = c .before .before .before .before .before .before in
+    let s = c .before .before .before .before .before .before .before in
     let p = all-turns (s .args .n) probeCall (c .before .loop .inv .0) (c .loop-test .left) in (p .left, p .changed)
 
 pub probe-variables-marked-spec : {M : Type 1} → statement M

@@ -2,6 +2,7 @@
 use Prim.Native.Nat.{_-_}
 use mathlib.Core.Logic.{⊎-elim}
 use native.Mathlib.Omega.{arith}
+use Rattle.model.specs.Rows.{rowsOf}
 use Rattle.model.specs.State.{stateOf}
 use Rattle.rounds.specs.Rounds.{tightenRow, tightenings}
 use Rattle.rounds.proofs.RoundsLaws.{Turns, all-turns, flag-kept, flag-raised, no-turn, turn, turns-lengths, turns-valid}
@@ -9,26 +10,26 @@ use Rattle.rounds.proofs.tighten_rows.Statement.{statement}
 use Rattle.rounds.proofs.tighten_rows.Tie as tie
 
 abbrev Inv-loop : tie.InvT-loop
-Inv-loop n m bounds₀ coefs₀ rhs₀ table₀ changed₀ r₀ bounds coefs rhs table changed r =
-    Turns m tightenRow (stateOf n m bounds₀ coefs₀ rhs₀ table₀) (stateOf n m bounds coefs rhs table) changed r
+Inv-loop n m bounds₀ coefs₀ rhs₀ kinds₀ table₀ changed₀ r₀ bounds coefs rhs kinds table changed r =
+    Turns m tightenRow (stateOf n m bounds₀ (rowsOf coefs₀ rhs₀ kinds₀) table₀) (stateOf n m bounds (rowsOf coefs rhs kinds) table) changed r
 
 abbrev μ-loop : tie.MeasureT-loop
-μ-loop n m bounds₀ coefs₀ rhs₀ table₀ changed₀ r₀ bounds coefs rhs table changed r = m - r
+μ-loop n m bounds₀ coefs₀ rhs₀ kinds₀ table₀ changed₀ r₀ bounds coefs rhs kinds table changed r = m - r
 
 loop-holds : tie.Need-loop-holds Inv-loop μ-loop
 unfolding stateOf
-loop-holds c = let s = c .before in no-turn (s .args .m) tightenRow (s .pre)
+loop-holds c = let s = c .before .before in no-turn (s .args .m) tightenRow (s .pre)
 
 cast-loop : tie.Need-cast-loop Inv-loop μ-loop
 cast-loop c = omega arith
 
 tighten-row-requires : tie.Need-tighten-row-requires Inv-loop μ-loop
-tighten-row-requires c κs = let t = c .before .before .before .before in (t .loop-test .taken, turns-valid (t .before .loop .inv))
+tighten-row-requires c κs = let t = c .before .before .before .before .before in (t .loop-test .taken, turns-valid (t .before .loop .inv))
 
 add-r : tie.Need-add-r Inv-loop μ-loop
 unfolding stateOf
 add-r c =
-    let t = c .before .before .before .before .before .before .before .before .before .before .before in
+    let t = c .before .before .before .before .before .before .before .before .before .before .before .before .before .before in
     omega (arith, t .loop-test .taken, turns-valid (t .before .loop .inv) .model .fewRows)
 
 loop-less : tie.Need-loop-less Inv-loop μ-loop
@@ -37,10 +38,10 @@ loop-less c = omega arith
 loop-again : tie.Need-loop-again Inv-loop μ-loop
 unfolding stateOf
 loop-again c =
-    let d = c .before .before .before .before .before .before in
-    let t = d .before .before .before .before .before in
+    let d = c .before .before .before .before .before .before .before .before in
+    let t = d .before .before .before .before .before .before in
     let l = t .before .loop in
-    turn (t .before .before .before .args .m) tightenRow (l .inv) (t .loop-test .taken)
+    turn (t .before .before .before .before .args .m) tightenRow (l .inv) (t .loop-test .taken)
     (record { left = d .tighten-row .ensures .0; changed = d .tighten-row .ensures .1 })
     (⊎-elim (λ w. flag-raised (l .changed) (w .0 .taken) (w .1)) (λ w. flag-kept (l .changed) (w .0 .left) (w .1)) (c .if1 .came))
 
@@ -58,12 +59,16 @@ same-length-3 c = turns-lengths (c .before .loop .inv) .rhs
 
 same-length-4 : tie.Need-same-length-4 Inv-loop μ-loop
 unfolding stateOf
-same-length-4 c = turns-lengths (c .before .loop .inv) .table
+same-length-4 c = turns-lengths (c .before .loop .inv) .kinds
+
+same-length-5 : tie.Need-same-length-5 Inv-loop μ-loop
+unfolding stateOf
+same-length-5 c = turns-lengths (c .before .loop .inv) .table
 
 returns : tie.Need-returns Inv-loop μ-loop
 unfolding stateOf tightenings
 returns c =
-    let s = c .before .before .before in
+    let s = c .before .before .before .before in
     let p = all-turns (s .args .m) tightenRow (c .before .loop .inv) (c .loop-test .left) in (p .left, p .changed)
 
 pub tighten-rows-spec : {M : Type 1} → statement M
@@ -82,4 +87,5 @@ tighten-rows-spec =
     same-length-2
     same-length-3
     same-length-4
+    same-length-5
     returns)

@@ -9,7 +9,7 @@ steps-at-requires c κs = search needs
 propagate-row-with-requires : tie.Need-propagate-row-with-requires
 propagate-row-with-requires c κs =
     let t = c .before in
-    let s = t .before .before in
+    let s = t .before .before .before in
     rw (t .steps-at .ensures) (s .pre .0 .0, s .pre .0 .1, s .pre .1 .good)
 
 same-length : tie.Need-same-length

@@ -22,19 +22,28 @@ mul-moves c = search needs
 shared-slice-copy-out-moves : tie.Need-shared-slice-copy-out-moves
 shared-slice-copy-out-moves c = search needs
 
+shared-slice-read-moves : tie.Need-shared-slice-read-moves
+shared-slice-read-moves c = search needs
+
 moves-requires : tie.Need-moves-requires
 moves-requires c κs =
-    let k = c .before in
-    let s = k .before in
+    let k = c .before .before in
+    let s = k .before .before in
     rw (k .coefficients .ensures, s .pre .1 .coefs .len, rhs-is s) (s .pre .1)
 
 returns : tie.Need-returns
 returns c =
-    let k = c .before .before in
-    let s = k .before in
+    let k = c .before .before .before in
+    let s = k .before .before in
     rw (k .coefficients .ensures, s .pre .1 .coefs .len, rhs-is s) at (c .moves .ensures)
 
 pub row-moves-at-spec : {M : Type 1} → statement M
 row-moves-at-spec =
     tie.close
-    (tie.spec coefficients-requires mul-moves shared-slice-copy-out-moves moves-requires returns)
+    (tie.spec
+    coefficients-requires
+    mul-moves
+    shared-slice-copy-out-moves
+    shared-slice-read-moves
+    moves-requires
+    returns)

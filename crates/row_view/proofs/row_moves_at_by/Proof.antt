@@ -25,18 +25,21 @@ mul-moves-by c = search needs
 shared-slice-copy-out-moves-by : tie.Need-shared-slice-copy-out-moves-by
 shared-slice-copy-out-moves-by c = search needs
 
+shared-slice-read-moves-by : tie.Need-shared-slice-read-moves-by
+shared-slice-read-moves-by c = search needs
+
 moves-by-requires : tie.Need-moves-by-requires
 moves-by-requires c κs =
-    let t = c .before in
+    let t = c .before .before in
     let k = t .before in
-    let s = k .before .before in
+    let s = k .before .before .before in
     rw (k .coefficients .ensures, t .steps-at .ensures, s .pre .0 .1 .coefs .len, rhs-is s) (s .pre .0 .1, s .pre .1 .good)
 
 returns : tie.Need-returns
 returns c =
-    let t = c .before .before in
+    let t = c .before .before .before in
     let k = t .before in
-    let s = k .before .before in
+    let s = k .before .before .before in
     rw (k .coefficients .ensures, s .pre .0 .1 .coefs .len, rhs-is s) at (c .moves-by .ensures)
 
 pub row-moves-at-by-spec : {M : Type 1} → statement M
@@ -47,5 +50,6 @@ row-moves-at-by-spec =
     steps-at-requires
     mul-moves-by
     shared-slice-copy-out-moves-by
+    shared-slice-read-moves-by
     moves-by-requires
     returns)

@@ -6,6 +6,7 @@ use mathlib.Core.List.{List}
 use mathlib.Core.Path.{_≡_, refl}
 use Rattle.model.specs.Valid.{ValidModel}
 use Rattle.semantics.specs.Call.{callOf, hasRow, hasVariable, Kind, kindOf, rowPropagation, removal, tightening}
+use Rattle.model.specs.Rows.{Rows, rowsOf}
 use Rattle.model.specs.State.{stateOf}
 use Rattle.model.specs.Model.{modelOf}
 use Rattle.semantics.proofs.Accepted.{Accepted, accepted}
@@ -28,20 +29,17 @@ module _ (s : tie.Start) where
   abbrev B : List ℤ
   B = s .args .bounds .now
 
-  abbrev C : List ℤ
-  C = s .args .coefs .now
-
-  abbrev R : List ℤ
-  R = s .args .rhs .now
+  abbrev A : Rows
+  A = rowsOf (s .args .coefs .now) (s .args .rhs .now) (s .args .kinds .now)
 
   abbrev t : List ℕ
   t = s .args .table .now
 
-  valid : ValidModel (modelOf n m B C R)
+  valid : ValidModel (modelOf n m B A)
   unfolding stateOf
   valid = s .pre .0 .model
 
-  is-accepted : (K : Kind) → kindOf (s .args .call .kind) ≡ K → let w = stateOf n m B C R t in
+  is-accepted : (K : Kind) → kindOf (s .args .call .kind) ≡ K → let w = stateOf n m B A t in
       Accepted K w (callOf w (s .args .call .kind) r (s .args .call .variable) (s .args .call .budget))
   unfolding callOf
   is-accepted K q = rw q at (accepted _ _ (s .pre .1))
@@ -51,18 +49,18 @@ cast-r c = search needs
 
 -- ---- a visit
 
-visits : (c : tie.At-match-keys1) → kindOf (c .before .before .before .args .call .kind) ≡ rowPropagation
+visits : (c : tie.At-match-keys1) → kindOf (c .before .before .before .before .args .call .kind) ≡ rowPropagation
 unfolding kindOf
 visits c = rw (c .match .keys1)
 
-visit-row : (c : tie.At-match-keys1) → r (c .before .before .before) < m (c .before .before .before)
+visit-row : (c : tie.At-match-keys1) → r (c .before .before .before .before) < m (c .before .before .before .before)
 unfolding stateOf callOf hasRow
-visit-row c = is-accepted (c .before .before .before) rowPropagation (visits c) .row tt
+visit-row c = is-accepted (c .before .before .before .before) rowPropagation (visits c) .row tt
 
 propagate-row-at-requires : tie.Need-propagate-row-at-requires
 propagate-row-at-requires c κs =
-    let a = c .before .before .before in
-    let s = a .before .before .before in
+    let a = c .before .before .before .before in
+    let s = a .before .before .before .before in
     let v = valid s in
     let h = visit-row a in
     (row-in v (r s) h, valid-row v (r s) h (v .box))
@@ -73,7 +71,7 @@ class-of-row-requires c κs = search needs
 -- ---- a settle
 
 propagate-requires : tie.Need-propagate-requires
-propagate-requires c κs = valid (c .before .before .before .before .before .before)
+propagate-requires c κs = valid (c .before .before .before .before .before .before .before .before)
 
 class-of-propagation-requires : tie.Need-class-of-propagation-requires
 class-of-propagation-requires c κs = search needs
@@ -82,54 +80,54 @@ class-of-propagation-requires c κs = search needs
 
 run-probe-requires : tie.Need-run-probe-requires
 run-probe-requires c κs =
-    let a = c .before .before .before .before in
-    let s = a .before .before .before in
-    (s .pre .0, fault-probed (n s) (m s) (B s) (C s) (R s) (t s) (s .args .call .kind) (r s) (s .args .call .variable) (s .args .call .budget) (a .match .keys3) (s .pre .1))
+    let a = c .before .before .before .before .before in
+    let s = a .before .before .before .before in
+    (s .pre .0, fault-probed (n s) (m s) (B s) (A s) (t s) (s .args .call .kind) (r s) (s .args .call .variable) (s .args .call .budget) (a .match .keys3) (s .pre .1))
 
 -- ---- a sharpen
 
-tighten-is : (c : tie.At-match-keys4) → kindOf (c .before .before .before .args .call .kind) ≡ tightening
+tighten-is : (c : tie.At-match-keys4) → kindOf (c .before .before .before .before .args .call .kind) ≡ tightening
 unfolding kindOf
 tighten-is c = rw (c .match .keys4)
 
-tighten-row : (c : tie.At-match-keys4) → r (c .before .before .before) < m (c .before .before .before)
+tighten-row : (c : tie.At-match-keys4) → r (c .before .before .before .before) < m (c .before .before .before .before)
 unfolding stateOf callOf hasRow
-tighten-row c = is-accepted (c .before .before .before) tightening (tighten-is c) .row tt
+tighten-row c = is-accepted (c .before .before .before .before) tightening (tighten-is c) .row tt
 
-tighten-variable : (c : tie.At-match-keys4) → c .before .before .before .args .call .variable < n (c .before .before .before)
+tighten-variable : (c : tie.At-match-keys4) → c .before .before .before .before .args .call .variable < n (c .before .before .before .before)
 unfolding stateOf callOf hasVariable
-tighten-variable c = is-accepted (c .before .before .before) tightening (tighten-is c) .variable tt
+tighten-variable c = is-accepted (c .before .before .before .before) tightening (tighten-is c) .variable tt
 
 cast-tighten-coefficient-at : tie.Need-cast-tighten-coefficient-at
 cast-tighten-coefficient-at c = search needs
 
 tighten-coefficient-at-requires : tie.Need-tighten-coefficient-at-requires
 tighten-coefficient-at-requires c κs =
-    let a = c .before .before .before .before in
-    let s = a .before .before .before in
+    let a = c .before .before .before .before .before in
+    let s = a .before .before .before .before in
     let v = valid s in
     let h = tighten-row a in
-    (row-in v (r s) h, (valid-row v (r s) h (v .box), tighten-variable a))
+    ((row-in v (r s) h, valid-row v (r s) h (v .box)), tighten-variable a)
 
 class-of-tightening-requires : tie.Need-class-of-tightening-requires
 class-of-tightening-requires c κs = search needs
 
 -- ---- a drop
 
-remove-is : (c : tie.At-match-rest) → kindOf (c .before .before .before .args .call .kind) ≡ removal
+remove-is : (c : tie.At-match-rest) → kindOf (c .before .before .before .before .args .call .kind) ≡ removal
 remove-is c =
-    let s = c .before .before .before in
+    let s = c .before .before .before .before in
     let o = c .match .rest in
     kind-removes (s .args .call .kind) (is-accepted s (kindOf (s .args .call .kind)) refl .kind) (o .0 .0 .0 .1) (o .0 .0 .1) (o .0 .1) (o .1)
 
-remove-row : (c : tie.At-match-rest) → r (c .before .before .before) < m (c .before .before .before)
+remove-row : (c : tie.At-match-rest) → r (c .before .before .before .before) < m (c .before .before .before .before)
 unfolding stateOf callOf hasRow
-remove-row c = is-accepted (c .before .before .before) removal (remove-is c) .row tt
+remove-row c = is-accepted (c .before .before .before .before) removal (remove-is c) .row tt
 
 remove-redundant-row-at-requires : tie.Need-remove-redundant-row-at-requires
 remove-redundant-row-at-requires c κs =
-    let a = c .before .before .before in
-    let s = a .before .before .before in
+    let a = c .before .before .before .before in
+    let s = a .before .before .before .before in
     let v = valid s in
     let h = remove-row a in
     (row-in v (r s) h, valid-row v (r s) h (v .box))
@@ -148,16 +146,16 @@ same-length-2 c = search needs
 same-length-3 : tie.Need-same-length-3
 same-length-3 c = search needs
 
-returns : tie.Need-returns
-returns c =
-    let a = c .before .before .before .before .before .before in
-    let s = a .before .before .before in
-    ran-visit (n s) (m s) (B s) (C s) (R s) (t s) (s .args .call .kind) (r s) (s .args .call .variable) (s .args .call .budget) (s .pre .1) _ _ (visits a)
-    (c .class-of-row .ensures)
-    (c .before .before .propagate-row-at .ensures)
-
 same-length-4 : tie.Need-same-length-4
 same-length-4 c = search needs
+
+returns : tie.Need-returns
+returns c =
+    let a = c .before .before .before .before .before .before .before in
+    let s = a .before .before .before .before in
+    ran-visit (n s) (m s) (B s) (A s) (t s) (s .args .call .kind) (r s) (s .args .call .variable) (s .args .call .budget) (s .pre .1) _ _ (visits a)
+    (c .class-of-row .ensures)
+    (c .before .before .propagate-row-at .ensures)
 
 same-length-5 : tie.Need-same-length-5
 same-length-5 c = search needs
@@ -165,32 +163,25 @@ same-length-5 c = search needs
 same-length-6 : tie.Need-same-length-6
 same-length-6 c = search needs
 
-returns-2 : tie.Need-returns-2
-unfolding kindOf
-returns-2 c =
-    let a = c .before .before .before .before .before .before in
-    let s = a .before .before .before in
-    ran-settle (n s) (m s) (B s) (C s) (R s) (t s) (s .args .call .kind) (r s) (s .args .call .variable) (s .args .call .budget) (s .pre .1) _ _ (rw (a .match .keys2))
-    (c .class-of-propagation .ensures) (c .before .before .propagate .ensures)
-
 same-length-7 : tie.Need-same-length-7
 same-length-7 c = search needs
 
 same-length-8 : tie.Need-same-length-8
 same-length-8 c = search needs
 
+returns-2 : tie.Need-returns-2
+unfolding kindOf
+returns-2 c =
+    let a = c .before .before .before .before .before .before .before in
+    let s = a .before .before .before .before in
+    ran-settle (n s) (m s) (B s) (A s) (t s) (s .args .call .kind) (r s) (s .args .call .variable) (s .args .call .budget) (s .pre .1) _ _ (rw (a .match .keys2))
+    (c .class-of-propagation .ensures) (c .before .before .propagate .ensures)
+
 same-length-9 : tie.Need-same-length-9
 same-length-9 c = search needs
 
 same-length-10 : tie.Need-same-length-10
 same-length-10 c = search needs
-
-returns-3 : tie.Need-returns-3
-returns-3 c =
-    let a = c .before .before .before .before .before .before .before .before in
-    let s = a .before .before .before in
-    ran-probed (n s) (m s) (B s) (C s) (R s) (t s) (s .args .call .kind) (r s) (s .args .call .variable) (s .args .call .budget) (a .match .keys3)
-    (c .before .before .before .run-probe .ensures)
 
 same-length-11 : tie.Need-same-length-11
 same-length-11 c = search needs
@@ -201,14 +192,12 @@ same-length-12 c = search needs
 same-length-13 : tie.Need-same-length-13
 same-length-13 c = search needs
 
-returns-4 : tie.Need-returns-4
-returns-4 c =
-    let a = c .before .before .before .before .before .before .before .before in
-    let s = a .before .before .before in
-    ran-tighten (n s) (m s) (B s) (C s) (R s) (t s) (s .args .call .kind) (r s) (s .args .call .variable) (s .args .call .budget) (s .pre .1)
-    (tighten-is a)
-    (c .class-of-tightening .ensures)
-    (c .before .before .before .tighten-coefficient-at .ensures)
+returns-3 : tie.Need-returns-3
+returns-3 c =
+    let a = c .before .before .before .before .before .before .before .before .before in
+    let s = a .before .before .before .before in
+    ran-probed (n s) (m s) (B s) (A s) (t s) (s .args .call .kind) (r s) (s .args .call .variable) (s .args .call .budget) (a .match .keys3)
+    (c .before .before .before .run-probe .ensures)
 
 same-length-14 : tie.Need-same-length-14
 same-length-14 c = search needs
@@ -219,14 +208,38 @@ same-length-15 c = search needs
 same-length-16 : tie.Need-same-length-16
 same-length-16 c = search needs
 
+same-length-17 : tie.Need-same-length-17
+same-length-17 c = search needs
+
+returns-4 : tie.Need-returns-4
+returns-4 c =
+    let a = c .before .before .before .before .before .before .before .before .before in
+    let s = a .before .before .before .before in
+    ran-tighten (n s) (m s) (B s) (A s) (t s) (s .args .call .kind) (r s) (s .args .call .variable) (s .args .call .budget) (s .pre .1)
+    (tighten-is a)
+    (c .class-of-tightening .ensures)
+    (c .before .before .before .tighten-coefficient-at .ensures)
+
+same-length-18 : tie.Need-same-length-18
+same-length-18 c = search needs
+
+same-length-19 : tie.Need-same-length-19
+same-length-19 c = search needs
+
+same-length-20 : tie.Need-same-length-20
+same-length-20 c = search needs
+
+same-length-21 : tie.Need-same-length-21
+same-length-21 c = search needs
+
 returns-5 : tie.Need-returns-5
 returns-5 c =
-    let a = c .before .before .before .before .before .before .before in
-    let s = a .before .before .before in
-    ran-remove (n s) (m s) (B s) (C s) (R s) (t s) (s .args .call .kind) (r s) (s .args .call .variable) (s .args .call .budget) (s .pre .1)
+    let a = c .before .before .before .before .before .before .before .before .before .before in
+    let s = a .before .before .before .before in
+    ran-remove (n s) (m s) (B s) (A s) (t s) (s .args .call .kind) (r s) (s .args .call .variable) (s .args .call .budget) (s .pre .1)
     (remove-is a)
     (c .class-of-removal .ensures)
-    (c .before .before .before .remove-redundant-row-at .ensures)
+    (c .before .before .before .before .before .remove-redundant-row-at .ensures)
 
 pub run-accepted-spec : {M : Type 1} → statement M
 run-accepted-spec =
@@ -246,21 +259,26 @@ run-accepted-spec =
     same-length
     same-length-2
     same-length-3
-    returns
     same-length-4
+    returns
     same-length-5
     same-length-6
-    returns-2
     same-length-7
     same-length-8
+    returns-2
     same-length-9
     same-length-10
-    returns-3
     same-length-11
     same-length-12
     same-length-13
-    returns-4
+    returns-3
     same-length-14
     same-length-15
     same-length-16
+    same-length-17
+    returns-4
+    same-length-18
+    same-length-19
+    same-length-20
+    same-length-21
     returns-5)

@@ -16,7 +16,7 @@ slice-aggregate-run-probe-marked-3 c = search needs
 
 run-probe-marked-requires : tie.Need-run-probe-marked-requires
 unfolding stateOf
-run-probe-marked-requires c κs = let p = c .before .before .before .before .before .before .pre in (p .0, (p .1, marked-none (p .0 .model)))
+run-probe-marked-requires c κs = let p = c .before .before .before .before .before .before .before .pre in (p .0, (p .1, marked-none (p .0 .model)))
 
 same-length : tie.Need-same-length
 same-length c = search needs

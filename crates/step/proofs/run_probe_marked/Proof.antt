@@ -12,6 +12,7 @@ use Rattle.integer.proofs.Tests.{eqb-test, test-false}
 use Rattle.model.specs.Box.{sameList}
 use Rattle.semantics.specs.Run.{CallClass, changedCall, probeInfeasible, unchangedCall}
 use Rattle.semantics.specs.Call.{callOf, hasVariable, kindOf}
+use Rattle.model.specs.Rows.{rowsOf}
 use Rattle.model.specs.State.{stateOf}
 use Rattle.semantics.proofs.Accepted.{accepted}
 use Rattle.semantics.proofs.ClassLaws.{addsNone, classBy}
@@ -25,27 +26,27 @@ use Rattle.step.proofs.run_probe_marked.Tie as tie
 
 array-borrow-prefix-before : tie.Need-array-borrow-prefix-before
 unfolding stateOf
-array-borrow-prefix-before c = box-small (c .before .before .before .before .before .pre .0 .model)
+array-borrow-prefix-before c = box-small (c .before .before .before .before .before .before .pre .0 .model)
 
 slice-aggregate-copy-box : tie.Need-slice-aggregate-copy-box
 unfolding stateOf
-slice-aggregate-copy-box c = sym (box-room (c .before .before .before .before .before .before .pre .0 .model))
+slice-aggregate-copy-box c = sym (box-room (c .before .before .before .before .before .before .before .pre .0 .model))
 
 copy-box-requires : tie.Need-copy-box-requires
 unfolding stateOf
-copy-box-requires c κs = sym (box-room (c .before .before .before .before .before .before .pre .0 .model))
+copy-box-requires c κs = sym (box-room (c .before .before .before .before .before .before .before .pre .0 .model))
 
 probe-marked-requires : tie.Need-probe-marked-requires
 unfolding stateOf callOf kindOf hasVariable
 probe-marked-requires c κs =
-    let s = c .before .before .before .before .before .before .before .before .before .before .before .before .before in
+    let s = c .before .before .before .before .before .before .before .before .before .before .before .before .before .before in
     let a = accepted _ _ (s .pre .1 .0) in
     (s .pre .0 .model, (s .pre .0 .table, (a .free tt, (a .variable tt, s .pre .1 .1))))
 
 -- what the probing answers and leaves
 module _ (d : tie.After-probe-marked) where
   abbrev s : tie.Start
-  s = d .before .before .before .before .before .before .before .before .before .before .before .before .before .before
+  s = d .before .before .before .before .before .before .before .before .before .before .before .before .before .before .before
 
   abbrev B : List ℤ
   B = s .args .bounds .now
@@ -54,17 +55,17 @@ module _ (d : tie.After-probe-marked) where
   Q = d .probe-marked .last .1 .1 .0
 
   abbrev t : List ℕ
-  t = d .probe-marked .last .1 .1 .1 .1 .1 .0
+  t = d .probe-marked .last .1 .1 .1 .1 .1 .1 .0
 
   done : {v : Probing} {k : CallClass} → d .probe-marked .result ≡ v → let w = probingOf v Q t in
       k ≡ classBy (probeInfeasible (w .ending)) (addsNone (w .ending) && sameList B (w .box))
       → let a = s .args in
-      Ran (a .n) (a .m) B (a .coefs .now) (a .rhs .now) (a .table .now) 3 0 (a .variable) (a .budget) k
-      (stateOf (a .n) (a .m) (w .box) (a .coefs .now) (a .rhs .now) (w .table))
+      Ran (a .n) (a .m) B (rowsOf (a .coefs .now) (a .rhs .now) (a .kinds .now)) (a .table .now) 3 0 (a .variable) (a .budget) k
+      (stateOf (a .n) (a .m) (w .box) (rowsOf (a .coefs .now) (a .rhs .now) (a .kinds .now)) (w .table))
   unfolding kindOf
   done e h =
       let a = s .args in
-      ran-probe (a .n) (a .m) B (a .coefs .now) (a .rhs .now) (a .table .now) 3 0 (a .variable) (a .budget) (s .pre .1 .0) _ refl h
+      ran-probe (a .n) (a .m) B (rowsOf (a .coefs .now) (a .rhs .now) (a .kinds .now)) (a .table .now) 3 0 (a .variable) (a .budget) (s .pre .1 .0) _ refl h
       (ap (λ v. probingOf v Q t) (sym e) ∙ d .probe-marked .ensures .0)
 
   -- the copy

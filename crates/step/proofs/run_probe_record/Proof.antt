@@ -2,6 +2,7 @@
 use mathlib.Core.Path.{_∙_, _≡_, refl, sym}
 use Rattle.semantics.specs.CallChecks.{callFault, recordChecks}
 use Rattle.semantics.specs.Call.{Call, callOf}
+use Rattle.model.specs.Rows.{rowsOf}
 use Rattle.model.specs.State.{State, stateOf}
 use Rattle.semantics.proofs.Accepted.{fault-of-valid}
 use Rattle.semantics.proofs.ClassLaws.{class-refused}
@@ -11,19 +12,19 @@ use Rattle.step.proofs.run_probe_record.Statement.{statement}
 use Rattle.step.proofs.run_probe_record.Tie as tie
 
 abbrev state : tie.Start → State
-state s = let a = s .args in stateOf (a .n) (a .m) (a .bounds .now) (a .coefs .now) (a .rhs .now) (a .table .now)
+state s = let a = s .args in stateOf (a .n) (a .m) (a .bounds .now) (rowsOf (a .coefs .now) (a .rhs .now) (a .kinds .now)) (a .table .now)
 
 abbrev call : tie.Start → Call
 call s = callOf (state s) 3 0 (s .args .variable) (s .args .budget)
 
 record-fault-requires : tie.Need-record-fault-requires
 unfolding stateOf
-record-fault-requires c κs = let v = c .before .before .before .before .before .pre .0 .model in (v .box, v .some)
+record-fault-requires c κs = let v = c .before .before .before .before .before .before .pre .0 .model in (v .box, v .some)
 
 -- the checks that were made are those of the whole call
-fault-is : (c : tie.After-record-fault) → let s = c .before .before .before .before .before .before in c .record-fault .result ≡ callFault (state s) (call s)
+fault-is : (c : tie.After-record-fault) → let s = c .before .before .before .before .before .before .before in c .record-fault .result ≡ callFault (state s) (call s)
 unfolding stateOf callOf recordChecks
-fault-is c = let s = c .before .before .before .before .before .before in c .record-fault .ensures ∙ sym (fault-of-valid (state s) (call s) (s .pre .0) refl refl refl)
+fault-is c = let s = c .before .before .before .before .before .before .before in c .record-fault .ensures ∙ sym (fault-of-valid (state s) (call s) (s .pre .0) refl refl refl)
 
 same-length : tie.Need-same-length
 same-length c = search needs
@@ -31,14 +32,14 @@ same-length c = search needs
 returns : tie.Need-returns
 unfolding classIs
 returns c =
-    let s = c .before .before .before .before .before .before .before in
+    let s = c .before .before .before .before .before .before .before .before in
     let w = class-refused (state s) (call s) (λ e. c .if1 .taken (fault-is (c .before) ∙ e)) in
     (w .0, (w .1, s .pre .1))
 
 run-probe-marked-requires : tie.Need-run-probe-marked-requires
 run-probe-marked-requires c κs =
     let e = c .before .before .before .before .before in
-    let s = c .before .before .before .before .before .before .before .before .before .before .before .before in
+    let s = c .before .before .before .before .before .before .before .before .before .before .before .before .before in
     (s .pre .0, (sym (fault-is (e .before)) ∙ e .if1 .left, s .pre .1))
 
 same-length-2 : tie.Need-same-length-2

@@ -1,7 +1,7 @@
--- `sweep::reach_by`: the invariant says that the sum and the greatest width are those of the terms so far, and a step passes only over
--- terms that are 0. Assumes nothing.
+-- `sweep::reach_by`: the invariant says that the sum and the greatest width are those of the terms so far, each coefficient read with
+-- its sign (`signed-bits`), and a step passes only over terms that are 0. Assumes nothing.
 use Prim.Native.Nat.{_*_, _+_, _-_, _<_, _≤_, ℕ}
-use lib.IntN.{ℤ}
+use lib.IntN.{_*ℤ_, ℤ}
 use lib.ListN.{getD, length}
 use mathlib.Core.List.{List}
 use mathlib.Core.Path.{_∙_, _≡_, ap, refl, sym}
@@ -15,21 +15,24 @@ use Rattle.integer.specs.Range.{Within}
 use Rattle.integer.proofs.RangeLaws.{within-fits}
 use Rattle.model.specs.Box.{at, lower, upper}
 use Rattle.row.specs.Activity.{greatest, minActivity, widestTerm}
+use Rattle.row.specs.Kinds.{signed}
 use Rattle.row.specs.ValidRow.{ValidCoefs}
 use Rattle.row.proofs.ReachLaws.{greatest-more, minTermAt, widthAt}
 use Rattle.row.proofs.RowLoops.{bounds-small, coefs-small, min-terms, turn, turn-fits}
-use Rattle.sweep.proofs.StepLaws.{step-sum, step-widest}
+use Rattle.row.proofs.SignedLaws.{sign-bits, sign-is, signed-bits, signed-coefs, signed-fits}
+use Rattle.sweep.specs.Steps.{Steps}
+use Rattle.sweep.proofs.StepLaws.{signed-steps, step-sum, step-widest}
 use Rattle.sweep.proofs.reach_by.Statement.{statement}
 use Rattle.sweep.proofs.reach_by.Tie as tie
 
 abbrev Inv-loop : tie.InvT-loop
-Inv-loop coefs steps bounds least₀ widest₀ j₀ least widest j =
+Inv-loop coefs steps sign bounds least₀ widest₀ j₀ least widest j =
     (j ≤ length coefs)
-    × (toZ w64 least ≡ total j (minTermAt coefs bounds))
-    × (toZ w64 widest ≡ greatest j (widthAt coefs bounds))
+    × (toZ w64 least ≡ total j (minTermAt (signed (toZ w32 sign) coefs) bounds))
+    × (toZ w64 widest ≡ greatest j (widthAt (signed (toZ w32 sign) coefs) bounds))
 
 abbrev μ-loop : tie.MeasureT-loop
-μ-loop coefs steps bounds least₀ widest₀ j₀ least widest j = length coefs - j
+μ-loop coefs steps sign bounds least₀ widest₀ j₀ least widest j = length coefs - j
 
 loop-holds : tie.Need-loop-holds Inv-loop μ-loop
 unfolding total greatest
@@ -41,31 +44,46 @@ mul-a c = omega arith
 shared-slice-copy-out-a : tie.Need-shared-slice-copy-out-a Inv-loop μ-loop
 shared-slice-copy-out-a c = omega arith
 
--- the row, and the variable that the turn comes to
+-- the row with its sign, and the variable that the turn comes to
 module _ (h : tie.At-loop Inv-loop μ-loop) where
+  abbrev s : tie.Start Inv-loop μ-loop
+  s = h .before .before
+
+  abbrev C : List ℤ
+  C = s .args .coefs .now
+
   abbrev A : List ℤ
-  A = h .before .before .args .coefs .now
+  A = signed (toZ w32 (ofZ w32 (s .args .sign))) C
 
   abbrev B : List ℤ
-  B = h .before .before .args .bounds .now
+  B = s .args .bounds .now
+
+  abbrev S : List ℕ
+  S = s .args .steps .now
 
   abbrev j : ℕ
   j = h .loop .j
 
-  abbrev v : ValidCoefs (length A) A B
-  v = h .before .before .pre .0
+  v : ValidCoefs (length C) A B
+  v = signed-coefs (sign-bits (s .pre .1 .1)) (s .pre .0)
+
+  steps : Steps (length C) A S
+  steps = signed-steps (toZ w32 (ofZ w32 (s .args .sign))) (s .pre .1 .0)
 
   small : Within 1_000_000 (at A j) × (Within 32_768 (lower B j) × Within 32_768 (upper B j))
   small = (coefs-small v j, (bounds-small v (2 * j), bounds-small v (2 * j + 1)))
 
-  a-is : toZ w32 (ofZ w32 (at A j)) ≡ at A j
-  a-is = toZ-ofZ {w = w32} (within-fits w32 tt (small .0))
+  a-is : toZ w32 (ofZ w32 (toZ w32 (ofZ w32 (s .args .sign)) *ℤ toZ w32 (ofZ w32 (at C j)))) ≡ at A j
+  a-is = signed-bits (s .pre .1 .1) C j (coefs-small (s .pre .0) j)
 
   l-is : toZ w32 (ofZ w32 (lower B j)) ≡ lower B j
   l-is = toZ-ofZ {w = w32} (within-fits w32 tt (small .1 .0))
 
   u-is : toZ w32 (ofZ w32 (upper B j)) ≡ upper B j
   u-is = toZ-ofZ {w = w32} (within-fits w32 tt (small .1 .1))
+
+mul-a-2 : tie.Need-mul-a-2 Inv-loop μ-loop
+mul-a-2 c = let h = c .before .before in signed-fits (s h .pre .1 .1) (C h) (j h) (coefs-small (s h .pre .0) (j h))
 
 mul-low : tie.Need-mul-low Inv-loop μ-loop
 mul-low c = omega arith
@@ -107,17 +125,14 @@ wider-requires c κs = let h = head c in rw (a-is h, l-is h, u-is h) (small h)
 
 -- the next variable
 module _ (h : tie.At-loop Inv-loop μ-loop) where
-  abbrev S : List ℕ
-  S = h .before .before .args .steps .now
+  step-in : j h < length (C h) → j h + getD (S h) (j h) 0 ≤ length (C h)
+  step-in k = steps h .within (j h) k
 
-  step-in : j h < length (A h) → j h + getD S (j h) 0 ≤ length (A h)
-  step-in k = h .before .before .pre .1 .within (j h) k
-
-  step-on : j h < length (A h) → 0 < getD S (j h) 0
-  step-on k = h .before .before .pre .1 .forward (j h) k
+  step-on : j h < length (C h) → 0 < getD (S h) (j h) 0
+  step-on k = steps h .forward (j h) k
 
 shared-slice-read-j : tie.Need-shared-slice-read-j Inv-loop μ-loop
-shared-slice-read-j c = let h = head (c .before .before) in omega (arith, h .before .before .pre .1 .len)
+shared-slice-read-j c = let h = head (c .before .before) in omega (arith, steps h .len)
 
 cast-j : tie.Need-cast-j Inv-loop μ-loop
 cast-j c = omega (arith, step-in (head (c .before .before)) (omega arith))
@@ -132,23 +147,26 @@ loop-again : tie.Need-loop-again Inv-loop μ-loop
 loop-again c =
     let t = c .before .before in
     let h = head t in
-    let k : j h < length (A h) = omega arith in (
+    let k : j h < length (C h) = omega arith in (
       step-in h k,
-      toZ-ofZ (add-least t) ∙ turn (min-terms (v h)) (j h) (h .loop .inv .1) (next t) ∙ step-sum (h .before .before .pre .1) k (B h),
+      toZ-ofZ (add-least t) ∙ turn (min-terms (v h)) (j h) (h .loop .inv .1) (next t) ∙ step-sum (steps h) k (B h),
       toZ-ofZ {w = w64} (record { sfits = c .before .wider .ok })
           ∙ (rw (a-is h, l-is h, u-is h) at (c .before .wider .ensures))
           ∙ ap (λ (x : ℤ). maxZ x (widthAt (A h) (B h) (j h))) (h .loop .inv .2)
           ∙ sym (greatest-more (widthAt (A h) (B h)) (j h))
-          ∙ step-widest (h .before .before .pre .1) k (B h),
+          ∙ step-widest (steps h) k (B h),
     )
 
 returns : tie.Need-returns Inv-loop μ-loop
 unfolding minActivity widestTerm
 returns c =
     let h = c .before in
-    let end : h .loop .j ≡ length (A h) = omega arith in (
-      h .loop .inv .1 ∙ ap (λ (i : ℕ). total i (minTermAt (A h) (B h))) end,
-      h .loop .inv .2 ∙ ap (λ (i : ℕ). greatest i (widthAt (A h) (B h))) end,
+    let end : h .loop .j ≡ length (C h) = omega arith in
+    let e = sign-is (s h .pre .1 .1) in (
+      h .loop .inv .1 ∙ ap (λ (i : ℕ). total i (minTermAt (A h) (B h))) end
+          ∙ ap (λ (z : ℤ). total (length (C h)) (minTermAt (signed z (C h)) (B h))) e,
+      h .loop .inv .2 ∙ ap (λ (i : ℕ). greatest i (widthAt (A h) (B h))) end
+          ∙ ap (λ (z : ℤ). greatest (length (C h)) (widthAt (signed z (C h)) (B h))) e,
     )
 
 pub reach-by-spec : {M : Type 1} → statement M
@@ -160,6 +178,7 @@ reach-by-spec =
     loop-holds
     mul-a
     shared-slice-copy-out-a
+    mul-a-2
     mul-low
     mul-low-2
     shared-slice-copy-out-low

@@ -2,7 +2,7 @@
 -- that `moved` tells how many of them differ (`moved-more`, `step-moved`). A variable not yet visited has its old bounds
 -- (`writeTo-late`). Assumes nothing.
 use Prim.Native.Nat.{_+_, _-_, _<_, _≤_, ℕ}
-use lib.IntN.{ℤ}
+use lib.IntN.{_*ℤ_, ℤ}
 use lib.ListN.{getD, length}
 use mathlib.Core.List.{List}
 use mathlib.Core.Logic.{inl, inr, ⊎-elim}
@@ -11,26 +11,29 @@ use mir.Facts.{toZ-ofZ}
 use mir.Syntax.{w32, w64}
 use mir.Val.{ofZ, toZ}
 use native.Mathlib.Omega.{arith}
-use Rattle.integer.proofs.RangeLaws.{within-fits}
 use Rattle.model.specs.Box.{at, lower, upper}
 use Rattle.model.proofs.BoxLoops.{writeTo}
+use Rattle.row.specs.Kinds.{signed}
 use Rattle.row.specs.Moved.{movedBounds}
 use Rattle.row.specs.Propagation.{impliedBox}
+use Rattle.row.specs.ValidRow.{ImpliesBox}
 use Rattle.row.proofs.MovedLaws.{moved-le}
 use Rattle.row.proofs.RowLoops.{implies-at, lower-there, moved-more, movedTo, tighten-all, tighten-more, tightenTo, upper-there}
-use Rattle.sweep.proofs.StepLaws.{step-box, step-moved}
+use Rattle.row.proofs.SignedLaws.{sign-bits, sign-is, signed-bits, signed-fits, signed-implies}
+use Rattle.sweep.specs.Steps.{Steps}
+use Rattle.sweep.proofs.StepLaws.{signed-steps, step-box, step-moved}
 use Rattle.sweep.proofs.tighten_bounds_by.Statement.{statement}
 use Rattle.sweep.proofs.tighten_bounds_by.Tie as tie
 
 abbrev Inv-loop : tie.InvT-loop
-Inv-loop coefs steps b least bounds₀ moved₀ j₀ bounds moved j =
+Inv-loop coefs steps sign b least bounds₀ moved₀ j₀ bounds moved j =
     (j ≤ length coefs)
     × (length bounds ≡ length bounds₀)
-    × (bounds ≡ tightenTo coefs (toZ w64 b) (toZ w64 least) bounds₀ j)
-    × (moved ≡ movedTo coefs (toZ w64 b) (toZ w64 least) bounds₀ (length coefs) j)
+    × (bounds ≡ tightenTo (signed (toZ w32 sign) coefs) (toZ w64 b) (toZ w64 least) bounds₀ j)
+    × (moved ≡ movedTo (signed (toZ w32 sign) coefs) (toZ w64 b) (toZ w64 least) bounds₀ (length coefs) j)
 
 abbrev μ-loop : tie.MeasureT-loop
-μ-loop coefs steps b least bounds₀ moved₀ j₀ bounds moved j = length coefs - j
+μ-loop coefs steps sign b least bounds₀ moved₀ j₀ bounds moved j = length coefs - j
 
 loop-holds : tie.Need-loop-holds Inv-loop μ-loop
 unfolding writeTo movedBounds
@@ -48,8 +51,11 @@ module _ (h : tie.At-loop Inv-loop μ-loop) where
   abbrev s : tie.Start Inv-loop μ-loop
   s = h .before .before
 
+  abbrev C : List ℤ
+  C = s .args .coefs .now
+
   abbrev A : List ℤ
-  A = s .args .coefs .now
+  A = signed (toZ w32 (ofZ w32 (s .args .sign))) C
 
   abbrev B : List ℤ
   B = s .args .bounds .now
@@ -63,8 +69,14 @@ module _ (h : tie.At-loop Inv-loop μ-loop) where
   abbrev j : ℕ
   j = h .loop .j
 
-  a-is : toZ w32 (ofZ w32 (at A j)) ≡ at A j
-  a-is = toZ-ofZ {w = w32} (within-fits w32 tt (s .pre .0 .coefs j))
+  v : ImpliesBox (length C) A (s .args .b) (s .args .least) B
+  v = signed-implies (sign-bits (s .pre .1 .1)) (s .pre .0)
+
+  steps : Steps (length C) A (s .args .steps .now)
+  steps = signed-steps (toZ w32 (ofZ w32 (s .args .sign))) (s .pre .1 .0)
+
+  a-is : toZ w32 (ofZ w32 (toZ w32 (ofZ w32 (s .args .sign)) *ℤ toZ w32 (ofZ w32 (at C j)))) ≡ at A j
+  a-is = signed-bits (s .pre .1 .1) C j (s .pre .0 .coefs j)
 
   b-is : b ≡ s .args .b
   b-is = toZ-ofZ {w = w64} (s .fits .b)
@@ -78,24 +90,27 @@ module _ (h : tie.At-loop Inv-loop μ-loop) where
   u-is : upper (h .loop .bounds) j ≡ upper B j
   u-is = ap (λ (P : List ℤ). upper P j) (h .loop .inv .2) ∙ upper-there A b L B j
 
-  step-in : j < length A → j + getD (s .args .steps .now) j 0 ≤ length A
-  step-in k = s .pre .1 .within j k
+  step-in : j < length C → j + getD (s .args .steps .now) j 0 ≤ length C
+  step-in k = steps .within j k
 
-  step-on : j < length A → 0 < getD (s .args .steps .now) j 0
-  step-on k = s .pre .1 .forward j k
+  step-on : j < length C → 0 < getD (s .args .steps .now) j 0
+  step-on k = steps .forward j k
+
+mul-tighten-bounds-at-2 : tie.Need-mul-tighten-bounds-at-2 Inv-loop μ-loop
+mul-tighten-bounds-at-2 c = let h = c .before .before in signed-fits (s h .pre .1 .1) (C h) (j h) (s h .pre .0 .coefs (j h))
 
 tighten-bounds-at-requires : tie.Need-tighten-bounds-at-requires Inv-loop μ-loop
 tighten-bounds-at-requires c κs =
     let h = c .before .before .before in
-    (rw (a-is h, b-is h, least-is h, l-is h, u-is h) (implies-at (A h) (s h .args .b) (s h .args .least) (B h) (s h .pre .0) (j h)), omega (arith, s h .pre .0 .len, s h .pre .0 .boxLen))
+    (rw (a-is h, b-is h, least-is h, l-is h, u-is h) (implies-at (A h) (s h .args .b) (s h .args .least) (B h) (v h) (j h)), omega (arith, s h .pre .0 .boxLen))
 
 add-moved : tie.Need-add-moved Inv-loop μ-loop
 add-moved c =
     let h = c .before .before .before .before .before .before in
-    omega (arith, s h .pre .0 .few, h .loop .inv .3, moved-le (j h) (B h) (impliedBox (length (A h)) (A h) (b h) (L h) (B h)))
+    omega (arith, s h .pre .0 .few, h .loop .inv .3, moved-le (j h) (B h) (impliedBox (length (C h)) (A h) (b h) (L h) (B h)))
 
 shared-slice-read-j : tie.Need-shared-slice-read-j Inv-loop μ-loop
-shared-slice-read-j c = omega (arith, s (c .before .before .before .before .before .before .before) .pre .1 .len)
+shared-slice-read-j c = omega (arith, s (c .before .before .before .before .before .before .before) .pre .1 .0 .len)
 
 cast-j : tie.Need-cast-j Inv-loop μ-loop
 cast-j c = omega (arith, step-in (c .before .before .before .before .before .before .before) (omega arith))
@@ -110,13 +125,13 @@ loop-again : tie.Need-loop-again Inv-loop μ-loop
 loop-again c =
     let h = c .before .before .before .before .before .before .before in
     let call = c .before .before .before .tighten-bounds-at in
-    let k : j h < length (A h) = omega arith in (
+    let k : j h < length (C h) = omega arith in (
       step-in h k,
       call .kept .1 .1 .1 .0 ∙ h .loop .inv .1,
-      tighten-more (A h) (b h) (L h) (B h) (j h) (a-is h) (h .loop .inv .2) (call .ensures .0) ∙ step-box (s h .pre .1) k (b h) (L h) (B h),
-      moved-more (A h) (b h) (L h) (B h) (length (A h)) (j h) k (a-is h) (h .loop .inv .2) (h .loop .inv .3) (call .ensures .1)
+      tighten-more (A h) (b h) (L h) (B h) (j h) (a-is h) (h .loop .inv .2) (call .ensures .0) ∙ step-box (steps h) k (b h) (L h) (B h),
+      moved-more (A h) (b h) (L h) (B h) (length (C h)) (j h) k (a-is h) (h .loop .inv .2) (h .loop .inv .3) (call .ensures .1)
           (⊎-elim (λ w. inl (w .0 .taken, w .1)) (λ w. inr (w .0 .left, w .1)) (c .before .if1 .came))
-          ∙ step-moved (s h .pre .1) k (b h) (L h) (B h),
+          ∙ step-moved (steps h) k (b h) (L h) (B h),
     )
 
 same-length : tie.Need-same-length Inv-loop μ-loop
@@ -125,15 +140,18 @@ same-length c = omega arith
 returns : tie.Need-returns Inv-loop μ-loop
 returns c =
     let h = c .before in
-    let n = length (A h) in
-    let end : h .loop .j ≡ n = omega arith in (
+    let n = length (C h) in
+    let end : h .loop .j ≡ n = omega arith in
+    let e = sign-is (s h .pre .1 .1) in (
       h .loop .inv .2
           ∙ ap₂ (λ (x y : ℤ). tightenTo (A h) x y (B h) (j h)) (b-is h) (least-is h)
           ∙ ap (tightenTo (A h) (s h .args .b) (s h .args .least) (B h)) end
-          ∙ tighten-all (A h) (s h .args .b) (s h .args .least) (B h) n (s h .pre .0 .boxLen),
+          ∙ tighten-all (A h) (s h .args .b) (s h .args .least) (B h) n (s h .pre .0 .boxLen)
+          ∙ ap (λ (z : ℤ). impliedBox n (signed z (C h)) (s h .args .b) (s h .args .least) (B h)) e,
       h .loop .inv .3
           ∙ ap₂ (λ (x y : ℤ). movedTo (A h) x y (B h) n (j h)) (b-is h) (least-is h)
-          ∙ ap (movedTo (A h) (s h .args .b) (s h .args .least) (B h) n) end,
+          ∙ ap (movedTo (A h) (s h .args .b) (s h .args .least) (B h) n) end
+          ∙ ap (λ (z : ℤ). movedBounds n (B h) (impliedBox n (signed z (C h)) (s h .args .b) (s h .args .least) (B h))) e,
     )
 
 pub tighten-bounds-by-spec : {M : Type 1} → statement M
@@ -145,6 +163,7 @@ tighten-bounds-by-spec =
     loop-holds
     mul-tighten-bounds-at
     shared-slice-copy-out-tighten-bounds-at
+    mul-tighten-bounds-at-2
     tighten-bounds-at-requires
     add-moved
     shared-slice-read-j

@@ -13,6 +13,7 @@ pub struct Model {
     pub bounds: Vec<i32>,
     pub coefs: Vec<i32>,
     pub rhs: Vec<i32>,
+    pub kinds: Vec<u8>,
     pub table: Vec<u8>,
 }
 
@@ -24,7 +25,7 @@ pub fn ok(values: &[u64]) -> Said {
 }
 
 impl Model {
-    /// A model from the bounds of each variable and the rows, each with its right side.
+    /// A model from the bounds of each variable and the rows, each with its right side. All are ≤ rows.
     pub fn new(bounds: &[(i32, i32)], rows: &[(&[i32], i32)]) -> Self {
         Model {
             n: bounds.len(),
@@ -32,6 +33,7 @@ impl Model {
             bounds: bounds.iter().flat_map(|&(l, u)| [l, u]).collect(),
             coefs: rows.iter().flat_map(|(coefs, _)| coefs.iter().copied()).collect(),
             rhs: rows.iter().map(|&(_, b)| b).collect(),
+            kinds: vec![0; rows.len()],
             table: vec![0; 4 * bounds.len() * bounds.len()],
         }
     }
@@ -39,6 +41,28 @@ impl Model {
     /// A model in free binary variables.
     pub fn binary(n: usize, rows: &[(&[i32], i32)]) -> Self {
         Model::new(&vec![(0, 1); n], rows)
+    }
+
+    /// The same model with these rows as = rows.
+    pub fn with_equal(mut self, rows: &[usize]) -> Self {
+        rows.iter().for_each(|&r| self.kinds[r] = 1);
+        self
+    }
+
+    /// The same model with each = row as two: its ≤ form, and in the next place its negated form.
+    pub fn in_two_rows(&self) -> Self {
+        let rows: Vec<(Vec<i32>, i32)> = (0..self.m)
+            .flat_map(|r| {
+                let (coefs, b) = self.row(r);
+                let negated =
+                    (self.kinds[r] == 1).then(|| (coefs.iter().map(|a| -a).collect(), -b));
+                [(coefs.to_vec(), b)].into_iter().chain(negated)
+            })
+            .collect();
+        let bounds: Vec<(i32, i32)> =
+            self.bounds.chunks(2).map(|pair| (pair[0], pair[1])).collect();
+        let rows: Vec<(&[i32], i32)> = rows.iter().map(|(coefs, b)| (&coefs[..], *b)).collect();
+        Model { table: self.table.clone(), ..Model::new(&bounds, &rows) }
     }
 
     pub fn row(&self, r: usize) -> (&[i32], i32) {
@@ -64,62 +88,77 @@ impl Model {
 
     pub fn propagate_row(&mut self, row: u32) -> Said {
         self.call(|s, answer| {
-            calls::propagate_row(s.n, s.m, &mut s.bounds, &s.coefs, &s.rhs, row, answer)
+            calls::propagate_row(s.n, s.m, &mut s.bounds, &s.coefs, &s.rhs, &s.kinds, row, answer)
         })
     }
 
     pub fn propagate(&mut self, budget: u32) -> Said {
         self.call(|s, answer| {
-            calls::propagate(s.n, s.m, &mut s.bounds, &s.coefs, &s.rhs, budget, answer)
+            calls::propagate(s.n, s.m, &mut s.bounds, &s.coefs, &s.rhs, &s.kinds, budget, answer)
         })
     }
 
     pub fn probe(&mut self, variable: u32, budget: u32) -> Said {
         self.call(|s, answer| {
             let (bounds, table) = (&mut s.bounds, &mut s.table);
-            calls::probe(s.n, s.m, bounds, &s.coefs, &s.rhs, table, variable, budget, answer)
+            calls::probe(
+                s.n, s.m, bounds, &s.coefs, &s.rhs, &s.kinds, table, variable, budget, answer,
+            )
         })
     }
 
     pub fn tighten(&mut self, row: u32, variable: u32) -> Said {
         self.call(|s, answer| {
             let (coefs, rhs) = (&mut s.coefs, &mut s.rhs);
-            calls::tighten_coefficient(s.n, s.m, &s.bounds, coefs, rhs, row, variable, answer)
+            calls::tighten_coefficient(
+                s.n, s.m, &s.bounds, coefs, rhs, &s.kinds, row, variable, answer,
+            )
         })
     }
 
     pub fn remove(&mut self, row: u32) -> Said {
         self.call(|s, answer| {
             let (coefs, rhs) = (&mut s.coefs, &mut s.rhs);
-            calls::remove_redundant_row(s.n, s.m, &s.bounds, coefs, rhs, row, answer)
+            calls::remove_redundant_row(s.n, s.m, &s.bounds, coefs, rhs, &mut s.kinds, row, answer)
         })
     }
 
     pub fn at_rest(&mut self) -> Said {
         self.call(|s, answer| {
-            calls::is_probing_fixpoint(s.n, s.m, &s.bounds, &s.coefs, &s.rhs, answer)
+            calls::is_probing_fixpoint(s.n, s.m, &s.bounds, &s.coefs, &s.rhs, &s.kinds, answer)
         })
     }
 
     pub fn run(&mut self, calls: &[u32]) -> Said {
         self.call(|s, answer| {
             let (bounds, coefs, rhs) = (&mut s.bounds, &mut s.coefs, &mut s.rhs);
-            calls::run(s.n, s.m, bounds, coefs, rhs, &mut s.table, calls, answer)
+            calls::run(s.n, s.m, bounds, coefs, rhs, &mut s.kinds, &mut s.table, calls, answer)
         })
     }
 
     pub fn rounds(&mut self, limit: u32) -> Said {
         self.call(|s, answer| {
             let (bounds, coefs, rhs) = (&mut s.bounds, &mut s.coefs, &mut s.rhs);
-            calls::rounds(s.n, s.m, bounds, coefs, rhs, &mut s.table, limit, answer)
+            calls::rounds(s.n, s.m, bounds, coefs, rhs, &mut s.kinds, &mut s.table, limit, answer)
         })
     }
 
+    /// The model's book, or the refusal's number.
+    pub fn write(&self) -> Result<Vec<u8>, u32> {
+        let (n, m) = (self.n, self.m);
+        let mut book = vec![77; 8 * n + m * (4 + 4 * n) + 16];
+        match calls::book_write(n, m, &self.bounds, &self.coefs, &self.rhs, &self.kinds, &mut book)
+        {
+            0 => Ok(book),
+            check => {
+                assert!(book.iter().all(|&byte| byte == 77), "a refusal writes nothing");
+                Err(check)
+            }
+        }
+    }
+
+    /// The book of a model that has one.
     pub fn book(&self) -> Vec<u8> {
-        let mut book = vec![0; 8 * self.n + self.m * (4 + 4 * self.n) + 16];
-        let said =
-            calls::book_write(self.n, self.m, &self.bounds, &self.coefs, &self.rhs, &mut book);
-        assert_eq!(said, 0);
-        book
+        self.write().expect("an accepted model without = rows")
     }
 }

@@ -1,5 +1,5 @@
--- `book::reading::number_fault`: what each call says is the test of its checks, and the checks are passed in their order.
--- Assumes nothing.
+-- `book::reading::number_fault`: what each call says is the test of its checks, and the checks are passed in their order; 16 passes
+-- of kinds that are all 0 (`bits-kindsOf`). Assumes nothing.
 use Prim.Native.Nat.{ℕ}
 use borrow.Author.Needs.{needs}
 use mathlib.Core.Bool.{true}
@@ -12,6 +12,7 @@ use Rattle.model.specs.Limits.{maxCoef, minCoef}
 use Rattle.model.proofs.CheckLaws.{ends, fails, goes, past, stops}
 use Rattle.book.specs.Book.{boundsOf, coefsOf, rhsOf, rowPlace}
 use Rattle.book.specs.Bytes.{integersAt}
+use Rattle.book.proofs.DecodeLaws.{bits-kindsOf}
 use Rattle.book.proofs.EncodeLaws.{row-within}
 use Rattle.book.proofs.reading.number_fault.Statement.{statement}
 use Rattle.book.proofs.reading.number_fault.Tie as tie
@@ -69,7 +70,8 @@ returns-4 : tie.Need-returns-4
 unfolding numberChecks rhsOf rowPlace integersAt
 returns-4 c =
     let d = c .before .before in
-    past-box (d .before .before) _ (past _ 8 _ (coefs-in d) (past _ 9 _ (told-true _ (c .before .are-in-range .ensures) (c .if3 .left)) ends))
+    past-box (d .before .before) _ (past _ 8 _ (coefs-in d) (past _ 9 _ (told-true _ (c .before .are-in-range .ensures) (c .if3 .left))
+    (past _ 16 _ (bits-kindsOf _) ends)))
 
 pub number-fault-spec : {M : Type 1} → statement M
 number-fault-spec =

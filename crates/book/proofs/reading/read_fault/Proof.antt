@@ -8,6 +8,7 @@ use native.Mathlib.Omega.{arith}
 use Rattle.model.specs.Checks.{Check, first, lengthChecks}
 use Rattle.model.proofs.CheckLaws.{goes, stops}
 use Rattle.model.specs.Model.{modelOf}
+use Rattle.model.specs.Rows.{rowsOf}
 use Rattle.book.specs.Answers.{readFault}
 use Rattle.book.specs.Book.{decode, modelIn}
 use Rattle.book.specs.BookChecks.{headChecks, modelNumberChecks, readChecks}
@@ -23,10 +24,10 @@ unfolding readFault readChecks
 returns c = stops _ _ (c .before .head-fault .ensures) (c .if1 .taken)
 
 -- checks 1 to 4 are passed
-headed : (c : tie.Else1) → Head (c .before .before .before .args .book .now)
+headed : (c : tie.Else1) → Head (c .before .before .before .before .args .book .now)
 headed c = head-test _ .0 (sym (c .before .head-fault .ensures) ∙ c .if1 .left)
 
-past-head : (c : tie.Else1) {r : ℕ} (ys : List Check) → r ≡ first ys → r ≡ first (headChecks (c .before .before .before .args .book .now) ++ ys)
+past-head : (c : tie.Else1) {r : ℕ} (ys : List Check) → r ≡ first ys → r ≡ first (headChecks (c .before .before .before .before .args .book .now) ++ ys)
 past-head c ys h = goes (headChecks _) ys (head-numbered _) (c .before .head-fault .ensures) (c .if1 .left) h
 
 trailer-u16-requires : tie.Need-trailer-u16-requires
@@ -40,9 +41,9 @@ length-fault-requires c κs = search needs
 
 -- `length_fault` answers for the book's n and m
 lengths : (c : tie.After-length-fault)
-    → let a = c .before .before .before .before .before .before .args in
+    → let a = c .before .before .before .before .before .before .before .args in
     let M = decode (a .book .now) in
-    c .length-fault .result ≡ first (lengthChecks (modelOf (M .n) (M .m) (a .bounds .now) (a .coefs .now) (a .rhs .now)))
+    c .length-fault .result ≡ first (lengthChecks (modelOf (M .n) (M .m) (a .bounds .now) (rowsOf (a .coefs .now) (a .rhs .now) (a .kinds .now))))
 unfolding decode modelIn
 lengths c = rw (← c .before .before .trailer-u16 .ensures, ← c .before .trailer-u162 .ensures) (c .length-fault .ensures)
 
@@ -57,7 +58,7 @@ number-fault-requires c κs =
 
 -- `number_fault` answers for the book's model
 numbers : (c : tie.After-number-fault)
-    → c .number-fault .result ≡ first (modelNumberChecks (decode (c .before .before .before .before .before .before .before .before .args .book .now)))
+    → c .number-fault .result ≡ first (modelNumberChecks (decode (c .before .before .before .before .before .before .before .before .before .args .book .now)))
 unfolding decode modelIn
 numbers c =
     rw (← c .before .before .before .before .trailer-u16 .ensures, ← c .before .before .before .trailer-u162 .ensures) (c .number-fault .ensures)
@@ -65,10 +66,10 @@ numbers c =
 returns-3 : tie.Need-returns-3
 unfolding readFault readChecks lengthChecks
 returns-3 c =
-    let a = c .before .before .before .before .before .before .before .before .args in
+    let a = c .before .before .before .before .before .before .before .before .before .args in
     let M = decode (a .book .now) in
     past-head (c .before .before .before .before .before) _
-    (goes (lengthChecks (modelOf (M .n) (M .m) (a .bounds .now) (a .coefs .now) (a .rhs .now))) (modelNumberChecks M) tt (lengths (c .before .before)) (c .before .if2 .left) (numbers c))
+    (goes (lengthChecks (modelOf (M .n) (M .m) (a .bounds .now) (rowsOf (a .coefs .now) (a .rhs .now) (a .kinds .now)))) (modelNumberChecks M) tt (lengths (c .before .before)) (c .before .if2 .left) (numbers c))
 
 pub read-fault-spec : {M : Type 1} → statement M
 read-fault-spec =

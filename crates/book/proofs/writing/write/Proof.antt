@@ -8,9 +8,10 @@ use mathlib.Core.Path.{_∙_, _≡_, ap, ap₂, sym}
 use native.Mathlib.Omega.{arith}
 use Rattle.model.specs.Box.{at}
 use Rattle.model.specs.Model.{Model, modelOf}
+use Rattle.model.specs.Rows.{rowsOf}
 use Rattle.model.specs.Valid.{ValidModel}
 use Rattle.book.specs.Answers.{bookWritten, writeAnswer, writeCall, writeFault, written}
-use Rattle.book.specs.Book.{bookLength, boundBytes, encode, rowBytesAt}
+use Rattle.book.specs.Book.{bookLength, boundBytes, encode, rowBytes, rowBytesAt}
 use Rattle.book.specs.Bytes.{integerBytes, integersBytes}
 use Rattle.book.specs.Pieces.{joined, overwrite}
 use Rattle.book.proofs.AcceptLaws.{write-passed}
@@ -23,7 +24,7 @@ use Rattle.book.proofs.writing.write.Tie as tie
 
 -- the model that is lent
 abbrev lent-model : tie.Start → Model
-lent-model s = modelOf (s .args .n) (s .args .m) (s .args .bounds .now) (s .args .coefs .now) (s .args .rhs .now)
+lent-model s = modelOf (s .args .n) (s .args .m) (s .args .bounds .now) (rowsOf (s .args .coefs .now) (s .args .rhs .now) (s .args .kinds .now))
 
 write-fault-requires : tie.Need-write-fault-requires
 write-fault-requires c κs = search needs
@@ -36,7 +37,7 @@ unfolding writeAnswer writeCall bookWritten
 returns c =
     let e = c .before .write-fault .ensures in
     let n = c .if1 .taken in
-    let s = c .before .before .before .before in
+    let s = c .before .before .before .before .before in
     let M = lent-model s in
     let bs = s .args .book .now in
     let f = writeFault M bs in
@@ -45,12 +46,14 @@ returns c =
     (said, (kept, (λ h. writes-back M bs _ kept (sym said ∙ h))))
 
 -- no check fails
-no-fault : (c : tie.Else1) → let s = c .before .before .before .before in writeFault (lent-model s) (s .args .book .now) ≡ 0
+no-fault : (c : tie.Else1) → let s = c .before .before .before .before .before in writeFault (lent-model s) (s .args .book .now) ≡ 0
 no-fault c = sym (c .before .write-fault .ensures) ∙ c .if1 .left
 
 -- so the model is valid, and the book has its length
-ready : (c : tie.Else1) → let s = c .before .before .before .before in ValidModel (lent-model s) × (length (s .args .book .now) ≡ bookLength (s .args .n) (s .args .m))
-ready c = let s = c .before .before .before .before in write-passed (lent-model s) (s .args .book .now) (no-fault c)
+ready : (c : tie.Else1) → let s = c .before .before .before .before .before in ValidModel (lent-model s) × (length (s .args .book .now) ≡ bookLength (s .args .n) (s .args .m))
+ready c =
+    let s = c .before .before .before .before .before in
+    let h = write-passed (lent-model s) (s .args .book .now) (no-fault c) in (h .0 .valid, h .1)
 
 write-integers-requires : tie.Need-write-integers-requires
 unfolding bookLength
@@ -67,22 +70,22 @@ write-rows-requires c κs =
 
 -- the book keeps its length
 kept-length : (w : tie.After-write-rows)
-    → let s = w .before .before .before .before .before .before .before .before .before .before in (length (w .write-rows .last .1 .1 .1 .0) ≡ length (s .args .book .now)) × (length (s .args .book .now) ≡ bookLength (s .args .n) (s .args .m))
+    → let s = w .before .before .before .before .before .before .before .before .before .before .before in (length (w .write-rows .last .1 .1 .1 .0) ≡ length (s .args .book .now)) × (length (s .args .book .now) ≡ bookLength (s .args .n) (s .args .m))
 kept-length w = (w .write-rows .kept .1 .1 .1 .0 ∙ w .before .before .before .before .write-integers .kept .0, ready (w .before .before .before .before .before .before) .1)
 
 -- and holds the bounds and the rows
 body : (w : tie.After-write-rows)
-    → let s = w .before .before .before .before .before .before .before .before .before .before in
+    → let s = w .before .before .before .before .before .before .before .before .before .before .before in
     let M = lent-model s in
     w .write-rows .last .1 .1 .1 .0 ≡ overwrite (8 * M .n) (joined (M .m) (rowBytesAt (M .n) (M .rows))) (overwrite 0 (boundBytes M) (s .args .book .now))
-unfolding integersBytes boundBytes
+unfolding integersBytes boundBytes rowBytes
 body w =
-    let M = lent-model (w .before .before .before .before .before .before .before .before .before .before) in
+    let M = lent-model (w .before .before .before .before .before .before .before .before .before .before .before) in
     let v = ready (w .before .before .before .before .before .before) .0 in
     w .write-rows .ensures
     ∙ ap₂ (λ (k : ℕ) (bs : List ℕ). overwrite (8 * M .n) (joined k (rowBytesAt (M .n) (M .rows))) bs) (v .rhsLen)
     (w .before .before .before .before .write-integers .ensures
-    ∙ ap (λ (k : ℕ). overwrite 0 (joined k (λ i. integerBytes (at (M .box) i))) (w .before .before .before .before .before .before .before .before .before .before .args .book .now)) (v .box .len))
+    ∙ ap (λ (k : ℕ). overwrite 0 (joined k (λ i. integerBytes (at (M .box) i))) (w .before .before .before .before .before .before .before .before .before .before .before .args .book .now)) (v .box .len))
 
 sub-end : tie.Need-sub-end
 unfolding bookLength
@@ -117,7 +120,7 @@ returns-2 : tie.Need-returns-2
 unfolding writeAnswer writeCall bookWritten
 returns-2 c =
     let w = c .before .before .before .before .before .before in
-    let s = w .before .before .before .before .before .before .before .before .before .before in
+    let s = w .before .before .before .before .before .before .before .before .before .before .before in
     let M = lent-model s in
     let bs = s .args .book .now in
     let cs = w .write-rows .last .1 .1 .1 .0 in

@@ -2,7 +2,7 @@
 use Prim.Native.Nat.{_*_, _+_, _-_, _<_, _≤_, ℕ}
 use lib.IntN.{ℤ}
 use lib.ListN.{length}
-use mathlib.Core.List.{List, _++_}
+use mathlib.Core.List.{List, [], _++_}
 use mathlib.Core.Path.{_∙_, _≡_, ap, ap₂, refl, sym}
 use mir.Facts.{toZ-ofZ}
 use mir.Syntax.{w32}
@@ -22,7 +22,7 @@ use Rattle.book.proofs.writing.write_rows.Tie as tie
 
 abbrev Inv-loop : tie.InvT-loop
 Inv-loop n coefs rhs book₀ i₀ book i =
-    (i ≤ length rhs) × (length book ≡ length book₀) × (book ≡ overwrite (8 * n) (joined i (rowBytesAt n (rowsOf coefs rhs))) book₀)
+    (i ≤ length rhs) × (length book ≡ length book₀) × (book ≡ overwrite (8 * n) (joined i (rowBytesAt n (rowsOf coefs rhs []))) book₀)
 
 abbrev μ-loop : tie.MeasureT-loop
 μ-loop n coefs rhs book₀ i₀ book i = length rhs - i
@@ -119,7 +119,7 @@ loop-again c =
     let i = at-loop .i in
     let n = a .n in
     let R = a .rhs .now in
-    let A = rowsOf (a .coefs .now) R in
+    let A = rowsOf (a .coefs .now) R [] in
     let p = d .row-place .result in
     let one = c .before .before .before .before .before .before .before in
     let all = c .before .before .write-integers in

@@ -13,10 +13,16 @@ read-fault-requires c κs = search needs
 returns : tie.Need-returns
 unfolding readExport
 returns c =
-    let s = c .before .before .before .before in
+    let s = c .before .before .before .before .before in
     let wrong = c .before .if1 .taken in (
       book-refused (s .args .answer .now) _ _ wrong (c .read-fault .ensures),
-      (lent-stays (s .args .answer .now) (s .args .bounds .now) _ wrong, (lent-stays (s .args .answer .now) (s .args .coefs .now) _ wrong, lent-stays (s .args .answer .now) (s .args .rhs .now) _ wrong)),
+      (
+        lent-stays (s .args .answer .now) (s .args .bounds .now) _ wrong,
+        (
+          lent-stays (s .args .answer .now) (s .args .coefs .now) _ wrong,
+          (lent-stays (s .args .answer .now) (s .args .rhs .now) _ wrong, lent-stays (s .args .answer .now) (s .args .kinds .now) _ wrong),
+        ),
+      ),
     )
 
 read-requires : tie.Need-read-requires
@@ -40,16 +46,25 @@ same-length-3 c = search needs
 same-length-4 : tie.Need-same-length-4
 same-length-4 c = search needs
 
+same-length-5 : tie.Need-same-length-5
+same-length-5 c = search needs
+
 returns-2 : tie.Need-returns-2
 unfolding readExport
 returns-2 c =
-    let p = c .before .before .before .before .before .before .before .before in
-    let s = p .before .before .before .before .before .before .before in
-    let right = p .before .before .before .before .if1 .left in (
+    let p = c .before .before .before .before .before .before .before .before .before .before in
+    let s = p .before .before .before .before .before .before .before .before .before in
+    let right = p .before .before .before .before .before .if1 .left in (
       book-replied (s .args .answer .now) _ right (c .before .before .put .ensures) (c .before .before .before .before .sizes-reply .ensures ∙ ap bookReply (p .read .ensures .0)),
       (
         lent-after (s .args .answer .now) (s .args .bounds .now) right (p .read .ensures .1 .0),
-        (lent-after (s .args .answer .now) (s .args .coefs .now) right (p .read .ensures .1 .1 .0), lent-after (s .args .answer .now) (s .args .rhs .now) right (p .read .ensures .1 .1 .1 .0)),
+        (
+          lent-after (s .args .answer .now) (s .args .coefs .now) right (p .read .ensures .1 .1 .0),
+          (
+            lent-after (s .args .answer .now) (s .args .rhs .now) right (p .read .ensures .1 .1 .1 .0),
+            lent-after (s .args .answer .now) (s .args .kinds .now) right (p .read .ensures .1 .1 .1 .1 .0),
+          ),
+        ),
       ),
     )
 
@@ -66,4 +81,5 @@ astrolabe-book-read-spec =
     same-length-2
     same-length-3
     same-length-4
+    same-length-5
     returns-2)

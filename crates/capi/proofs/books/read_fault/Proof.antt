@@ -24,6 +24,12 @@ array-borrow-prefix-rhs c = search needs
 slice-aggregate-read-3 : tie.Need-slice-aggregate-read-3
 slice-aggregate-read-3 c = search needs
 
+array-borrow-prefix-kinds : tie.Need-array-borrow-prefix-kinds
+array-borrow-prefix-kinds c = search needs
+
+slice-aggregate-read-4 : tie.Need-slice-aggregate-read-4
+slice-aggregate-read-4 c = search needs
+
 read-requires : tie.Need-read-requires
 read-requires c κs = search needs
 
@@ -36,13 +42,13 @@ enum-told c = search needs
 returns : tie.Need-returns
 unfolding sizesAnswer
 returns c =
-    let p = c .before .before .before .before .before .before in same-number (sym (ap sizesAnswer (c .before .number .given .1)) ∙ read-nowhere (p .before .before .before .before .before .args .book .now) (p .read .ensures .0))
+    let p = c .before .before .before .before .before .before .before in same-number (sym (ap sizesAnswer (c .before .number .given .1)) ∙ read-nowhere (p .before .before .before .before .before .before .args .book .now) (p .read .ensures .0))
 
 returns-2 : tie.Need-returns-2
 unfolding sizesAnswer
 returns-2 c =
-    let p = c .before .before .before .before .before in
-    absurd (no-sizes (sym (ap sizesAnswer (c .enum-told .given .1)) ∙ read-nowhere (p .before .before .before .before .before .args .book .now) (p .read .ensures .0)))
+    let p = c .before .before .before .before .before .before in
+    absurd (no-sizes (sym (ap sizesAnswer (c .enum-told .given .1)) ∙ read-nowhere (p .before .before .before .before .before .before .args .book .now) (p .read .ensures .0)))
 
 pub read-fault-spec : {M : Type 1} → statement M
 read-fault-spec =
@@ -54,6 +60,8 @@ read-fault-spec =
     slice-aggregate-read-2
     array-borrow-prefix-rhs
     slice-aggregate-read-3
+    array-borrow-prefix-kinds
+    slice-aggregate-read-4
     read-requires
     enum-known-number
     enum-told

@@ -2,20 +2,21 @@
 use borrow.Author.Needs.{needs}
 use mathlib.Core.List.{[]}
 use Rattle.reducer.specs.OpenCalls.{restVerdict}
+use Rattle.model.specs.Rows.{rowsOf}
 use Rattle.model.specs.State.{State, stateOf}
 use Rattle.capi.proofs.ExportLaws.{rest-refused, rest-replied}
 use Rattle.capi.proofs.calls.astrolabe_is_probing_fixpoint.Statement.{statement}
 use Rattle.capi.proofs.calls.astrolabe_is_probing_fixpoint.Tie as tie
 
 abbrev before : tie.Start → State
-before s = stateOf (s .args .n) (s .args .m) (s .args .bounds .now) (s .args .coefs .now) (s .args .rhs .now) []
+before s = stateOf (s .args .n) (s .args .m) (s .args .bounds .now) (rowsOf (s .args .coefs .now) (s .args .rhs .now) (s .args .kinds .now)) []
 
 answer-fault-requires : tie.Need-answer-fault-requires
 answer-fault-requires c κs = search needs
 
 returns : tie.Need-returns
 unfolding stateOf
-returns c = let s = c .before .before .before in rest-refused (s .args .answer .now) (before s) (c .before .if1 .taken) (c .answer-fault .ensures)
+returns c = let s = c .before .before .before .before in rest-refused (s .args .answer .now) (before s) (c .before .if1 .taken) (c .answer-fault .ensures)
 
 is-probing-fixpoint-requires : tie.Need-is-probing-fixpoint-requires
 is-probing-fixpoint-requires c κs = search needs
@@ -32,7 +33,7 @@ same-length c = search needs
 returns-2 : tie.Need-returns-2
 returns-2 c =
     let p = c .before .before .before .before .before in
-    let s = p .before .before .before in
+    let s = p .before .before .before .before in
     rest-replied (s .args .answer .now) (before s) (restVerdict (p .is-probing-fixpoint .result)) (p .before .if1 .left) (c .before .before .put .ensures) (c .before .before .before .before .rest-reply .ensures)
     (p .is-probing-fixpoint .ensures .0)
 

@@ -1,18 +1,18 @@
 -- `capi::calls::astrolabe_remove_redundant_row`: a wrong answer length, or the answer of the open call, written. Assumes nothing.
 use borrow.Author.Needs.{needs}
-use lib.IntN.{ℤ}
-use mathlib.Core.List.{List, []}
+use mathlib.Core.List.{[]}
 use Rattle.reducer.specs.OpenCalls.{removeAnswer}
+use Rattle.model.specs.Rows.{Rows, rowsOf}
 use Rattle.model.specs.State.{State, stateOf}
 use Rattle.capi.proofs.ExportLaws.{call-refused, call-replied}
 use Rattle.capi.proofs.calls.astrolabe_remove_redundant_row.Statement.{statement}
 use Rattle.capi.proofs.calls.astrolabe_remove_redundant_row.Tie as tie
 
-abbrev state : tie.Start → List ℤ → List ℤ → State
-state s C R = stateOf (s .args .n) (s .args .m) (s .args .bounds .now) C R []
+abbrev state : tie.Start → Rows → State
+state s A = stateOf (s .args .n) (s .args .m) (s .args .bounds .now) A []
 
 abbrev before : tie.Start → State
-before s = state s (s .args .coefs .now) (s .args .rhs .now)
+before s = state s (rowsOf (s .args .coefs .now) (s .args .rhs .now) (s .args .kinds .now))
 
 answer-fault-requires : tie.Need-answer-fault-requires
 answer-fault-requires c κs = search needs
@@ -20,7 +20,7 @@ answer-fault-requires c κs = search needs
 returns : tie.Need-returns
 unfolding stateOf
 returns c =
-    let s = c .before .before .before in call-refused (s .args .answer .now) (before s) 5 (s .args .row) 0 0 (c .before .if1 .taken) (c .answer-fault .ensures)
+    let s = c .before .before .before .before in call-refused (s .args .answer .now) (before s) 5 (s .args .row) 0 0 (c .before .if1 .taken) (c .answer-fault .ensures)
 
 remove-redundant-row-requires : tie.Need-remove-redundant-row-requires
 remove-redundant-row-requires c κs = search needs
@@ -40,11 +40,14 @@ same-length-2 c = search needs
 same-length-3 : tie.Need-same-length-3
 same-length-3 c = search needs
 
+same-length-4 : tie.Need-same-length-4
+same-length-4 c = search needs
+
 returns-2 : tie.Need-returns-2
 returns-2 c =
-    let p = c .before .before .before .before .before .before .before in
-    let s = p .before .before .before .before .before in
-    call-replied (s .args .answer .now) (before s) (state s (p .remove-redundant-row .last .1 .1 .1 .0) (p .remove-redundant-row .last .1 .1 .1 .1 .0)) 5 (s .args .row) 0 0 (removeAnswer (p .remove-redundant-row .result)) (p .before .before .before .if1 .left)
+    let p = c .before .before .before .before .before .before .before .before .before in
+    let s = p .before .before .before .before .before .before .before in
+    call-replied (s .args .answer .now) (before s) (state s (rowsOf (p .remove-redundant-row .last .1 .1 .1 .0) (p .remove-redundant-row .last .1 .1 .1 .1 .0) (p .remove-redundant-row .last .1 .1 .1 .1 .1 .0))) 5 (s .args .row) 0 0 (removeAnswer (p .remove-redundant-row .result)) (p .before .before .before .before .if1 .left)
     (c .before .before .put .ensures) (c .before .before .before .before .remove-reply .ensures) (p .remove-redundant-row .ensures .0)
 
 pub astrolabe-remove-redundant-row-spec : {M : Type 1} → statement M
@@ -59,4 +62,5 @@ astrolabe-remove-redundant-row-spec =
     same-length
     same-length-2
     same-length-3
+    same-length-4
     returns-2)

@@ -1,18 +1,18 @@
 -- `capi::calls::astrolabe_tighten_coefficient`: a wrong answer length, or the answer of the open call, written. Assumes nothing.
 use borrow.Author.Needs.{needs}
-use lib.IntN.{ℤ}
-use mathlib.Core.List.{List, []}
+use mathlib.Core.List.{[]}
 use Rattle.reducer.specs.OpenCalls.{tightenAnswer}
+use Rattle.model.specs.Rows.{Rows, rowsOf}
 use Rattle.model.specs.State.{State, stateOf}
 use Rattle.capi.proofs.ExportLaws.{call-refused, call-replied}
 use Rattle.capi.proofs.calls.astrolabe_tighten_coefficient.Statement.{statement}
 use Rattle.capi.proofs.calls.astrolabe_tighten_coefficient.Tie as tie
 
-abbrev state : tie.Start → List ℤ → List ℤ → State
-state s C R = stateOf (s .args .n) (s .args .m) (s .args .bounds .now) C R []
+abbrev state : tie.Start → Rows → State
+state s A = stateOf (s .args .n) (s .args .m) (s .args .bounds .now) A []
 
 abbrev before : tie.Start → State
-before s = state s (s .args .coefs .now) (s .args .rhs .now)
+before s = state s (rowsOf (s .args .coefs .now) (s .args .rhs .now) (s .args .kinds .now))
 
 answer-fault-requires : tie.Need-answer-fault-requires
 answer-fault-requires c κs = search needs
@@ -20,7 +20,7 @@ answer-fault-requires c κs = search needs
 returns : tie.Need-returns
 unfolding stateOf
 returns c =
-    let s = c .before .before .before in call-refused (s .args .answer .now) (before s) 4 (s .args .row) (s .args .variable) 0 (c .before .if1 .taken) (c .answer-fault .ensures)
+    let s = c .before .before .before .before in call-refused (s .args .answer .now) (before s) 4 (s .args .row) (s .args .variable) 0 (c .before .if1 .taken) (c .answer-fault .ensures)
 
 tighten-coefficient-requires : tie.Need-tighten-coefficient-requires
 tighten-coefficient-requires c κs = search needs
@@ -43,8 +43,8 @@ same-length-3 c = search needs
 returns-2 : tie.Need-returns-2
 returns-2 c =
     let p = c .before .before .before .before .before .before .before in
-    let s = p .before .before .before .before .before in
-    call-replied (s .args .answer .now) (before s) (state s (p .tighten-coefficient .last .1 .1 .1 .0) (p .tighten-coefficient .last .1 .1 .1 .1 .0)) 4 (s .args .row) (s .args .variable) 0 (tightenAnswer (p .tighten-coefficient .result)) (p .before .before .before .if1 .left)
+    let s = p .before .before .before .before .before .before in
+    call-replied (s .args .answer .now) (before s) (state s (rowsOf (p .tighten-coefficient .last .1 .1 .1 .0) (p .tighten-coefficient .last .1 .1 .1 .1 .0) (s .args .kinds .now))) 4 (s .args .row) (s .args .variable) 0 (tightenAnswer (p .tighten-coefficient .result)) (p .before .before .before .if1 .left)
     (c .before .before .put .ensures) (c .before .before .before .before .tighten-reply .ensures) (p .tighten-coefficient .ensures .0)
 
 pub astrolabe-tighten-coefficient-spec : {M : Type 1} → statement M

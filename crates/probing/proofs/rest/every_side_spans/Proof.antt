@@ -14,7 +14,7 @@ slice-aggregate-all-span-3 : tie.Need-slice-aggregate-all-span-3
 slice-aggregate-all-span-3 c = search needs
 
 all-span-requires : tie.Need-all-span-requires
-all-span-requires c κs = let p = c .before .before .before .pre in (p .0, marked-all (p .0) (p .1 .0) (p .1 .1))
+all-span-requires c κs = let p = c .before .before .before .before .pre in (p .0, marked-all (p .0) (p .1 .0) (p .1 .1))
 
 returns : tie.Need-returns
 returns c = c .before .before .all-span .ensures

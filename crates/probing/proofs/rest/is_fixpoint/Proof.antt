@@ -7,23 +7,23 @@ use mathlib.Core.Path.{_∙_, _≡_, refl, sym}
 use native.Mathlib.Omega.{arith}
 use Rattle.integer.specs.Index.{all}
 use Rattle.integer.proofs.IndexLaws.{all-false, all-next}
-use Rattle.model.specs.Box.{at, sameList}
-use Rattle.model.specs.Rows.{rowOf}
-use Rattle.row.specs.Propagation.{propagateRow}
+use Rattle.model.specs.Box.{sameList}
+use Rattle.model.specs.Rows.{Rows, rowAt, rowsOf}
+use Rattle.row.specs.Kinds.{propagateRowOf}
 use Rattle.semantics.specs.RestTest.{isFixpoint}
 use Rattle.propagation.proofs.PropagationLoops.{row-in, valid-row}
 use Rattle.probing.proofs.RestLaws.{row-moved, row-stays}
 use Rattle.probing.proofs.rest.is_fixpoint.Statement.{statement}
 use Rattle.probing.proofs.rest.is_fixpoint.Tie as tie
 
-abbrev stays : ℕ → List ℤ → List ℤ → List ℤ → ℕ → Bool
-stays n C R B i = sameList (propagateRow n (rowOf n C i) (at R i) B .box) B
+abbrev stays : ℕ → Rows → List ℤ → ℕ → Bool
+stays n A B i = sameList (propagateRowOf n (rowAt n A i) B .box) B
 
 abbrev Inv-loop : tie.InvT-loop
-Inv-loop n m bounds coefs rhs r₀ r = (r ≤ m) × (all r (stays n coefs rhs bounds) ≡ true)
+Inv-loop n m bounds coefs rhs kinds r₀ r = (r ≤ m) × (all r (stays n (rowsOf coefs rhs kinds) bounds) ≡ true)
 
 abbrev μ-loop : tie.MeasureT-loop
-μ-loop n m bounds coefs rhs r₀ r = m - r
+μ-loop n m bounds coefs rhs kinds r₀ r = m - r
 
 loop-holds : tie.Need-loop-holds Inv-loop μ-loop
 unfolding all
@@ -31,7 +31,7 @@ loop-holds c = (omega arith, refl)
 
 row-moves-at-requires : tie.Need-row-moves-at-requires Inv-loop μ-loop
 row-moves-at-requires c κs =
-    let s = c .before .before in
+    let s = c .before .before .before in
     let h = c .before in
     let v = s .pre .0 in
     let k = c .loop-test .taken in
@@ -40,12 +40,13 @@ row-moves-at-requires c κs =
 returns : tie.Need-returns Inv-loop μ-loop
 unfolding isFixpoint
 returns c =
-    let s = c .before .before .before .before in
+    let s = c .before .before .before .before .before in
     let a = s .args in
+    let A = rowsOf (a .coefs .now) (a .rhs .now) (a .kinds .now) in
     let h = c .before .before .before in
     let i = h .loop .r in
-    sym (all-false (a .m) (stays (a .n) (a .coefs .now) (a .rhs .now) (a .bounds .now)) i (c .before .before .loop-test .taken)
-    (row-moved (a .n) (rowOf (a .n) (a .coefs .now) i) (at (a .rhs .now) i) (a .bounds .now) (s .pre .0 .some) (s .pre .1) (sym (c .before .row-moves-at .ensures) ∙ c .if1 .taken)))
+    sym (all-false (a .m) (stays (a .n) A (a .bounds .now)) i (c .before .before .loop-test .taken)
+    (row-moved (a .n) (rowAt (a .n) A i) (a .bounds .now) (s .pre .0 .some) (s .pre .1) (sym (c .before .row-moves-at .ensures) ∙ c .if1 .taken)))
 
 add-r : tie.Need-add-r Inv-loop μ-loop
 add-r c = omega arith
@@ -55,20 +56,21 @@ loop-less c = omega arith
 
 loop-again : tie.Need-loop-again Inv-loop μ-loop
 loop-again c =
-    let s = c .before .before .before .before in
+    let s = c .before .before .before .before .before in
     let a = s .args in
+    let A = rowsOf (a .coefs .now) (a .rhs .now) (a .kinds .now) in
     let h = c .before .before .before in
     let i = h .loop .r in (
       omega arith,
-      all-next (stays (a .n) (a .coefs .now) (a .rhs .now) (a .bounds .now)) i (h .loop .inv .1)
-          (row-stays (a .n) (rowOf (a .n) (a .coefs .now) i) (at (a .rhs .now) i) (a .bounds .now) (s .pre .0 .box .len) (sym (c .before .row-moves-at .ensures) ∙ c .if1 .left)),
+      all-next (stays (a .n) A (a .bounds .now)) i (h .loop .inv .1)
+          (row-stays (a .n) (rowAt (a .n) A i) (a .bounds .now) (s .pre .0 .some) (s .pre .1) (sym (c .before .row-moves-at .ensures) ∙ c .if1 .left)),
     )
 
 returns-2 : tie.Need-returns-2 Inv-loop μ-loop
 unfolding isFixpoint
 returns-2 c =
     let h = c .before in
-    let e : h .loop .r ≡ c .before .before .args .m = omega arith in
+    let e : h .loop .r ≡ c .before .before .before .args .m = omega arith in
     sym (rw e at (h .loop .inv .1))
 
 pub is-fixpoint-spec : {M : Type 1} → statement M

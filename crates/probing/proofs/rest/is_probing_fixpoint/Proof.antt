@@ -15,7 +15,7 @@ is-empty-requires c κs = search needs
 -- the test of the empty box
 module _ (c : tie.After-is-empty) where
   abbrev s : tie.Start
-  s = c .before
+  s = c .before .before
 
   empty-is : c .is-empty .result ≡ isEmpty (s .args .n) (s .args .bounds .now)
   empty-is = c .is-empty .ensures _ (s .pre .some) (s .pre .box)

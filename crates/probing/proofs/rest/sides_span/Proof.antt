@@ -21,27 +21,27 @@ use Rattle.probing.proofs.rest.sides_span.Tie as tie
 
 -- side v of k, propagated
 abbrev side : tie.Start → ℕ → Propagated
-side s v = propagate maxBudget (s .args .n) (s .args .m) (rowsOf (s .args .coefs .now) (s .args .rhs .now)) (fix (s .args .n) (s .args .bounds .now) (s .args .k) v)
+side s v = propagate maxBudget (s .args .n) (s .args .m) (rowsOf (s .args .coefs .now) (s .args .rhs .now) (s .args .kinds .now)) (fix (s .args .n) (s .args .bounds .now) (s .args .k) v)
 
 array-borrow-prefix-zero : tie.Need-array-borrow-prefix-zero
 array-borrow-prefix-zero c = search needs
 
 slice-aggregate-try-side : tie.Need-slice-aggregate-try-side
-slice-aggregate-try-side c = sym (box-room (c .before .before .before .before .before .before .pre .0))
+slice-aggregate-try-side c = sym (box-room (c .before .before .before .before .before .before .before .pre .0))
 
 try-side-requires : tie.Need-try-side-requires
-try-side-requires c κs = let p = c .before .before .before .before .before .before .pre in (p .0, (p .1 .0, (p .1 .1 .0, (inl refl, (box-room (p .0), p .1 .1 .1)))))
+try-side-requires c κs = let p = c .before .before .before .before .before .before .before .pre in (p .0, (p .1 .0, (p .1 .1 .0, (inl refl, (box-room (p .0), p .1 .1 .1)))))
 
 -- side 0, in its array
 module _ (c : tie.After-try-side) where
   abbrev s0 : tie.Start
-  s0 = c .before .before .before .before .before .before .before
+  s0 = c .before .before .before .before .before .before .before .before
 
   abbrev zero : List ℤ
-  zero = c .try-side .last .1 .1 .1 .1 .1 .1 .1 .1 .1 .1 .1 .0
+  zero = c .try-side .last .1 .1 .1 .1 .1 .1 .1 .1 .1 .1 .1 .1 .0
 
   zero-length : length zero ≡ length (s0 .args .bounds .now)
-  zero-length = c .try-side .kept .1 .1 .1 .1 .1 .1 .1 .1 .1 .1 .1 .0 ∙ box-room (s0 .pre .0)
+  zero-length = c .try-side .kept .1 .1 .1 .1 .1 .1 .1 .1 .1 .1 .1 .1 .0 ∙ box-room (s0 .pre .0)
 
   zero-told : (isNone (propagationOf (c .try-side .result) [] .ending) ≡ isNone (side s0 0 .ending)) × (zero ≡ side s0 0 .box)
   zero-told = answered (c .try-side .result) zero (c .try-side .ensures .0 0 refl)
@@ -49,7 +49,7 @@ module _ (c : tie.After-try-side) where
 is-infeasible-requires : tie.Need-is-infeasible-requires
 is-infeasible-requires c κs = search needs
 
-none0 : (c : tie.After-is-infeasible) → c .is-infeasible .result ≡ isNone (side (c .before .before .before .before .before .before .before .before .before .before .before .before .before) 0 .ending)
+none0 : (c : tie.After-is-infeasible) → c .is-infeasible .result ≡ isNone (side (c .before .before .before .before .before .before .before .before .before .before .before .before .before .before) 0 .ending)
 none0 c = c .is-infeasible .ensures ∙ zero-told (c .before .before .before .before .before .before) .0
 
 same-length : tie.Need-same-length
@@ -66,11 +66,11 @@ array-borrow-prefix-one : tie.Need-array-borrow-prefix-one
 array-borrow-prefix-one c = search needs
 
 slice-aggregate-try-side-2 : tie.Need-slice-aggregate-try-side-2
-slice-aggregate-try-side-2 c = sym (box-room (c .before .before .before .before .before .before .before .before .before .before .before .before .before .before .before .before .before .pre .0))
+slice-aggregate-try-side-2 c = sym (box-room (c .before .before .before .before .before .before .before .before .before .before .before .before .before .before .before .before .before .before .pre .0))
 
 try-side-requires-2 : tie.Need-try-side-requires-2
 try-side-requires-2 c κs =
-    let p = c .before .before .before .before .before .before .before .before .before .before .before .before .before .before .before .before .before .pre in
+    let p = c .before .before .before .before .before .before .before .before .before .before .before .before .before .before .before .before .before .before .pre in
     let x = p .1 .1 .1 in
     (p .0, (p .1 .0, (p .1 .1 .0, (inr refl, (box-room (p .0), record { index = c .before .before .before .before .before .before .before .before .before .before .try-side .ensures .1; clean = x .clean; len = x .len })))))
 
@@ -80,13 +80,13 @@ module _ (c : tie.After-try-side2) where
   first = c .before .before .before .before .before
 
   abbrev s : tie.Start
-  s = c .before .before .before .before .before .before .before .before .before .before .before .before .before .before .before .before .before .before
+  s = c .before .before .before .before .before .before .before .before .before .before .before .before .before .before .before .before .before .before .before
 
   abbrev one : List ℤ
-  one = c .try-side2 .last .1 .1 .1 .1 .1 .1 .1 .1 .1 .1 .1 .0
+  one = c .try-side2 .last .1 .1 .1 .1 .1 .1 .1 .1 .1 .1 .1 .1 .0
 
   one-length : length one ≡ length (s .args .bounds .now)
-  one-length = c .try-side2 .kept .1 .1 .1 .1 .1 .1 .1 .1 .1 .1 .1 .0 ∙ box-room (s .pre .0)
+  one-length = c .try-side2 .kept .1 .1 .1 .1 .1 .1 .1 .1 .1 .1 .1 .1 .0 ∙ box-room (s .pre .0)
 
   one-told : (isNone (propagationOf (c .try-side2 .result) [] .ending) ≡ isNone (side s 1 .ending)) × (one ≡ side s 1 .box)
   one-told = answered (c .try-side2 .result) one (c .try-side2 .ensures .0 1 refl)
@@ -94,7 +94,7 @@ module _ (c : tie.After-try-side2) where
 is-infeasible-requires-2 : tie.Need-is-infeasible-requires-2
 is-infeasible-requires-2 c κs = search needs
 
-none1 : (c : tie.After-is-infeasible2) → c .is-infeasible2 .result ≡ isNone (side (c .before .before .before .before .before .before .before .before .before .before .before .before .before .before .before .before .before .before .before .before .before .before .before .before) 1 .ending)
+none1 : (c : tie.After-is-infeasible2) → c .is-infeasible2 .result ≡ isNone (side (c .before .before .before .before .before .before .before .before .before .before .before .before .before .before .before .before .before .before .before .before .before .before .before .before .before) 1 .ending)
 none1 c = c .is-infeasible2 .ensures ∙ one-told (c .before .before .before .before .before .before) .0
 
 same-length-3 : tie.Need-same-length-3

@@ -8,18 +8,18 @@ use Rattle.model.specs.Box.{isFree}
 use Rattle.probing.proofs.rest.spans_at.Statement.{statement}
 use Rattle.probing.proofs.rest.spans_at.Tie as tie
 
-free-is : (c : tie.Else1) → let s = c .before .before .before .before .before in isFree (s .args .bounds .now) (s .args .k) ≡ true
+free-is : (c : tie.Else1) → let s = c .before .before .before .before .before .before in isFree (s .args .bounds .now) (s .args .k) ≡ true
 free-is c = told-true _ (c .before .is-free .ensures) (c .if1 .left)
 
 is-free-requires : tie.Need-is-free-requires
-is-free-requires c κs = let s = c .before .before .before in omega (arith, s .pre .0 .box .len, s .pre .1 .0)
+is-free-requires c κs = let s = c .before .before .before .before in omega (arith, s .pre .0 .box .len, s .pre .1 .0)
 
 returns : tie.Need-returns
-returns c = (rw (told-false _ (c .before .is-free .ensures) (c .if1 .taken)) refl, c .before .before .before .before .before .pre .1 .1 .index)
+returns c = (rw (told-false _ (c .before .is-free .ensures) (c .if1 .taken)) refl, c .before .before .before .before .before .before .pre .1 .1 .index)
 
 sides-span-requires : tie.Need-sides-span-requires
 sides-span-requires c κs =
-    let p = c .before .before .before .before .before .before .before .pre in
+    let p = c .before .before .before .before .before .before .before .before .pre in
     (p .0, (true→T _ (free-is (c .before .before)), (p .1 .0, p .1 .1)))
 
 same-length : tie.Need-same-length

@@ -30,17 +30,17 @@ array-borrow-prefix-one : tie.Need-array-borrow-prefix-one
 array-borrow-prefix-one c = search needs
 
 slice-aggregate-try-side : tie.Need-slice-aggregate-try-side
-slice-aggregate-try-side c = sym (box-room (c .before .before .before .before .before .before .before .before .before .pre .0))
+slice-aggregate-try-side c = sym (box-room (c .before .before .before .before .before .before .before .before .before .before .pre .0))
 
 try-side-requires : tie.Need-try-side-requires
 try-side-requires c κs =
-    let p = c .before .before .before .before .before .before .before .before .before .pre in
+    let p = c .before .before .before .before .before .before .before .before .before .before .pre in
     (p .0, (p .1 .1 .0, (p .1 .1 .1 .0, (inr refl, (box-room (p .0), p .1 .1 .1 .1 .1)))))
 
 -- side 1, in the front of its array
 module _ (c : tie.After-try-side) where
   abbrev s : tie.Start
-  s = c .before .before .before .before .before .before .before .before .before .before
+  s = c .before .before .before .before .before .before .before .before .before .before .before
 
   nonEmpty : NonEmpty (s .args .n) (s .args .bounds .now)
   nonEmpty = free-nonEmpty (s .args .k) (s .pre .1 .1 .1 .0) (s .pre .1 .1 .0) (s .pre .0 .box .shape)
@@ -49,25 +49,25 @@ module _ (c : tie.After-try-side) where
   some = nonEmpty-isn't (s .pre .0 .some) nonEmpty
 
   abbrev one : List ℤ
-  one = c .try-side .last .1 .1 .1 .1 .1 .1 .1 .1 .1 .1 .1 .0
+  one = c .try-side .last .1 .1 .1 .1 .1 .1 .1 .1 .1 .1 .1 .1 .0
 
   abbrev one-array : List ℤ
   one-array = one ++ drop (length (s .args .bounds .now)) blank
 
   one-length : length one ≡ length (take (length (s .args .bounds .now)) blank)
-  one-length = c .try-side .kept .1 .1 .1 .1 .1 .1 .1 .1 .1 .1 .1 .0
+  one-length = c .try-side .kept .1 .1 .1 .1 .1 .1 .1 .1 .1 .1 .1 .1 .0
 
   one-whole : length one-array ≡ 256
   one-whole = length-front blank one (length (s .args .bounds .now)) one-length
 
   one-is : let a = s .args in propagationOf (c .try-side .result) (take (2 * a .n) one-array)
-      ≡ propagate (a .budget) (a .n) (a .m) (rowsOf (a .coefs .now) (a .rhs .now)) (fix (a .n) (a .bounds .now) (a .k) 1)
+      ≡ propagate (a .budget) (a .n) (a .m) (rowsOf (a .coefs .now) (a .rhs .now) (a .kinds .now)) (fix (a .n) (a .bounds .now) (a .k) 1)
   one-is =
       ap (propagationOf (c .try-side .result)) (take-at one _ (2 * s .args .n) (one-length ∙ box-room (s .pre .0) ∙ s .pre .0 .box .len))
       ∙ c .try-side .ensures .0 1 refl
 
-  abbrev marked : Marked (s .args .n) (s .args .m) (s .args .bounds .now) (s .args .coefs .now) (s .args .rhs .now)
-      (c .try-side .last .1 .1 .1 .1 .1 .1 .1 .1 .0) (c .try-side .last .1 .1 .1 .1 .1 .1 .1 .1 .1 .0) (s .args .marks .now)
+  abbrev marked : Marked (s .args .n) (s .args .m) (s .args .bounds .now) (rowsOf (s .args .coefs .now) (s .args .rhs .now) (s .args .kinds .now))
+      (c .try-side .last .1 .1 .1 .1 .1 .1 .1 .1 .1 .0) (c .try-side .last .1 .1 .1 .1 .1 .1 .1 .1 .1 .1 .0) (s .args .marks .now)
   marked = let x = s .pre .1 .1 .1 .1 .1 in record { index = c .try-side .ensures .1; clean = x .clean; len = x .len }
 
 slice-aggregate-join-marked : tie.Need-slice-aggregate-join-marked
@@ -86,11 +86,11 @@ join-marked-requires c κs =
         boxLen = p .0 .box .len;
         room0 = omega (arith, p .0 .few, zero .0);
         room1 = omega (arith, p .0 .few, one-whole t);
-        valid0 = side-valid (a .budget) (a .m) (a .coefs .now) (a .rhs .now) (p .0 .some) (f .box) (a .s0) _ (zero .1);
-        none0 = side-none (a .budget) (a .m) (a .coefs .now) (a .rhs .now) (p .0 .some) (f .box) (a .s0) _ (zero .1);
+        valid0 = side-valid (a .budget) (a .m) (rowsOf (a .coefs .now) (a .rhs .now) (a .kinds .now)) (p .0 .some) (f .box) (a .s0) _ (zero .1);
+        none0 = side-none (a .budget) (a .m) (rowsOf (a .coefs .now) (a .rhs .now) (a .kinds .now)) (p .0 .some) (f .box) (a .s0) _ (zero .1);
         table = p .1 .0;
       },
-      (t .try-side .ensures .1 .columns, omega (arith, p .0 .fewRows, marked t .len)),
+      (t .try-side .ensures .1 .columns, omega (arith, p .0 .kindsLen), omega (arith, p .0 .fewRows, marked t .len)),
     )
 
 same-length : tie.Need-same-length
@@ -114,7 +114,7 @@ module _ (j : tie.After-join-marked) where
   t = j .before .before .before .before .before .before .before .before .before .before .before
 
   joined : let a = s t .args in probingOf (j .join-marked .result) (j .join-marked .last .1 .1 .1 .1 .1 .1 .1 .0) (j .join-marked .last .1 .1 .1 .1 .1 .1 .1 .1 .0)
-      ≡ probe (a .k) (a .budget) (a .n) (a .m) (rowsOf (a .coefs .now) (a .rhs .now)) (a .bounds .now) (a .table .now)
+      ≡ probe (a .k) (a .budget) (a .n) (a .m) (rowsOf (a .coefs .now) (a .rhs .now) (a .kinds .now)) (a .bounds .now) (a .table .now)
   unfolding probe
   joined =
       let a = s t .args in
@@ -127,12 +127,12 @@ returns c =
     let j = c .before .before .before .before .before .before .before in
     let a = s (t j) .args in
     let p = s (t j) .pre in
-    let index : Index (a .n) (a .m) (a .coefs .now) (t j .try-side .last .1 .1 .1 .1 .1 .1 .1 .1 .0) (j .join-marked .last .1 .1 .1 .1 .1 .1 .1 .1 .1 .1 .0) =
+    let index : Index (a .n) (a .m) (a .coefs .now) (t j .try-side .last .1 .1 .1 .1 .1 .1 .1 .1 .1 .0) (j .join-marked .last .1 .1 .1 .1 .1 .1 .1 .1 .1 .1 .1 .0) =
     record { rows = t j .try-side .ensures .1 .rows; columns = j .join-marked .ensures .1 .1 } in (
       joined j,
       marked-probed (a .k) (a .budget) (a .table .now) (j .join-marked .last .1 .1 .1 .1 .1 .1 .1 .1 .0) (j .join-marked .result) (p .0) (nonEmpty (t j))
           (or-inr (isEmpty (a .n) (a .bounds .now)) (isFree (a .bounds .now) (a .k)) (p .1 .1 .0)) (marked (t j)) index (joined j)
-          (j .join-marked .ensures .1 .0) (j .join-marked .kept .1 .1 .1 .1 .1 .1 .1 .1 .1 .1 .1 .0),
+          (j .join-marked .ensures .1 .0) (j .join-marked .kept .1 .1 .1 .1 .1 .1 .1 .1 .1 .1 .1 .1 .0),
     )
 
 pub finish-probe-spec : {M : Type 1} → statement M

@@ -17,15 +17,15 @@ array-borrow-prefix-old : tie.Need-array-borrow-prefix-old
 array-borrow-prefix-old c = search needs
 
 slice-aggregate-copy-box : tie.Need-slice-aggregate-copy-box
-slice-aggregate-copy-box c = sym (small (c .before .before .before .before .before))
+slice-aggregate-copy-box c = sym (small (c .before .before .before .before .before .before))
 
 copy-box-requires : tie.Need-copy-box-requires
-copy-box-requires c κs = sym (small (c .before .before .before .before .before))
+copy-box-requires c κs = sym (small (c .before .before .before .before .before .before))
 
 -- the array's front is the box
 module _ (c : tie.After-copy-box) where
   abbrev s : tie.Start
-  s = c .before .before .before .before .before .before
+  s = c .before .before .before .before .before .before .before
 
   abbrev B : List ℤ
   B = s .args .bounds .now
@@ -53,7 +53,7 @@ remark-all-requires c κs =
     let k = c .before .before .before .before .before .before .before .before .before .before .before in
     let p = s k .pre in
     let call = c .before .before .before .before .before .before .before .join in
-    (p .1 .0, p .0 .few, ap length (front k) ∙ p .0 .boxLen, call .kept .1 .1 .1 .1 .1 .1 .0 ∙ p .0 .boxLen, p .1 .1)
+    (p .1 .0, p .1 .1, p .0 .few, ap length (front k) ∙ p .0 .boxLen, call .kept .1 .1 .1 .1 .1 .1 .0 ∙ p .0 .boxLen, p .1 .2)
 
 same-length : tie.Need-same-length
 same-length c = search needs
@@ -71,7 +71,7 @@ returns : tie.Need-returns
 returns c =
     let k = c .before .before .before .before .before .before .before .before .before .before .before .before .before .before .before .before .before in
     let keep = c .before .before .before .before .before .remark-all in
-    (c .before .before .before .before .before .before .before .before .before .before .before .before .before .join .ensures, (marks-from (s k .args .marks .now) (keep .last .1 .1 .1 .1 .1 .1 .0) (front k) (keep .ensures .1 .0), keep .ensures .1 .1))
+    (c .before .before .before .before .before .before .before .before .before .before .before .before .before .join .ensures, (marks-from (s k .args .marks .now) (keep .last .1 .1 .1 .1 .1 .1 .1 .0) (front k) (keep .ensures .1 .0), keep .ensures .1 .1))
 
 pub join-marked-spec : {M : Type 1} → statement M
 join-marked-spec =

@@ -14,7 +14,7 @@ slice-aggregate-probe-marked-3 : tie.Need-slice-aggregate-probe-marked-3
 slice-aggregate-probe-marked-3 c = search needs
 
 probe-marked-requires : tie.Need-probe-marked-requires
-probe-marked-requires c κs = let p = c .before .before .before .before .before .before .pre in (p .0, (p .1 .0, (p .1 .1 .0, (p .1 .1 .1, marked-none (p .0)))))
+probe-marked-requires c κs = let p = c .before .before .before .before .before .before .before .pre in (p .0, (p .1 .0, (p .1 .1 .0, (p .1 .1 .1, marked-none (p .0)))))
 
 same-length : tie.Need-same-length
 same-length c = search needs

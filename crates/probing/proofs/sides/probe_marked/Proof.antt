@@ -39,14 +39,14 @@ same-length c = search needs
 returns : tie.Need-returns
 unfolding probe probingOf reportOf
 returns c =
-    let s = c .before .before .before .before .before .before .before .before .before in
+    let s = c .before .before .before .before .before .before .before .before .before .before in
     let empty = sym (c .before .before .before .is-empty .ensures _ (s .pre .0 .some) (s .pre .0 .box)) ∙ c .before .before .if1 .taken in
     (rw (empty, c .before .untried .ensures, c .untried2 .ensures) refl, s .pre .1 .1 .1 .1)
 
 -- the box is not empty, so k is free
 module _ (c : tie.Else1) where
   abbrev start : tie.Start
-  start = c .before .before .before .before .before .before .before
+  start = c .before .before .before .before .before .before .before .before
 
   some : isEmpty (start .args .n) (start .args .bounds .now) ≡ false
   some = sym (c .before .is-empty .ensures _ (start .pre .0 .some) (start .pre .0 .box)) ∙ c .if1 .left
@@ -69,20 +69,20 @@ module _ (c : tie.After-find-clean) where
   else1 = c .before .before .before .before
 
   abbrev marks : List ℕ
-  marks = c .find-clean .last .1 .1 .1 .1 .1 .1 .0
+  marks = c .find-clean .last .1 .1 .1 .1 .1 .1 .1 .0
 
-  found-index : let a = start else1 .args in Index (a .n) (a .m) (a .coefs .now) (c .find-clean .last .1 .1 .1 .1 .1 .0) (a .signs .now)
+  found-index : let a = start else1 .args in Index (a .n) (a .m) (a .coefs .now) (c .find-clean .last .1 .1 .1 .1 .1 .1 .0) (a .signs .now)
   found-index = record { rows = c .find-clean .ensures .1; columns = start else1 .pre .1 .1 .1 .1 .index .columns }
 
   found : {across signs : List ℕ} → let a = start else1 .args in Index (a .n) (a .m) (a .coefs .now) across signs
-      → Marked (a .n) (a .m) (a .bounds .now) (a .coefs .now) (a .rhs .now) across signs marks
-  found x = record { index = x; clean = c .find-clean .ensures .0; len = c .find-clean .kept .1 .1 .1 .1 .1 .1 .0 ∙ start else1 .pre .1 .1 .1 .1 .len }
+      → Marked (a .n) (a .m) (a .bounds .now) (rowsOf (a .coefs .now) (a .rhs .now) (a .kinds .now)) across signs marks
+  found x = record { index = x; clean = c .find-clean .ensures .0; len = c .find-clean .kept .1 .1 .1 .1 .1 .1 .1 .0 ∙ start else1 .pre .1 .1 .1 .1 .len }
 
 array-borrow-prefix-zero : tie.Need-array-borrow-prefix-zero
 array-borrow-prefix-zero c = search needs
 
 slice-aggregate-try-side : tie.Need-slice-aggregate-try-side
-slice-aggregate-try-side c = sym (box-room (c .before .before .before .before .before .before .before .before .before .before .before .before .before .before .before .before .before .before .before .before .pre .0))
+slice-aggregate-try-side c = sym (box-room (c .before .before .before .before .before .before .before .before .before .before .before .before .before .before .before .before .before .before .before .before .before .pre .0))
 
 try-side-requires : tie.Need-try-side-requires
 try-side-requires c κs =
@@ -93,22 +93,22 @@ try-side-requires c κs =
 -- side 0, in the front of its array
 module _ (c : tie.After-try-side) where
   abbrev s0 : tie.Start
-  s0 = c .before .before .before .before .before .before .before .before .before .before .before .before .before .before .before .before .before .before .before .before .before
+  s0 = c .before .before .before .before .before .before .before .before .before .before .before .before .before .before .before .before .before .before .before .before .before .before
 
   abbrev zero : List ℤ
-  zero = c .try-side .last .1 .1 .1 .1 .1 .1 .1 .1 .1 .1 .1 .0
+  zero = c .try-side .last .1 .1 .1 .1 .1 .1 .1 .1 .1 .1 .1 .1 .0
 
   abbrev zero-array : List ℤ
   zero-array = zero ++ drop (length (s0 .args .bounds .now)) blank
 
   zero-length : length zero ≡ length (take (length (s0 .args .bounds .now)) blank)
-  zero-length = c .try-side .kept .1 .1 .1 .1 .1 .1 .1 .1 .1 .1 .1 .0
+  zero-length = c .try-side .kept .1 .1 .1 .1 .1 .1 .1 .1 .1 .1 .1 .1 .0
 
   zero-whole : length zero-array ≡ 256
   zero-whole = length-front blank zero (length (s0 .args .bounds .now)) zero-length
 
   zero-is : let a = s0 .args in propagationOf (c .try-side .result) (take (2 * a .n) zero-array)
-      ≡ propagate (a .budget) (a .n) (a .m) (rowsOf (a .coefs .now) (a .rhs .now)) (fix (a .n) (a .bounds .now) (a .k) 0)
+      ≡ propagate (a .budget) (a .n) (a .m) (rowsOf (a .coefs .now) (a .rhs .now) (a .kinds .now)) (fix (a .n) (a .bounds .now) (a .k) 0)
   zero-is =
       ap (propagationOf (c .try-side .result)) (take-at zero _ (2 * s0 .args .n) (zero-length ∙ box-room (s0 .pre .0) ∙ s0 .pre .0 .box .len))
       ∙ c .try-side .ensures .0 0 refl
@@ -133,13 +133,15 @@ same-length-4 : tie.Need-same-length-4
 same-length-4 c =
     let j = c .before .before .before .before .before .before .before .before .before in
     let t = j .before .before .before .before .before .before .before .before .before .before .before .before in
-    j .finish-probe .kept .1 .1 .1 .1 .1 .1 .1 .1 .1 .1 .0 ∙ t .try-side .kept .1 .1 .1 .1 .1 .1 .1 .1 .0 ∙ t .before .before .before .before .before .before .before .before .before .before .find-clean .kept .1 .1 .1 .1 .1 .0
+    j .finish-probe .kept .1 .1 .1 .1 .1 .1 .1 .1 .1 .1 .1 .0 ∙ t .try-side .kept .1 .1 .1 .1 .1 .1 .1 .1 .1 .0 ∙ t .before .before .before .before .before .before .before .before .before .before .find-clean .kept .1 .1 .1 .1 .1 .1 .0
 
 same-length-5 : tie.Need-same-length-5
 same-length-5 c = search needs
 
 same-length-6 : tie.Need-same-length-6
-same-length-6 c = search needs
+same-length-6 c =
+    let j = c .before .before .before .before .before .before .before .before .before in
+    j .finish-probe .kept .1 .1 .1 .1 .1 .1 .1 .1 .1 .1 .1 .1 .1 .0 ∙ j .before .before .before .before .before .before .before .before .before .before .before .before .before .before .before .before .before .before .before .before .before .before .find-clean .kept .1 .1 .1 .1 .1 .1 .1 .0
 
 returns-2 : tie.Need-returns-2
 returns-2 c = c .before .before .before .before .before .before .before .before .before .finish-probe .ensures

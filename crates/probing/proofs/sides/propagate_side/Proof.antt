@@ -12,15 +12,15 @@ copy-box-requires c κs = search needs
 
 remark-at-requires : tie.Need-remark-at-requires
 remark-at-requires c κs =
-    let g = c .before .before .before .before .before .before .before .before .before .before .pre in
+    let g = c .before .before .before .before .before .before .before .before .before .before .before .pre in
     let e = ap length (c .before .before .before .before .before .copy-box .ensures) in
-    (g .index .columns, g .variable, g .room, omega (arith, e, g .nonEmpty .len, g .variable), omega (arith, g .valid .box .len, g .variable))
+    (g .index .columns, omega (arith, g .valid .kindsLen), g .variable, g .room, omega (arith, e, g .nonEmpty .len, g .variable), omega (arith, g .valid .box .len, g .variable))
 
 propagate-marked-requires : tie.Need-propagate-marked-requires
 propagate-marked-requires c κs =
-    let g = c .before .before .before .before .before .before .before .before .before .before .before .before .before .before .before .before .before .before .before .before .before .pre in
+    let g = c .before .before .before .before .before .before .before .before .before .before .before .before .before .before .before .before .before .before .before .before .before .before .pre in
     let call = c .before .before .before .before .before .before .before .before .before .before .remark-at in
-    (g .valid, (side-watched g (call .last .1 .1 .1 .1 .1 .1 .1 .0) (c .before .before .before .before .before .before .before .before .before .before .before .before .before .before .before .before .copy-box .ensures) (call .ensures .0) (call .ensures .1 .0) (call .ensures .1 .1), omega (arith, g .room, call .kept .1 .1 .1 .1 .1 .1 .1 .0)))
+    (g .valid, (side-watched g (call .last .1 .1 .1 .1 .1 .1 .1 .1 .0) (c .before .before .before .before .before .before .before .before .before .before .before .before .before .before .before .before .copy-box .ensures) (call .ensures .0) (call .ensures .1 .0) (call .ensures .1 .1), omega (arith, g .room, call .kept .1 .1 .1 .1 .1 .1 .1 .1 .0)))
 
 same-length : tie.Need-same-length
 same-length c = search needs

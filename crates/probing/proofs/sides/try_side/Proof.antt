@@ -45,11 +45,11 @@ slice-set-from-v-2 : tie.Need-slice-set-from-v-2
 slice-set-from-v-2 c = simp length-set (omega (arith, ap length (c .before .copy-box .ensures)))
 
 -- the copy with two stores
-stored : (c : tie.After-copy-box) (w : ℕ) → let a = c .before .before .before .before .before .args in a .v ≡ pos w
+stored : (c : tie.After-copy-box) (w : ℕ) → let a = c .before .before .before .before .before .before .args in a .v ≡ pos w
     → let v = toZ w32 (ofZ w32 (a .v)) in set (set (c .copy-box .last .1 .0) (2 * a .k) v) (2 * a .k + 1) v ≡ fix (a .n) (a .bounds .now) (a .k) w
 unfolding withBounds
 stored c w e =
-    let s = c .before .before .before .before .before in
+    let s = c .before .before .before .before .before .before in
     let a = s .args in
     rw (toZ-ofZ {w = w32} (s .fits .v), e, c .copy-box .ensures) (fix-stores (a .n) (a .bounds .now) (a .k) w (s .pre .0 .box .len) (s .pre .1 .1 .0))
 
@@ -63,14 +63,14 @@ array-borrow-prefix-seen : tie.Need-array-borrow-prefix-seen
 array-borrow-prefix-seen c = search needs
 
 slice-aggregate-propagate-side : tie.Need-slice-aggregate-propagate-side
-slice-aggregate-propagate-side c = sym (box-room (c .before .before .before .before .before .before .before .before .before .before .before .before .pre .0))
+slice-aggregate-propagate-side c = sym (box-room (c .before .before .before .before .before .before .before .before .before .before .before .before .before .pre .0))
 
 slice-aggregate-propagate-side-2 : tie.Need-slice-aggregate-propagate-side-2
 slice-aggregate-propagate-side-2 c = search needs
 
 propagate-side-requires : tie.Need-propagate-side-requires
 propagate-side-requires c κs =
-    let s = c .before .before .before .before .before .before .before .before .before .before .before .before .before .before in
+    let s = c .before .before .before .before .before .before .before .before .before .before .before .before .before .before .before in
     let a = s .args in
     let p = s .pre in
     let d = c .before .before .before .before .before .before .before .before .before in
@@ -90,16 +90,16 @@ same-length-2 c = search needs
 
 same-length-3 : tie.Need-same-length-3
 same-length-3 c =
-    let s = c .before .before .before .before .before .before .before .before .before .before .before .before .before .before .before .before .before .before .before .before .before .before in
+    let s = c .before .before .before .before .before .before .before .before .before .before .before .before .before .before .before .before .before .before .before .before .before .before .before in
     let d = c .before .before .before .before .before .before .before .before .before .before .before .before .before .before .before .before .before in
-    simp length-set at (c .before .before .before .before .before .before .before .propagate-side .kept .1 .1 .1 .1 .1 .1 .1 .1 .1 .1 .1 .0) ∙ ap length (d .copy-box .ensures) ∙ sym (s .pre .1 .1 .1 .1 .0)
+    simp length-set at (c .before .before .before .before .before .before .before .propagate-side .kept .1 .1 .1 .1 .1 .1 .1 .1 .1 .1 .1 .1 .0) ∙ ap length (d .copy-box .ensures) ∙ sym (s .pre .1 .1 .1 .1 .0)
 
 returns : tie.Need-returns
 returns c =
     let d = c .before .before .before .before .before .before .before .before .before .before .before .before .before .before .before .before .before in
-    let a = c .before .before .before .before .before .before .before .before .before .before .before .before .before .before .before .before .before .before .before .before .before .before .args in
+    let a = c .before .before .before .before .before .before .before .before .before .before .before .before .before .before .before .before .before .before .before .before .before .before .before .args in
     let call = c .before .before .before .before .before .before .before .propagate-side .ensures in
-    ((λ w e. call .0 ∙ ap (propagate (a .budget) (a .n) (a .m) (rowsOf (a .coefs .now) (a .rhs .now))) (stored d w e)), call .1)
+    ((λ w e. call .0 ∙ ap (propagate (a .budget) (a .n) (a .m) (rowsOf (a .coefs .now) (a .rhs .now) (a .kinds .now))) (stored d w e)), call .1)
 
 pub try-side-spec : {M : Type 1} → statement M
 try-side-spec =

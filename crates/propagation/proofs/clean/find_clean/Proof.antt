@@ -3,24 +3,25 @@ use Prim.Native.Nat.{_-_, _≤_}
 use lib.ListN.{length}
 use mathlib.Core.Path.{_∙_, _≡_, refl}
 use native.Mathlib.Omega.{arith}
+use Rattle.model.specs.Rows.{rowsOf}
 use Rattle.propagation.specs.Index.{RowSteps}
 use Rattle.propagation.specs.Marks.{Clean}
 use Rattle.propagation.proofs.clean.find_clean.Statement.{statement}
 use Rattle.propagation.proofs.clean.find_clean.Tie as tie
 
 abbrev Inv-loop : tie.InvT-loop
-Inv-loop n m bounds coefs rhs across₀ marks₀ r₀ across marks r =
-    (r ≤ m) × Clean n m coefs rhs bounds marks × RowSteps n m coefs across × (length across ≡ length across₀) × (length marks ≡ length marks₀)
+Inv-loop n m bounds coefs rhs kinds across₀ marks₀ r₀ across marks r =
+    (r ≤ m) × Clean n m (rowsOf coefs rhs kinds) bounds marks × RowSteps n m coefs across × (length across ≡ length across₀) × (length marks ≡ length marks₀)
 
 abbrev μ-loop : tie.MeasureT-loop
-μ-loop n m bounds coefs rhs across₀ marks₀ r₀ across marks r = m - r
+μ-loop n m bounds coefs rhs kinds across₀ marks₀ r₀ across marks r = m - r
 
 loop-holds : tie.Need-loop-holds Inv-loop μ-loop
-loop-holds c = let g = c .before .before .pre in (omega arith, g .clean, g .steps, refl, refl)
+loop-holds c = let g = c .before .before .before .pre in (omega arith, g .clean, g .steps, refl, refl)
 
 find-clean-row-requires : tie.Need-find-clean-row-requires Inv-loop μ-loop
 find-clean-row-requires c κs =
-    let g = c .before .before .before .before .before .before .pre in
+    let g = c .before .before .before .before .before .before .before .pre in
     let i = c .before .before .before .loop .inv in
     (record { valid = g .valid; steps = i .2; clean = i .1; room = omega (arith, g .room, i .4) }, omega arith)
 
@@ -34,7 +35,7 @@ loop-again : tie.Need-loop-again Inv-loop μ-loop
 loop-again c =
     let i = c .before .before .before .before .before .before .before .before .loop .inv in
     let call = c .before .before .before .before .find-clean-row in
-    (omega arith, call .ensures .0, call .ensures .1, call .kept .1 .1 .1 .1 .1 .1 .0 ∙ i .3, call .kept .1 .1 .1 .1 .1 .1 .1 .0 ∙ i .4)
+    (omega arith, call .ensures .0, call .ensures .1, call .kept .1 .1 .1 .1 .1 .1 .1 .0 ∙ i .3, call .kept .1 .1 .1 .1 .1 .1 .1 .1 .0 ∙ i .4)
 
 same-length : tie.Need-same-length Inv-loop μ-loop
 same-length c = c .before .loop .inv .3

@@ -2,28 +2,26 @@
 use borrow.Author.Needs.{needs}
 use mathlib.Core.Path.{_∙_, sym}
 use native.Mathlib.Omega.{arith}
-use Rattle.model.specs.Box.{at}
-use Rattle.model.specs.Rows.{rowOf}
-use Rattle.row.proofs.ReachLaws.{moves-not}
+use Rattle.model.specs.Rows.{rowAt, rowsOf}
 use Rattle.propagation.proofs.PropagationLoops.{row-in, valid-row}
-use Rattle.propagation.proofs.MarkLaws.{clean-less, clean-one}
+use Rattle.propagation.proofs.MarkLaws.{clean-set, moves-none}
 use Rattle.propagation.proofs.clean.find_clean_row.Statement.{statement}
 use Rattle.propagation.proofs.clean.find_clean_row.Tie as tie
 
 slice-read-mark : tie.Need-slice-read-mark
-slice-read-mark c = let s = c .before .before .before in omega (arith, s .pre .0 .room, s .pre .1)
+slice-read-mark c = let s = c .before .before .before .before in omega (arith, s .pre .0 .room, s .pre .1)
 
 returns : tie.Need-returns
-returns c = let p = c .before .before .before .before .pre in (p .0 .clean, p .0 .steps)
+returns c = let p = c .before .before .before .before .before .pre in (p .0 .clean, p .0 .steps)
 
 test-row-requires : tie.Need-test-row-requires
 test-row-requires c κs =
-    let s = c .before .before .before .before .before in
+    let s = c .before .before .before .before .before .before in
     let g = s .pre .0 in
     ((row-in (g .valid) (s .args .r) (s .pre .1), valid-row (g .valid) (s .args .r) (s .pre .1) (g .valid .box)), (g .steps, s .pre .1))
 
 slice-write-marks : tie.Need-slice-write-marks
-slice-write-marks c = let s = c .before .before .before .before .before .before .before .before .before in omega (arith, s .pre .0 .room, s .pre .1)
+slice-write-marks c = let s = c .before .before .before .before .before .before .before .before .before .before in omega (arith, s .pre .0 .room, s .pre .1)
 
 same-length : tie.Need-same-length
 same-length c = search needs
@@ -33,12 +31,12 @@ same-length-2 c = search needs
 
 returns-2 : tie.Need-returns-2
 returns-2 c =
-    let s = c .before .before .before .before .before .before .before .before .before in
+    let s = c .before .before .before .before .before .before .before .before .before .before in
     let g = s .pre .0 in
-    (clean-less {marks = s .args .marks .now} (s .args .r) (g .clean) (omega (arith, g .room, s .pre .1)), c .before .before .before .test-row .ensures .1)
+    (clean-set {marks = s .args .marks .now} (s .args .r) 2 (g .clean) (λ e. absurd (let z : ⊥ = omega arith in z)) (omega (arith, g .room, s .pre .1)), c .before .before .before .test-row .ensures .1)
 
 slice-write-marks-2 : tie.Need-slice-write-marks-2
-slice-write-marks-2 c = let s = c .before .before .before .before .before .before .before .before .before in omega (arith, s .pre .0 .room, s .pre .1)
+slice-write-marks-2 c = let s = c .before .before .before .before .before .before .before .before .before .before in omega (arith, s .pre .0 .room, s .pre .1)
 
 same-length-3 : tie.Need-same-length-3
 same-length-3 c = search needs
@@ -48,12 +46,12 @@ same-length-4 c = search needs
 
 returns-3 : tie.Need-returns-3
 returns-3 c =
-    let s = c .before .before .before .before .before .before .before .before .before in
+    let s = c .before .before .before .before .before .before .before .before .before .before in
     let a = s .args in
     let g = s .pre .0 in
     let call = c .before .before .before .test-row in
-    let e = moves-not (a .n) (rowOf (a .n) (a .coefs .now) (a .r)) (at (a .rhs .now) (a .r)) (a .bounds .now) (g .valid .box .len) (sym (call .ensures .0) ∙ c .if2 .left) in
-    (clean-one {marks = a .marks .now} (a .r) (g .clean) e (omega (arith, g .room, s .pre .1)), call .ensures .1)
+    let e = moves-none (rowAt (a .n) (rowsOf (a .coefs .now) (a .rhs .now) (a .kinds .now)) (a .r)) (g .valid .some) (sym (call .ensures .0) ∙ c .if2 .left) in
+    (clean-set {marks = a .marks .now} (a .r) 1 (g .clean) (λ _. e) (omega (arith, g .room, s .pre .1)), call .ensures .1)
 
 pub find-clean-row-spec : {M : Type 1} → statement M
 find-clean-row-spec =

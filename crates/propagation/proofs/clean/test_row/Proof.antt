@@ -16,7 +16,7 @@ know-steps-requires c κs = search needs
 
 row-moves-at-by-requires : tie.Need-row-moves-at-by-requires
 row-moves-at-by-requires c κs =
-    let s = c .before .before .before .before .before .before .before in
+    let s = c .before .before .before .before .before .before .before .before in
     let known = c .before .before .before .know-steps .ensures in
     (s .pre .0, steps-in (s .args .r) (row-end (known .0) (s .args .r) (s .pre .1 .1) .0) (known .1))
 

@@ -1,4 +1,4 @@
--- `propagation::marks::propagate_row_by_steps` is propagateRow; only variables to which the row's steps lead may have moved. Assumes nothing.
+-- `propagation::marks::propagate_row_by_steps` is propagateRowOf; only variables to which the row's steps lead may have moved. Assumes nothing.
 use Prim.Native.Nat.{_*_, _+_, _≤_, ℕ}
 use borrow.Author.Needs.{needs}
 use lib.IntN.{ℤ}
@@ -6,10 +6,9 @@ use lib.ListN.{length}
 use mathlib.Core.List.{List}
 use mathlib.Core.Path.{_≡_}
 use native.Mathlib.Omega.{arith}
-use Rattle.model.specs.Box.{at}
-use Rattle.model.specs.Rows.{rowOf}
+use Rattle.model.specs.Rows.{Rows, rowAt, rowsOf}
 use Rattle.row.specs.Answers.{propagatedRowOf}
-use Rattle.row.specs.Propagation.{propagateRow}
+use Rattle.row.specs.Kinds.{propagateRowOf}
 use Rattle.propagation.specs.Marks.{Visitable}
 use Rattle.propagation.proofs.IndexLoops.{row-end}
 use Rattle.propagation.proofs.PropagationLoops.{row-fits, row-in, valid-row}
@@ -24,19 +23,16 @@ module _ (s : tie.Start) where
   abbrev r : ℕ
   r = s .args .r
 
-  abbrev C : List ℤ
-  C = s .args .coefs .now
-
-  abbrev R : List ℤ
-  R = s .args .rhs .now
+  abbrev A : Rows
+  A = rowsOf (s .args .coefs .now) (s .args .rhs .now) (s .args .kinds .now)
 
   abbrev B : List ℤ
   B = s .args .bounds .now
 
-  abbrev given : Visitable n (s .args .m) B C R (s .args .across .now) (s .args .signs .now) (s .args .seen .now) (s .args .marks .now)
+  abbrev given : Visitable n (s .args .m) B A (s .args .across .now) (s .args .signs .now) (s .args .seen .now) (s .args .marks .now)
   given = s .pre .0
 
-  in-matrix : r * n + n ≤ length C
+  in-matrix : r * n + n ≤ length (s .args .coefs .now)
   in-matrix = row-fits (given .valid) r (s .pre .1 .0)
 
   in-index : r * n + n ≤ length (s .args .across .now)
@@ -44,7 +40,7 @@ module _ (s : tie.Start) where
 
 propagate-row-at-by-requires : tie.Need-propagate-row-at-by-requires
 propagate-row-at-by-requires c κs =
-    let s = c .before .before .before .before in
+    let s = c .before .before .before .before .before in
     let v = given s .valid in
     let h = s .pre .1 .0 in
     ((row-in v (r s) h, valid-row v (r s) h (v .box)), steps-in (r s) (in-index s) (s .pre .1 .1))
@@ -52,21 +48,15 @@ propagate-row-at-by-requires c κs =
 -- what the row says and leaves
 module _ (k : tie.After-propagate-row-at-by) where
   abbrev s : tie.Start
-  s = k .before .before .before .before .before
-
-  abbrev A : List ℤ
-  A = rowOf (n s) (C s) (r s)
-
-  abbrev b : ℤ
-  b = at (R s) (r s)
+  s = k .before .before .before .before .before .before
 
   abbrev Q : List ℤ
-  Q = k .propagate-row-at-by .last .1 .1 .1 .1 .1 .0
+  Q = k .propagate-row-at-by .last .1 .1 .1 .1 .1 .1 .0
 
-  heard : propagatedRowOf (k .propagate-row-at-by .result) Q ≡ propagateRow (n s) A b (B s)
+  heard : propagatedRowOf (k .propagate-row-at-by .result) Q ≡ propagateRowOf (n s) (rowAt (n s) (A s) (r s)) (B s)
   heard = k .propagate-row-at-by .ensures
 
-  left : Q ≡ propagateRow (n s) A b (B s) .box
+  left : Q ≡ propagateRowOf (n s) (rowAt (n s) (A s) (r s)) (B s) .box
   left = left-by _ Q heard
 
 enum-told : tie.Need-enum-told
@@ -94,7 +84,13 @@ remark-requires : tie.Need-remark-requires
 remark-requires c κs =
     let k = c .before .before .before .before .before .before .before .before in
     let t = s k in
-    visited-remarks (given t) (r t) (t .pre .1 .0) (left k) (tightened _ (Q k) (heard k) (c .before .before .before .before .before .moved .given .1)) (t .pre .1 .1)
+    (visited-remarks (given t) (r t) (t .pre .1 .0) (left k) (tightened _ (Q k) (heard k) (c .before .before .before .before .before .moved .given .1)) (t .pre .1 .1), omega (arith, given t .valid .kindsLen))
+
+shared-slice-read-after : tie.Need-shared-slice-read-after
+shared-slice-read-after c = let t = s (c .before .before .before .before .before .before .before .before .before .before .before .before .before .before .before) in omega (arith, given t .valid .kindsLen, t .pre .1 .0)
+
+after-requires : tie.Need-after-requires
+after-requires c κs = tt
 
 slice-write-marks : tie.Need-slice-write-marks
 slice-write-marks c = search needs
@@ -113,13 +109,13 @@ same-length-5 c = search needs
 
 returns-2 : tie.Need-returns-2
 returns-2 c =
-    let k = c .before .before .before .before .before .before .before .before .before .before .before .before .before .before in
-    let told = c .before .before .before .before .before .before .before .before .before .before .before .moved .given .1 in
-    let call = c .before .before .before .before .before .remark in
+    let k = c .before .before .before .before .before .before .before .before .before .before .before .before .before .before .before .before in
+    let told = c .before .before .before .before .before .before .before .before .before .before .before .before .before .moved .given .1 in
+    let call = c .before .before .before .before .before .before .before .remark in
     let t = s k in (
       said _ (Q k) (heard k) told,
-      visited-moved (given t) (r t) (t .pre .1 .0) (left k) (tightened _ (Q k) (heard k) told) (call .last .1 .1 .1 .1 .1 .1 .1 .1 .0) (call .ensures .1 .1) (call .ensures .0)
-          (call .kept .1 .1 .1 .1 .1 .1 .1 .1 .0) (call .ensures .1 .0),
+      visited-moved (given t) (r t) (t .pre .1 .0) (left k) (tightened _ (Q k) (heard k) told) (call .last .1 .1 .1 .1 .1 .1 .1 .1 .1 .0) (c .after .result) (call .ensures .1 .1) (call .ensures .0)
+          (call .kept .1 .1 .1 .1 .1 .1 .1 .1 .1 .0) (call .ensures .1 .0) (c .after .ensures),
     )
 
 enum-told-2 : tie.Need-enum-told-2
@@ -155,6 +151,8 @@ propagate-row-by-steps-spec =
     enum-known-moved
     mul-remark
     remark-requires
+    shared-slice-read-after
+    after-requires
     slice-write-marks
     same-length-2
     same-length-3

@@ -1,11 +1,11 @@
--- `propagation::marks::propagate_row_marked` is propagateRow: read whole or by its steps. Assumes nothing.
+-- `propagation::marks::propagate_row_marked` is propagateRowOf: read whole or by its steps. Assumes nothing.
 use borrow.Author.Needs.{needs}
 use native.Mathlib.Omega.{arith}
 use Rattle.propagation.proofs.marks.propagate_row_marked.Statement.{statement}
 use Rattle.propagation.proofs.marks.propagate_row_marked.Tie as tie
 
 slice-read-if1 : tie.Need-slice-read-if1
-slice-read-if1 c = let s = c .before .before .before .before in omega (arith, s .pre .0 .room, s .pre .1)
+slice-read-if1 c = let s = c .before .before .before .before .before in omega (arith, s .pre .0 .room, s .pre .1)
 
 propagate-row-whole-requires : tie.Need-propagate-row-whole-requires
 propagate-row-whole-requires c κs = search needs
@@ -29,11 +29,11 @@ returns : tie.Need-returns
 returns c = c .before .before .before .before .before .before .propagate-row-whole .ensures
 
 know-steps-requires : tie.Need-know-steps-requires
-know-steps-requires c κs = let p = c .before .before .before .before .before .before .pre in (p .0 .watched .index .rows, p .1)
+know-steps-requires c κs = let p = c .before .before .before .before .before .before .before .pre in (p .0 .watched .index .rows, p .1)
 
 propagate-row-by-steps-requires : tie.Need-propagate-row-by-steps-requires
 propagate-row-by-steps-requires c κs =
-    let p = c .before .before .before .before .before .before .before .before .before .before .before .before .before .before .pre in
+    let p = c .before .before .before .before .before .before .before .before .before .before .before .before .before .before .before .pre in
     let g = p .0 in
     let w = g .watched in
     let known = c .before .before .before .before .before .before .before .know-steps .ensures in (

@@ -1,14 +1,14 @@
--- `propagation::marks::propagate_row_whole` is propagateRow, through the row's view; any variable may have moved. Assumes nothing.
+-- `propagation::marks::propagate_row_whole` is propagateRowOf, through the row's view; any variable may have moved. Assumes nothing.
 use Prim.Native.Nat.{ℕ}
 use borrow.Author.Needs.{needs}
 use lib.IntN.{ℤ}
 use lib.ListN.{length}
 use mathlib.Core.List.{List}
 use mathlib.Core.Path.{_∙_, _≡_, ap}
-use Rattle.model.specs.Box.{at}
-use Rattle.model.specs.Rows.{rowOf}
+use native.Mathlib.Omega.{arith}
+use Rattle.model.specs.Rows.{Rows, rowAt, rowsOf}
 use Rattle.row.specs.Answers.{propagatedRowOf}
-use Rattle.row.specs.Propagation.{propagateRow}
+use Rattle.row.specs.Kinds.{propagateRowOf}
 use Rattle.propagation.specs.Marks.{Visitable}
 use Rattle.propagation.proofs.PropagationLoops.{row-in, valid-row}
 use Rattle.propagation.proofs.MarkLaws.{broken, left-by, said, tightened, unmoved, visited-empty, visited-moved, visited-nonEmpty, visited-unmoved}
@@ -22,42 +22,33 @@ module _ (s : tie.Start) where
   abbrev r : ℕ
   r = s .args .r
 
-  abbrev C : List ℤ
-  C = s .args .coefs .now
-
-  abbrev R : List ℤ
-  R = s .args .rhs .now
+  abbrev A : Rows
+  A = rowsOf (s .args .coefs .now) (s .args .rhs .now) (s .args .kinds .now)
 
   abbrev B : List ℤ
   B = s .args .bounds .now
 
-  abbrev given : Visitable n (s .args .m) B C R (s .args .across .now) (s .args .signs .now) (s .args .seen .now) (s .args .marks .now)
+  abbrev given : Visitable n (s .args .m) B A (s .args .across .now) (s .args .signs .now) (s .args .seen .now) (s .args .marks .now)
   given = s .pre .0
 
 propagate-row-at-requires : tie.Need-propagate-row-at-requires
 propagate-row-at-requires c κs =
-    let s = c .before .before .before .before in
+    let s = c .before .before .before .before .before in
     let v = given s .valid in
     (row-in v (r s) (s .pre .1), valid-row v (r s) (s .pre .1) (v .box))
 
 -- what the row says and leaves
 module _ (k : tie.After-propagate-row-at) where
   abbrev s : tie.Start
-  s = k .before .before .before .before .before
-
-  abbrev A : List ℤ
-  A = rowOf (n s) (C s) (r s)
-
-  abbrev b : ℤ
-  b = at (R s) (r s)
+  s = k .before .before .before .before .before .before
 
   abbrev Q : List ℤ
-  Q = k .propagate-row-at .last .1 .1 .1 .1 .0
+  Q = k .propagate-row-at .last .1 .1 .1 .1 .1 .0
 
-  heard : propagatedRowOf (k .propagate-row-at .result) Q ≡ propagateRow (n s) A b (B s)
+  heard : propagatedRowOf (k .propagate-row-at .result) Q ≡ propagateRowOf (n s) (rowAt (n s) (A s) (r s)) (B s)
   heard = k .propagate-row-at .ensures
 
-  left : Q ≡ propagateRow (n s) A b (B s) .box
+  left : Q ≡ propagateRowOf (n s) (rowAt (n s) (A s) (r s)) (B s) .box
   left = left-by _ Q heard
 
 enum-told : tie.Need-enum-told
@@ -84,7 +75,13 @@ remark-all-requires c κs =
     let t = s k in
     let g = given t in
     let f = tightened _ (Q k) (heard k) (c .before .before .before .before .before .moved .given .1) in
-    (g .watched .index .columns, g .valid .few, ap length (g .watched .copied (g .nonEmpty)) ∙ g .nonEmpty .len, visited-nonEmpty g (r t) (t .pre .1) (left k) f .len, g .room)
+    (g .watched .index .columns, omega (arith, g .valid .kindsLen), g .valid .few, ap length (g .watched .copied (g .nonEmpty)) ∙ g .nonEmpty .len, visited-nonEmpty g (r t) (t .pre .1) (left k) f .len, g .room)
+
+shared-slice-read-after : tie.Need-shared-slice-read-after
+shared-slice-read-after c = let t = s (c .before .before .before .before .before .before .before .before .before .before .before .before .before .before .before) in omega (arith, given t .valid .kindsLen, t .pre .1)
+
+after-requires : tie.Need-after-requires
+after-requires c κs = tt
 
 slice-write-marks : tie.Need-slice-write-marks
 slice-write-marks c = search needs
@@ -103,13 +100,13 @@ same-length-5 c = search needs
 
 returns-2 : tie.Need-returns-2
 returns-2 c =
-    let k = c .before .before .before .before .before .before .before .before .before .before .before .before .before .before in
-    let told = c .before .before .before .before .before .before .before .before .before .before .before .moved .given .1 in
-    let call = c .before .before .before .before .before .remark-all in
+    let k = c .before .before .before .before .before .before .before .before .before .before .before .before .before .before .before .before in
+    let told = c .before .before .before .before .before .before .before .before .before .before .before .before .before .moved .given .1 in
+    let call = c .before .before .before .before .before .before .before .remark-all in
     let t = s k in (
       said _ (Q k) (heard k) told,
-      visited-moved (given t) (r t) (t .pre .1) (left k) (tightened _ (Q k) (heard k) told) (call .last .1 .1 .1 .1 .1 .1 .0) (call .ensures .1 .1) (call .ensures .0)
-          (call .kept .1 .1 .1 .1 .1 .1 .0) (call .ensures .1 .0),
+      visited-moved (given t) (r t) (t .pre .1) (left k) (tightened _ (Q k) (heard k) told) (call .last .1 .1 .1 .1 .1 .1 .1 .0) (c .after .result) (call .ensures .1 .1) (call .ensures .0)
+          (call .kept .1 .1 .1 .1 .1 .1 .1 .0) (call .ensures .1 .0) (c .after .ensures),
     )
 
 enum-told-2 : tie.Need-enum-told-2
@@ -144,6 +141,8 @@ propagate-row-whole-spec =
     returns
     enum-known-moved
     remark-all-requires
+    shared-slice-read-after
+    after-requires
     slice-write-marks
     same-length-2
     same-length-3

@@ -11,14 +11,14 @@ use Rattle.propagation.proofs.marks.remark.Statement.{statement}
 use Rattle.propagation.proofs.marks.remark.Tie as tie
 
 abbrev Inv-loop : tie.InvT-loop
-Inv-loop n m coefs signs₀ steps start old₀ new marks₀ j₀ signs old marks j = Remarked n m coefs signs₀ old₀ new marks₀ signs old marks j
+Inv-loop n m coefs kinds signs₀ steps start old₀ new marks₀ j₀ signs old marks j = Remarked n m coefs kinds signs₀ old₀ new marks₀ signs old marks j
 
 abbrev μ-loop : tie.MeasureT-loop
-μ-loop n m coefs signs₀ steps start old₀ new marks₀ j₀ signs old marks j = n - j
+μ-loop n m coefs kinds signs₀ steps start old₀ new marks₀ j₀ signs old marks j = n - j
 
 module _ (h : tie.At-loop Inv-loop μ-loop) where
   abbrev s : tie.Start Inv-loop μ-loop
-  s = h .before .before .before .before
+  s = h .before .before .before .before .before
 
   abbrev j : ℕ
   j = h .loop .j
@@ -28,7 +28,7 @@ loop-holds c =
     record {
       le = omega arith;
       signsLen = refl;
-      columns = c .before .before .before .pre .columns;
+      columns = c .before .before .before .before .pre .0 .columns;
       oldLen = refl;
       marksLen = refl;
       early = below-none _;
@@ -41,29 +41,29 @@ has-moved-requires c κs =
     let h = c .before .before in
     let i = h .loop .inv in
     let k : j h < s h .args .n = omega arith in
-    (omega (arith, s h .pre .oldLen, i .oldLen), omega (arith, s h .pre .newLen))
+    (omega (arith, s h .pre .0 .oldLen, i .oldLen), omega (arith, s h .pre .0 .newLen))
 
 remark-at-requires : tie.Need-remark-at-requires Inv-loop μ-loop
 remark-at-requires c κs =
     let h = c .before .before .before .before .before .before .before in
     let i = h .loop .inv in
     let k : j h < s h .args .n = omega arith in
-    (i .columns, k, omega (arith, s h .pre .marksLen, i .marksLen), omega (arith, s h .pre .oldLen, i .oldLen), omega (arith, s h .pre .newLen))
+    (i .columns, s h .pre .1, k, omega (arith, s h .pre .0 .marksLen, i .marksLen), omega (arith, s h .pre .0 .oldLen, i .oldLen), omega (arith, s h .pre .0 .newLen))
 
 add-j : tie.Need-add-j Inv-loop μ-loop
-add-j c = let h = c .before .before .before .before in omega (arith, s h .pre .stepsLen)
+add-j c = let h = c .before .before .before .before in omega (arith, s h .pre .0 .stepsLen)
 
 shared-slice-read-j : tie.Need-shared-slice-read-j Inv-loop μ-loop
-shared-slice-read-j c = let h = c .before .before .before .before .before in omega (arith, s h .pre .stepsLen)
+shared-slice-read-j c = let h = c .before .before .before .before .before in omega (arith, s h .pre .0 .stepsLen)
 
 cast-j : tie.Need-cast-j Inv-loop μ-loop
-cast-j c = let h = c .before .before .before .before .before in omega (arith, s h .pre .within (j h) (omega arith))
+cast-j c = let h = c .before .before .before .before .before in omega (arith, s h .pre .0 .within (j h) (omega arith))
 
 add-j-2 : tie.Need-add-j-2 Inv-loop μ-loop
-add-j-2 c = let h = c .before .before .before .before .before in omega (arith, s h .pre .within (j h) (omega arith))
+add-j-2 c = let h = c .before .before .before .before .before in omega (arith, s h .pre .0 .within (j h) (omega arith))
 
 loop-less : tie.Need-loop-less Inv-loop μ-loop
-loop-less c = let h = c .before .before .before .before .before in omega (arith, s h .pre .within (j h) (omega arith), s h .pre .forward (j h) (omega arith))
+loop-less c = let h = c .before .before .before .before .before in omega (arith, s h .pre .0 .within (j h) (omega arith), s h .pre .0 .forward (j h) (omega arith))
 
 loop-again : tie.Need-loop-again Inv-loop μ-loop
 loop-again c =
@@ -73,9 +73,9 @@ loop-again c =
     (λ w.
     let call = w .4 in
     rw (w .10, w .11, w .12)
-    (remark-turn (s h .pre) (h .loop .inv) k (call .last .1 .1 .1 .1 .1 .1 .1 .0) (call .ensures .0) (call .kept .1 .1 .1 .1 .0)
-    (call .kept .1 .1 .1 .1 .1 .0) (call .kept .1 .1 .1 .1 .1 .1 .1 .0) (call .ensures .1 .1) (call .ensures .1 .0)))
-    (λ w. rw (w .1, w .2, w .3) (remark-still (s h .pre) (h .loop .inv) k (c .before .before .has-moved .ensures (w .0 .left))))
+    (remark-turn (s h .pre .0) (h .loop .inv) k (call .last .1 .1 .1 .1 .1 .1 .1 .1 .0) (call .ensures .0) (call .kept .1 .1 .1 .1 .1 .0)
+    (call .kept .1 .1 .1 .1 .1 .1 .0) (call .kept .1 .1 .1 .1 .1 .1 .1 .1 .0) (call .ensures .1 .1) (call .ensures .1 .0)))
+    (λ w. rw (w .1, w .2, w .3) (remark-still (s h .pre .0) (h .loop .inv) k (c .before .before .has-moved .ensures (w .0 .left))))
     (c .before .if1 .came)
 
 same-length : tie.Need-same-length Inv-loop μ-loop
@@ -94,7 +94,7 @@ returns c =
     let e : j h ≡ s h .args .n = omega (arith, i .le) in
     let old = h .loop .old in
     let new = s h .args .new .now in (
-      box-ext (s h .args .n) old new (i .oldLen ∙ s h .pre .oldLen) (s h .pre .newLen)
+      box-ext (s h .args .n) old new (i .oldLen ∙ s h .pre .0 .oldLen) (s h .pre .0 .newLen)
           (λ k l. i .early k (omega arith) .0) (λ k l. i .early k (omega arith) .1),
       (
         (λ r p m. let w = i .read r p m in (w .0, λ k l. w .1 k (omega arith))),

@@ -9,9 +9,9 @@ slice-aggregate-remark c = search needs
 
 remark-requires : tie.Need-remark-requires
 remark-requires c κs =
-    let s = c .before .before .before .before .before .before in
+    let s = c .before .before .before .before .before .before .before in
     let p = s .pre in
-    every-variable (s .args .old .now) (s .args .new .now) (s .args .marks .now) (p .0) (p .1) (p .2) (p .3) (p .4)
+    (every-variable (s .args .old .now) (s .args .new .now) (s .args .marks .now) (p .0) (p .2) (p .3) (p .4) (p .5), p .1)
 
 same-length : tie.Need-same-length
 same-length c = search needs

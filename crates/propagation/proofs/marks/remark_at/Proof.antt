@@ -24,9 +24,9 @@ add-remark-bound c = search needs
 
 remark-bound-requires-2 : tie.Need-remark-bound-requires-2
 remark-bound-requires-2 c κs =
-    let p = c .before .before .before .before .before .before .before .before .before .before .before .before .before .before .pre in
+    let p = c .before .before .before .before .before .before .before .before .before .before .before .before .before .before .before .pre in
     let first = c .before .before .before .before .before .before .before .before .remark-bound in
-    (first .ensures .1 .1, p .1, omega (arith, p .2, first .kept .1 .1 .1 .1 .1 .1 .1 .1 .1 .0), omega (arith, p .3, first .kept .1 .1 .1 .1 .1 .1 .1 .0), p .4)
+    (first .ensures .1 .1, p .1, p .2, omega (arith, p .3, first .kept .1 .1 .1 .1 .1 .1 .1 .1 .1 .1 .0), omega (arith, p .4, first .kept .1 .1 .1 .1 .1 .1 .1 .1 .0), p .5)
 
 same-length : tie.Need-same-length
 same-length c = search needs
@@ -42,7 +42,7 @@ unfolding withBounds
 returns c =
     let second = c .before .before .before .before .before .remark-bound2 in
     let first = c .before .before .before .before .before .before .before .before .before .before .before .before .before .before .remark-bound in
-    let s = c .before .before .before .before .before .before .before .before .before .before .before .before .before .before .before .before .before .before .before .before in
+    let s = c .before .before .before .before .before .before .before .before .before .before .before .before .before .before .before .before .before .before .before .before .before in
     let j = s .args .j in
     let old = s .args .old .now in
     let high = ap (λ P. at P (2 * j + 1)) (first .ensures .0) ∙ getD-set-other old (2 * j) (2 * j + 1) _ (pos 0) (omega arith) in (

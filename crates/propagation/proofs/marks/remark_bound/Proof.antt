@@ -4,6 +4,7 @@ use borrow.Author.Needs.{needs}
 use lib.IntN.{pos}
 use lib.ListN.{set}
 use lib.Seq.{set-getD}
+use mathlib.Core.Bool.{true≢false}
 use mathlib.Core.Path.{_∙_, _≡_, ap, sym}
 use mir.Facts.{toZ-ofZ}
 use mir.Syntax.{w32}
@@ -29,7 +30,7 @@ slice-copy-out-if1 c = search needs
 
 returns : tie.Need-returns
 returns c =
-    let s = c .before .before .before .before .before in
+    let s = c .before .before .before .before .before .before in
     let f : SFits w32 (at (s .args .old .now) (s .args .q)) = record { sfits = c .before .if12 .given } in
     let g : SFits w32 (at (s .args .new .now) (s .args .q)) = record { sfits = c .before .before .z .given } in
     let e : at (s .args .old .now) (s .args .q) ≡ at (s .args .new .now) (s .args .q) = eq-read w32 f g (c .if1 .taken) in
@@ -39,10 +40,10 @@ know-signs-requires : tie.Need-know-signs-requires
 know-signs-requires c κs = search needs
 
 mul-unmark : tie.Need-mul-unmark
-mul-unmark c = let s = c .before .before .before .before .before .before .before .before .before .before in omega (arith, column-start (s .pre .0) (s .args .j) (s .pre .1))
+mul-unmark c = let s = c .before .before .before .before .before .before .before .before .before .before .before in omega (arith, column-start (s .pre .0) (s .args .j) (s .pre .2))
 
 unmark-requires : tie.Need-unmark-requires
-unmark-requires c κs = let s = c .before .before .before .before .before .before .before .before .before .before .before in (column-end (c .before .before .before .before .know-signs .ensures .0) (s .args .j) (s .pre .1), s .pre .2)
+unmark-requires c κs = let s = c .before .before .before .before .before .before .before .before .before .before .before .before in (s .pre .1, column-end (c .before .before .before .before .know-signs .ensures .0) (s .args .j) (s .pre .2), s .pre .3)
 
 mul-z-2 : tie.Need-mul-z-2
 mul-z-2 c = search needs
@@ -61,12 +62,12 @@ same-length-3 c = search needs
 
 returns-2 : tie.Need-returns-2
 returns-2 c =
-    let s = c .before .before .before .before .before .before .before .before .before .before .before .before .before .before in
+    let s = c .before .before .before .before .before .before .before .before .before .before .before .before .before .before .before in
     let g : SFits w32 (at (s .args .new .now) (s .args .q)) = record { sfits = c .before .before .before .before .before .before .before .before .before .before .before .z .given } in
     let known = c .before .before .before .before .before .before .before .know-signs .ensures in (
       ap (set (s .args .old .now) (s .args .q)) (toZ-ofZ {w = w32} g),
       (
-        (λ r h k. let w = c .before .before .unmark .ensures r h k in (w .0, λ e. absurd (w .1 (known .1 r h ∙ e)))),
+        (λ r h k. let w = c .before .before .unmark .ensures r h k in (w .0, λ e. absurd (true≢false (sym e ∙ (rw (known .1 r h) at (w .1)))))),
         known .0,
       ),
     )

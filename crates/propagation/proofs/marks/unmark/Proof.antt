@@ -1,31 +1,36 @@
--- `propagation::marks::unmark`: the invariant says that of the rows so far, those still marked were and have another sign. Assumes nothing.
+-- `propagation::marks::unmark`: the invariant says that of the rows so far, those still marked were and read another bound. Assumes nothing.
 use Prim.Native.Nat.{_+_, _-_, _<_, _≤_, ℕ}
 use borrow.Author.Count.{below-more, below-none}
 use lib.ListN.{getD, length, length-set, set}
 use lib.Seq.{getD-set-other, getD-set-same}
+use mathlib.Core.Bool.{false}
 use mathlib.Core.Path.{_∙_, _≡_, refl, sym}
 use native.Mathlib.Omega.{arith}
+use Rattle.propagation.specs.Marks.{reads}
 use Rattle.propagation.proofs.marks.unmark.Statement.{statement}
 use Rattle.propagation.proofs.marks.unmark.Tie as tie
 
 abbrev Inv-loop : tie.InvT-loop
-Inv-loop m signs start sign marks₀ r₀ marks r =
+Inv-loop m kinds signs start sign marks₀ r₀ marks r =
     (r ≤ m)
     × (length marks ≡ length marks₀)
-    × ((i : ℕ) → i < r → getD marks i 0 ≡ 1 → (getD marks₀ i 0 ≡ 1) × (getD signs (start + i) 0 ≡ sign → ⊥))
+    × ((i : ℕ) → i < r → getD marks i 0 ≡ 1 → (getD marks₀ i 0 ≡ 1) × (reads (getD kinds i 0) (getD signs (start + i) 0) sign ≡ false))
     × ((i : ℕ) → r ≤ i → getD marks i 0 ≡ getD marks₀ i 0)
 
 abbrev μ-loop : tie.MeasureT-loop
-μ-loop m signs start sign marks₀ r₀ marks r = m - r
+μ-loop m kinds signs start sign marks₀ r₀ marks r = m - r
 
 loop-holds : tie.Need-loop-holds Inv-loop μ-loop
 loop-holds c = (omega arith, refl, below-none _, (λ i h. refl))
 
+shared-slice-read-kept : tie.Need-shared-slice-read-kept Inv-loop μ-loop
+shared-slice-read-kept c = omega arith
+
 add-kept : tie.Need-add-kept Inv-loop μ-loop
 add-kept c = omega arith
 
-shared-slice-read-kept : tie.Need-shared-slice-read-kept Inv-loop μ-loop
-shared-slice-read-kept c = omega arith
+shared-slice-read-kept-2 : tie.Need-shared-slice-read-kept-2 Inv-loop μ-loop
+shared-slice-read-kept-2 c = omega arith
 
 slice-read-kept : tie.Need-slice-read-kept Inv-loop μ-loop
 slice-read-kept c = omega arith
@@ -44,7 +49,7 @@ loop-less c = omega arith
 
 loop-again : tie.Need-loop-again Inv-loop μ-loop
 loop-again c =
-    let h = c .before .before .before .before in
+    let h = c .before .before .before .before .before in
     let s = h .before .before .before in
     let S = h .loop .marks in
     let r = h .loop .r in
@@ -71,8 +76,9 @@ unmark-spec =
     Inv-loop
     μ-loop
     loop-holds
-    add-kept
     shared-slice-read-kept
+    add-kept
+    shared-slice-read-kept-2
     slice-read-kept
     kept-requires
     slice-write-marks

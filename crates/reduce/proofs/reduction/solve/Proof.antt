@@ -3,6 +3,7 @@
 use borrow.Author.Needs.{needs}
 use mathlib.Core.Path.{_∙_, ap, ap₂, sym}
 use Rattle.book.specs.Answers.{sizesAnswer}
+use Rattle.model.specs.Rows.{rowsOf}
 use Rattle.model.specs.State.{stateOf}
 use Rattle.reduce.specs.Answers.{answerText}
 use Rattle.reduce.specs.Output.{roundsText, textOf}
@@ -26,11 +27,14 @@ same-length-2 c = search needs
 same-length-3 : tie.Need-same-length-3
 same-length-3 c = search needs
 
+same-length-4 : tie.Need-same-length-4
+same-length-4 c = search needs
+
 returns : tie.Need-returns
 unfolding answerText sizesAnswer
 returns c =
-    let d = c .before .before .before .before .before .before in
-    (refused-output (d .before .before .before .before .before .before .pre) _ (ap sizesAnswer (sym (c .before .number .given .1)) ∙ d .read .ensures .0), output-means _)
+    let d = c .before .before .before .before .before .before .before .before in
+    (refused-output (d .before .before .before .before .before .before .before .before .pre) _ (ap sizesAnswer (sym (c .before .number .given .1)) ∙ d .read .ensures .0), output-means _)
 
 enum-told : tie.Need-enum-told
 enum-told c = search needs
@@ -41,9 +45,6 @@ run-requires c κs = search needs
 answer-of-requires : tie.Need-answer-of-requires
 answer-of-requires c κs = search needs
 
-same-length-4 : tie.Need-same-length-4
-same-length-4 c = search needs
-
 same-length-5 : tie.Need-same-length-5
 same-length-5 c = search needs
 
@@ -53,18 +54,24 @@ same-length-6 c = search needs
 same-length-7 : tie.Need-same-length-7
 same-length-7 c = search needs
 
+same-length-8 : tie.Need-same-length-8
+same-length-8 c = search needs
+
+same-length-9 : tie.Need-same-length-9
+same-length-9 c = search needs
+
 returns-2 : tie.Need-returns-2
 unfolding roundsText sizesAnswer stateOf
 returns-2 c =
-    let run = c .before .before .before .before .before .before in
-    let read = run .before .before .before .before .before .before .before .before .before .before in
-    let a = read .before .before .before .before .before .before .args in
-    let h = read .before .before .before .before .before .before .pre in
-    let e = ap sizesAnswer (sym (run .before .before .before .before .before .enum-told .given .1)) ∙ read .read .ensures .0 in
+    let run = c .before .before .before .before .before .before .before .before in
+    let read = run .before .before .before .before .before .before .before .before .before .before .before .before .before in
+    let a = read .before .before .before .before .before .before .before .before .args in
+    let h = read .before .before .before .before .before .before .before .before .pre in
+    let e = ap sizesAnswer (sym (run .before .before .before .before .before .before .enum-told .given .1)) ∙ read .read .ensures .0 in
     let left = run .run .last .1 .1 in (
-      c .answer-of .ensures (stateOf (a .n) (a .m) (left .0) (left .1 .0) (left .1 .1 .0) (left .1 .1 .1 .0))
+      c .answer-of .ensures (stateOf (a .n) (a .m) (left .0) (rowsOf (left .1 .0) (left .1 .1 .0) (left .1 .1 .1 .0)) (left .1 .1 .1 .1 .0))
           ∙ ap₂ textOf (run .run .ensures .0) (run .run .ensures .1 .0)
-          ∙ ap roundsText (accepted-state h _ _ e (read .read .ensures .1 .0) (read .read .ensures .1 .1 .0) (read .read .ensures .1 .1 .1 .0))
+          ∙ ap roundsText (accepted-state h _ _ e (read .read .ensures .1 .0) (read .read .ensures .1 .1 .0) (read .read .ensures .1 .1 .1 .0) (read .read .ensures .1 .1 .1 .1 .0))
           ∙ sym (accepted-output h _ _ e),
       output-means _,
     )
@@ -78,12 +85,14 @@ solve-spec =
     same-length
     same-length-2
     same-length-3
+    same-length-4
     returns
     enum-told
     run-requires
     answer-of-requires
-    same-length-4
     same-length-5
     same-length-6
     same-length-7
+    same-length-8
+    same-length-9
     returns-2)

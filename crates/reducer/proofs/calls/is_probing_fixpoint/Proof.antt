@@ -7,6 +7,7 @@ use mathlib.Core.Path.{_∙_, _≡_, sym}
 use Rattle.model.proofs.CheckLaws.{fault-none}
 use Rattle.semantics.specs.Points.{AtRest}
 use Rattle.semantics.specs.RestTest.{restFault}
+use Rattle.model.specs.Rows.{rowsOf}
 use Rattle.model.specs.State.{State, stateOf}
 use Rattle.model.specs.Model.{modelOf}
 use Rattle.reducer.specs.OpenCalls.{atRest, notAtRest, rest, restVerdict}
@@ -15,34 +16,34 @@ use Rattle.reducer.proofs.calls.is_probing_fixpoint.Statement.{statemen
 use Rattle.reducer.proofs.calls.is_probing_fixpoint.Tie as tie
 
 abbrev state : tie.Start → State
-state s = stateOf (s .args .n) (s .args .m) (s .args .bounds .now) (s .args .coefs .now) (s .args .rhs .now) []
+state s = stateOf (s .args .n) (s .args .m) (s .args .bounds .now) (rowsOf (s .args .coefs .now) (s .args .rhs .now) (s .args .kinds .now)) []
 
 model-fault-requires : tie.Need-model-fault-requires
 model-fault-requires c κs = search needs
 
-fault-is : (c : tie.After-model-fault) → c .model-fault .result ≡ restFault (state (c .before))
+fault-is : (c : tie.After-model-fault) → c .model-fault .result ≡ restFault (state (c .before .before))
 unfolding restFault stateOf
 fault-is c = c .model-fault .ensures
 
 returns : tie.Need-returns
 unfolding restVerdict
-returns c = rest-promised (state (c .before .before)) (rest-refused (state (c .before .before)) (fault-is (c .before)) (c .if1 .taken))
+returns c = rest-promised (state (c .before .before .before)) (rest-refused (state (c .before .before .before)) (fault-is (c .before)) (c .if1 .taken))
 
 -- the model is accepted
-no-fault : (c : tie.Else1) → restFault (state (c .before .before)) ≡ 0
+no-fault : (c : tie.Else1) → restFault (state (c .before .before .before)) ≡ 0
 no-fault c = sym (fault-is (c .before)) ∙ c .if1 .left
 
 is-probing-fixpoint-requires : tie.Need-is-probing-fixpoint-requires
 unfolding restFault stateOf
 is-probing-fixpoint-requires c κs =
-    let a = c .before .before .args in fault-none (modelOf (a .n) (a .m) (a .bounds .now) (a .coefs .now) (a .rhs .now)) .0 (no-fault c)
+    let a = c .before .before .before .args in fault-none (modelOf (a .n) (a .m) (a .bounds .now) (rowsOf (a .coefs .now) (a .rhs .now) (a .kinds .now))) .0 (no-fault c)
 
 -- what the test says
-tested : (c : tie.After-is-probing-fixpoint) {b : Bool} → c .is-probing-fixpoint .result ≡ b → let s = state (c .before .before .before) in
+tested : (c : tie.After-is-probing-fixpoint) {b : Bool} → c .is-probing-fixpoint .result ≡ b → let s = state (c .before .before .before .before) in
     (cond b atRest notAtRest ≡ rest s) × ((cond b atRest notAtRest ≡ atRest) ↔ ((restFault s ≡ 0) × AtRest s))
 unfolding stateOf
 tested c e =
-    let s = state (c .before .before .before) in
+    let s = state (c .before .before .before .before) in
     rest-promised s (rest-tested s (no-fault (c .before)) (sym e ∙ c .is-probing-fixpoint .ensures))
 
 returns-2 : tie.Need-returns-2

@@ -7,6 +7,7 @@ use mathlib.Core.Path.{_∙_, _≡_, ap, sym}
 use Rattle.semantics.specs.CallChecks.{callFault}
 use Rattle.semantics.specs.Perform.{perform, probed}
 use Rattle.semantics.specs.Call.{Call, callOf, hasTable, hasVariable, kindOf}
+use Rattle.model.specs.Rows.{rowsOf}
 use Rattle.model.specs.State.{State, stateOf}
 use Rattle.semantics.proofs.Accepted.{accepted}
 use Rattle.reducer.specs.OpenCalls.{performed, probeAnswer}
@@ -17,7 +18,7 @@ use Rattle.reducer.proofs.calls.probe.Statement.{statement}
 use Rattle.reducer.proofs.calls.probe.Tie as tie
 
 abbrev state : tie.Start → List ℤ → List ℕ → State
-state s B t = stateOf (s .args .n) (s .args .m) B (s .args .coefs .now) (s .args .rhs .now) t
+state s B t = stateOf (s .args .n) (s .args .m) B (rowsOf (s .args .coefs .now) (s .args .rhs .now) (s .args .kinds .now)) t
 
 abbrev before : tie.Start → State
 before s = state s (s .args .bounds .now) (s .args .table .now)
@@ -37,35 +38,35 @@ same-length-2 c = search needs
 returns : tie.Need-returns
 unfolding probeAnswer callOf
 returns c =
-    let s = c .before .before .before .before .before in
+    let s = c .before .before .before .before .before .before in
     promised-ends (before s) (before s) (call s) _ (perform-refused (before s) (call s) (c .before .probe-fault .ensures) (c .if1 .taken))
 
-no-fault : (c : tie.Else1) → let s = c .before .before .before .before .before in callFault (before s) (call s) ≡ 0
+no-fault : (c : tie.Else1) → let s = c .before .before .before .before .before .before in callFault (before s) (call s) ≡ 0
 no-fault c = sym (c .before .probe-fault .ensures) ∙ c .if1 .left
 
 probe-requires : tie.Need-probe-requires
 unfolding stateOf callOf kindOf hasTable hasVariable
 probe-requires c κs =
-    let s = c .before .before .before .before .before .before .before in
+    let s = c .before .before .before .before .before .before .before .before in
     let a = accepted (before s) (call s) (no-fault (c .before .before)) in
     (a .model, (a .table tt, (a .free tt, a .variable tt)))
 
 -- what the probing answers and leaves
 module _ (c : tie.After-probe) where
   abbrev s : tie.Start
-  s = c .before .before .before .before .before .before .before .before
+  s = c .before .before .before .before .before .before .before .before .before
 
   abbrev Q : List ℤ
   Q = c .probe .last .1 .1 .0
 
   abbrev t : List ℕ
-  t = c .probe .last .1 .1 .1 .1 .1 .0
+  t = c .probe .last .1 .1 .1 .1 .1 .1 .0
 
   done : {v : Probing} → c .probe .result ≡ v → let w = probingOf v Q t in
       performed (probed (w .ending) (w .side0) (w .side1)) (state s (w .box) (w .table)) ≡ perform (before s) (call s)
   done e =
       let a = s .args in
-      variable-probed (a .n) (a .m) (a .bounds .now) (a .coefs .now) (a .rhs .now) (a .budget) (a .table .now) (a .variable)
+      variable-probed (a .n) (a .m) (a .bounds .now) (rowsOf (a .coefs .now) (a .rhs .now) (a .kinds .now)) (a .budget) (a .table .now) (a .variable)
       (no-fault (c .before .before .before)) _ (ap (λ v. probingOf v Q t) (sym e) ∙ c .probe .ensures)
 
 enum-known-side0 : tie.Need-enum-known-side0

@@ -7,6 +7,7 @@ use mathlib.Core.Path.{_∙_, _≡_, ap, sym}
 use Rattle.semantics.specs.CallChecks.{callFault}
 use Rattle.semantics.specs.Perform.{perform, propagated}
 use Rattle.semantics.specs.Call.{Call, callOf, hasTable, kindOf}
+use Rattle.model.specs.Rows.{rowsOf}
 use Rattle.model.specs.State.{State, stateOf}
 use Rattle.semantics.proofs.Accepted.{accepted}
 use Rattle.reducer.specs.OpenCalls.{performed, propagateAnswer}
@@ -17,7 +18,7 @@ use Rattle.reducer.proofs.calls.propagate.Statement.{statement}
 use Rattle.reducer.proofs.calls.propagate.Tie as tie
 
 abbrev state : tie.Start → List ℤ → State
-state s B = stateOf (s .args .n) (s .args .m) B (s .args .coefs .now) (s .args .rhs .now) []
+state s B = stateOf (s .args .n) (s .args .m) B (rowsOf (s .args .coefs .now) (s .args .rhs .now) (s .args .kinds .now)) []
 
 abbrev before : tie.Start → State
 before s = state s (s .args .bounds .now)
@@ -35,20 +36,20 @@ same-length c = search needs
 returns : tie.Need-returns
 unfolding propagateAnswer callOf
 returns c =
-    let s = c .before .before .before in
+    let s = c .before .before .before .before in
     promised-ends (before s) (before s) (call s) _ (perform-refused (before s) (call s) (c .before .call-fault .ensures) (c .if1 .taken))
 
-no-fault : (c : tie.Else1) → let s = c .before .before .before in callFault (before s) (call s) ≡ 0
+no-fault : (c : tie.Else1) → let s = c .before .before .before .before in callFault (before s) (call s) ≡ 0
 no-fault c = sym (c .before .call-fault .ensures) ∙ c .if1 .left
 
 propagate-requires : tie.Need-propagate-requires
 unfolding stateOf callOf
-propagate-requires c κs = let s = c .before .before .before .before in accepted (before s) (call s) (no-fault (c .before)) .model
+propagate-requires c κs = let s = c .before .before .before .before .before in accepted (before s) (call s) (no-fault (c .before)) .model
 
 -- what the propagation of the rows answers and leaves
 module _ (c : tie.After-propagate) where
   abbrev s : tie.Start
-  s = c .before .before .before .before .before
+  s = c .before .before .before .before .before .before
 
   abbrev Q : List ℤ
   Q = c .propagate .last .1 .1 .0
@@ -57,7 +58,7 @@ module _ (c : tie.After-propagate) where
       performed (propagated (w .ending) (w .passes) (w .moved)) (state s (w .box)) ≡ perform (before s) (call s)
   done e =
       let a = s .args in
-      rows-propagated (a .n) (a .m) (a .bounds .now) (a .coefs .now) (a .rhs .now) (a .budget) (no-fault (c .before .before)) _
+      rows-propagated (a .n) (a .m) (a .bounds .now) (rowsOf (a .coefs .now) (a .rhs .now) (a .kinds .now)) (a .budget) (no-fault (c .before .before)) _
       (ap (λ v. propagationOf v Q) (sym e) ∙ c .propagate .ensures)
 
 enum-known-passes : tie.Need-enum-known-passes

@@ -11,6 +11,7 @@ use Rattle.row.specs.declared.propagation.RowPropagation.{RowPropagation}
 use Rattle.semantics.specs.CallChecks.{callFault}
 use Rattle.semantics.specs.Perform.{perform, propagatedRow}
 use Rattle.semantics.specs.Call.{Call, callOf, hasRow, hasTable, kindOf}
+use Rattle.model.specs.Rows.{Rows, rowsOf}
 use Rattle.model.specs.State.{State, stateOf}
 use Rattle.model.specs.Model.{modelOf}
 use Rattle.reducer.specs.OpenCalls.{performed, rowAnswer}
@@ -20,7 +21,7 @@ use Rattle.reducer.proofs.calls.propagate_row.Statement.{statement}
 use Rattle.reducer.proofs.calls.propagate_row.Tie as tie
 
 abbrev state : tie.Start → List ℤ → State
-state s B = stateOf (s .args .n) (s .args .m) B (s .args .coefs .now) (s .args .rhs .now) []
+state s B = stateOf (s .args .n) (s .args .m) B (rowsOf (s .args .coefs .now) (s .args .rhs .now) (s .args .kinds .now)) []
 
 abbrev before : tie.Start → State
 before s = state s (s .args .bounds .now)
@@ -38,13 +39,13 @@ same-length c = search needs
 returns : tie.Need-returns
 unfolding rowAnswer
 returns c =
-    let s = c .before .before .before in
+    let s = c .before .before .before .before in
     promised (before s) (before s) (call s) _ (perform-refused (before s) (call s) (c .before .call-fault .ensures) (c .if1 .taken))
 
 -- the call is accepted: its row lies in the matrix
 module _ (c : tie.Else1) where
   abbrev s : tie.Start
-  s = c .before .before .before
+  s = c .before .before .before .before
 
   abbrev n : ℕ
   n = s .args .n
@@ -55,18 +56,15 @@ module _ (c : tie.Else1) where
   abbrev B : List ℤ
   B = s .args .bounds .now
 
-  abbrev C : List ℤ
-  C = s .args .coefs .now
-
-  abbrev R : List ℤ
-  R = s .args .rhs .now
+  abbrev A : Rows
+  A = rowsOf (s .args .coefs .now) (s .args .rhs .now) (s .args .kinds .now)
 
   no-fault : callFault (before s) (call s) ≡ 0
   no-fault = sym (c .before .call-fault .ensures) ∙ c .if1 .left
 
-  on : ValidModel (modelOf n (s .args .m) B C R) × (r < s .args .m)
+  on : ValidModel (modelOf n (s .args .m) B A) × (r < s .args .m)
   unfolding kindOf hasRow
-  on = on-row n (s .args .m) B C R 1 r 0 tt no-fault
+  on = on-row n (s .args .m) B A 1 r 0 tt no-fault
 
 propagate-row-at-requires : tie.Need-propagate-row-at-requires
 propagate-row-at-requires c κs =
@@ -80,12 +78,12 @@ module _ (c : tie.After-propagate-row-at) where
   a = c .before .before
 
   abbrev Q : List ℤ
-  Q = c .propagate-row-at .last .1 .1 .1 .1 .0
+  Q = c .propagate-row-at .last .1 .1 .1 .1 .1 .0
 
   done : {v : RowPropagation} → c .propagate-row-at .result ≡ v → let w = propagatedRowOf v Q in
       performed (propagatedRow (w .outcome) (w .moved)) (state (s a) (w .box)) ≡ perform (before (s a)) (call (s a))
   done e =
-      row-propagated (n a) (s a .args .m) (B a) (C a) (R a) (r a) (no-fault a) _
+      row-propagated (n a) (s a .args .m) (B a) (A a) (r a) (no-fault a) _
       (ap (λ v. propagatedRowOf v Q) (sym e) ∙ c .propagate-row-at .ensures)
 
 enum-told : tie.Need-enum-told

@@ -5,11 +5,10 @@ use borrow.Author.Needs.{needs}
 use lib.IntN.{ℤ}
 use mathlib.Core.List.{List, []}
 use mathlib.Core.Path.{_∙_, _≡_, refl, sym}
-use Rattle.model.specs.Box.{at}
-use Rattle.model.specs.Rows.{rowOf}
+use Rattle.model.specs.Rows.{Rows, rowAt, rowsOf}
 use Rattle.model.specs.Valid.{ValidModel}
 use Rattle.row.specs.Answers.{removalOutcome}
-use Rattle.row.specs.Redundancy.{removeRedundantRow}
+use Rattle.row.specs.Kinds.{removeRowOf}
 use Rattle.semantics.specs.CallChecks.{callFault}
 use Rattle.semantics.specs.Perform.{Answer, act, perform, removed}
 use Rattle.semantics.specs.Call.{Call, callOf, hasRow, hasTable, kindOf}
@@ -21,11 +20,11 @@ use Rattle.propagation.proofs.PropagationLoops.{row-in, valid-row}
 use Rattle.reducer.proofs.calls.remove_redundant_row.Statement.{statement}
 use Rattle.reducer.proofs.calls.remove_redundant_row.Tie as tie
 
-abbrev state : tie.Start → List ℤ → List ℤ → State
-state s C R = stateOf (s .args .n) (s .args .m) (s .args .bounds .now) C R []
+abbrev state : tie.Start → Rows → State
+state s A = stateOf (s .args .n) (s .args .m) (s .args .bounds .now) A []
 
 abbrev before : tie.Start → State
-before s = state s (s .args .coefs .now) (s .args .rhs .now)
+before s = state s (rowsOf (s .args .coefs .now) (s .args .rhs .now) (s .args .kinds .now))
 
 abbrev call : tie.Start → Call
 call s = callOf (before s) 5 (s .args .row) 0 0
@@ -40,16 +39,19 @@ same-length c = search needs
 same-length-2 : tie.Need-same-length-2
 same-length-2 c = search needs
 
+same-length-3 : tie.Need-same-length-3
+same-length-3 c = search needs
+
 returns : tie.Need-returns
 unfolding removeAnswer
 returns c =
-    let s = c .before .before .before .before in
+    let s = c .before .before .before .before .before .before in
     promised (before s) (before s) (call s) _ (perform-refused (before s) (call s) (c .before .call-fault .ensures) (c .if1 .taken))
 
 -- the call is accepted: its row lies in the matrix
 module _ (c : tie.Else1) where
   abbrev s : tie.Start
-  s = c .before .before .before .before
+  s = c .before .before .before .before .before .before
 
   abbrev n : ℕ
   n = s .args .n
@@ -60,37 +62,34 @@ module _ (c : tie.Else1) where
   abbrev B : List ℤ
   B = s .args .bounds .now
 
-  abbrev C : List ℤ
-  C = s .args .coefs .now
-
-  abbrev R : List ℤ
-  R = s .args .rhs .now
+  abbrev A : Rows
+  A = rowsOf (s .args .coefs .now) (s .args .rhs .now) (s .args .kinds .now)
 
   no-fault : callFault (before s) (call s) ≡ 0
   no-fault = sym (c .before .call-fault .ensures) ∙ c .if1 .left
 
-  on : ValidModel (modelOf n (s .args .m) B C R) × (r < s .args .m)
+  on : ValidModel (modelOf n (s .args .m) B A) × (r < s .args .m)
   unfolding kindOf hasRow
-  on = on-row n (s .args .m) B C R 5 r 0 tt no-fault
+  on = on-row n (s .args .m) B A 5 r 0 tt no-fault
 
 remove-redundant-row-at-requires : tie.Need-remove-redundant-row-at-requires
 remove-redundant-row-at-requires c κs =
-    let a = c .before .before in
+    let a = c .before .before .before in
     let v = on a in
     (row-in (v .0) (r a) (v .1), valid-row (v .0) (r a) (v .1) (v .0 .box))
 
 -- what the row's own call answers and leaves
 module _ (c : tie.After-remove-redundant-row-at) where
   abbrev a : tie.Else1
-  a = c .before .before .before
+  a = c .before .before .before .before
 
   abbrev after : State
-  after = state (s a) (c .remove-redundant-row-at .last .1 .0) (c .remove-redundant-row-at .last .1 .1 .0)
+  after = state (s a) (rowsOf (c .remove-redundant-row-at .last .1 .0) (c .remove-redundant-row-at .last .1 .1 .0) (c .remove-redundant-row-at .last .1 .1 .1 .0))
 
   done : {x : Answer} → x ≡ removed (removalOutcome (c .remove-redundant-row-at .result)) → performed x after ≡ perform (before (s a)) (call (s a))
   unfolding act kindOf callOf stateOf
   done e =
-      row-changed (n a) (s a .args .m) (B a) (C a) (R a) (r a) (removeRedundantRow (n a) (rowOf (n a) (C a) (r a)) (at (R a) (r a)) (B a))
+      row-changed (n a) (s a .args .m) (B a) (A a) (r a) (removeRowOf (n a) (rowAt (n a) (A a) (r a)) (B a))
       removed (call (s a)) refl (no-fault a) e (c .remove-redundant-row-at .ensures)
 
 enum-told : tie.Need-enum-told
@@ -102,15 +101,8 @@ enum-told-2 c = search needs
 enum-told-3 : tie.Need-enum-told-3
 enum-told-3 c = search needs
 
-same-length-3 : tie.Need-same-length-3
-same-length-3 c = search needs
-
 same-length-4 : tie.Need-same-length-4
 same-length-4 c = search needs
-
-returns-2 : tie.Need-returns-2
-unfolding removeAnswer removalOutcome
-returns-2 c = let d = c .before .before .before .before in promised (before (s (a d))) (after d) (call (s (a d))) _ (done d (rw (c .enum-told .given .1)))
 
 same-length-5 : tie.Need-same-length-5
 same-length-5 c = search needs
@@ -118,9 +110,9 @@ same-length-5 c = search needs
 same-length-6 : tie.Need-same-length-6
 same-length-6 c = search needs
 
-returns-3 : tie.Need-returns-3
+returns-2 : tie.Need-returns-2
 unfolding removeAnswer removalOutcome
-returns-3 c = let d = c .before .before .before .before in promised (before (s (a d))) (after d) (call (s (a d))) _ (done d (rw (c .enum-told2 .given .1)))
+returns-2 c = let d = c .before .before .before .before .before .before in promised (before (s (a d))) (after d) (call (s (a d))) _ (done d (rw (c .enum-told .given .1)))
 
 same-length-7 : tie.Need-same-length-7
 same-length-7 c = search needs
@@ -128,9 +120,25 @@ same-length-7 c = search needs
 same-length-8 : tie.Need-same-length-8
 same-length-8 c = search needs
 
+same-length-9 : tie.Need-same-length-9
+same-length-9 c = search needs
+
+returns-3 : tie.Need-returns-3
+unfolding removeAnswer removalOutcome
+returns-3 c = let d = c .before .before .before .before .before .before in promised (before (s (a d))) (after d) (call (s (a d))) _ (done d (rw (c .enum-told2 .given .1)))
+
+same-length-10 : tie.Need-same-length-10
+same-length-10 c = search needs
+
+same-length-11 : tie.Need-same-length-11
+same-length-11 c = search needs
+
+same-length-12 : tie.Need-same-length-12
+same-length-12 c = search needs
+
 returns-4 : tie.Need-returns-4
 unfolding removeAnswer removalOutcome
-returns-4 c = let d = c .before .before .before .before in promised (before (s (a d))) (after d) (call (s (a d))) _ (done d (rw (c .enum-told3 .given .1)))
+returns-4 c = let d = c .before .before .before .before .before .before in promised (before (s (a d))) (after d) (call (s (a d))) _ (done d (rw (c .enum-told3 .given .1)))
 
 pub remove-redundant-row-spec : {M : Type 1} → statement M
 remove-redundant-row-spec =
@@ -139,17 +147,21 @@ remove-redundant-row-spec =
     call-fault-requires
     same-length
     same-length-2
+    same-length-3
     returns
     remove-redundant-row-at-requires
     enum-told
     enum-told-2
     enum-told-3
-    same-length-3
     same-length-4
-    returns-2
     same-length-5
     same-length-6
-    returns-3
+    returns-2
     same-length-7
     same-length-8
+    same-length-9
+    returns-3
+    same-length-10
+    same-length-11
+    same-length-12
     returns-4)

@@ -5,11 +5,10 @@ use borrow.Author.Needs.{needs}
 use lib.IntN.{ℤ}
 use mathlib.Core.List.{List, []}
 use mathlib.Core.Path.{_∙_, _≡_, refl, sym}
-use Rattle.model.specs.Box.{at}
-use Rattle.model.specs.Rows.{rowOf}
+use Rattle.model.specs.Rows.{Rows, rowAt, rowsOf}
 use Rattle.model.specs.Valid.{ValidModel}
 use Rattle.row.specs.Answers.{tighteningOutcome}
-use Rattle.row.specs.Tightening.{tightenCoefficient}
+use Rattle.row.specs.Kinds.{tightenRowOf}
 use Rattle.semantics.specs.CallChecks.{callFault}
 use Rattle.semantics.specs.Perform.{Answer, act, perform, tightened}
 use Rattle.semantics.specs.Call.{Call, callOf, hasRow, hasTable, hasVariable, kindOf}
@@ -22,11 +21,11 @@ use Rattle.propagation.proofs.PropagationLoops.{row-in, valid-row}
 use Rattle.reducer.proofs.calls.tighten_coefficient.Statement.{statement}
 use Rattle.reducer.proofs.calls.tighten_coefficient.Tie as tie
 
-abbrev state : tie.Start → List ℤ → List ℤ → State
-state s C R = stateOf (s .args .n) (s .args .m) (s .args .bounds .now) C R []
+abbrev state : tie.Start → Rows → State
+state s A = stateOf (s .args .n) (s .args .m) (s .args .bounds .now) A []
 
 abbrev before : tie.Start → State
-before s = state s (s .args .coefs .now) (s .args .rhs .now)
+before s = state s (rowsOf (s .args .coefs .now) (s .args .rhs .now) (s .args .kinds .now))
 
 abbrev call : tie.Start → Call
 call s = callOf (before s) 4 (s .args .row) (s .args .variable) 0
@@ -44,13 +43,13 @@ same-length-2 c = search needs
 returns : tie.Need-returns
 unfolding tightenAnswer
 returns c =
-    let s = c .before .before .before .before in
+    let s = c .before .before .before .before .before in
     promised (before s) (before s) (call s) _ (perform-refused (before s) (call s) (c .before .call-fault .ensures) (c .if1 .taken))
 
 -- the call is accepted: its row lies in the matrix
 module _ (c : tie.Else1) where
   abbrev s : tie.Start
-  s = c .before .before .before .before
+  s = c .before .before .before .before .before
 
   abbrev n : ℕ
   n = s .args .n
@@ -61,18 +60,15 @@ module _ (c : tie.Else1) where
   abbrev B : List ℤ
   B = s .args .bounds .now
 
-  abbrev C : List ℤ
-  C = s .args .coefs .now
-
-  abbrev R : List ℤ
-  R = s .args .rhs .now
+  abbrev A : Rows
+  A = rowsOf (s .args .coefs .now) (s .args .rhs .now) (s .args .kinds .now)
 
   no-fault : callFault (before s) (call s) ≡ 0
   no-fault = sym (c .before .call-fault .ensures) ∙ c .if1 .left
 
-  on : ValidModel (modelOf n (s .args .m) B C R) × (r < s .args .m)
+  on : ValidModel (modelOf n (s .args .m) B A) × (r < s .args .m)
   unfolding kindOf hasRow
-  on = on-row n (s .args .m) B C R 4 r (s .args .variable) tt no-fault
+  on = on-row n (s .args .m) B A 4 r (s .args .variable) tt no-fault
 
   below : s .args .variable < n
   unfolding kindOf hasVariable stateOf callOf
@@ -82,7 +78,7 @@ tighten-coefficient-at-requires : tie.Need-tighten-coefficient-at-requires
 tighten-coefficient-at-requires c κs =
     let a = c .before .before in
     let v = on a in
-    (row-in (v .0) (r a) (v .1), (valid-row (v .0) (r a) (v .1) (v .0 .box), below a))
+    ((row-in (v .0) (r a) (v .1), valid-row (v .0) (r a) (v .1) (v .0 .box)), below a)
 
 -- what the row's own call answers and leaves
 module _ (c : tie.After-tighten-coefficient-at) where
@@ -90,12 +86,12 @@ module _ (c : tie.After-tighten-coefficient-at) where
   a = c .before .before .before
 
   abbrev after : State
-  after = state (s a) (c .tighten-coefficient-at .last .1 .0) (c .tighten-coefficient-at .last .1 .1 .0)
+  after = state (s a) (rowsOf (c .tighten-coefficient-at .last .1 .0) (c .tighten-coefficient-at .last .1 .1 .0) (s a .args .kinds .now))
 
   done : {x : Answer} → x ≡ tightened (tighteningOutcome (c .tighten-coefficient-at .result)) → performed x after ≡ perform (before (s a)) (call (s a))
   unfolding act kindOf callOf stateOf
   done e =
-      row-changed (n a) (s a .args .m) (B a) (C a) (R a) (r a) (tightenCoefficient (n a) (rowOf (n a) (C a) (r a)) (at (R a) (r a)) (B a) (s a .args .variable))
+      row-changed (n a) (s a .args .m) (B a) (A a) (r a) (tightenRowOf (n a) (rowAt (n a) (A a) (r a)) (B a) (s a .args .variable))
       tightened (call (s a)) refl (no-fault a) e (c .tighten-coefficient-at .ensures)
 
 enum-told : tie.Need-enum-told

@@ -8,6 +8,7 @@ use Rattle.model.specs.Valid.{ValidModel}
 use Rattle.model.proofs.CheckLaws.{fault-none}
 use Rattle.semantics.specs.CallChecks.{recordChecks}
 use Rattle.semantics.specs.Call.{callOf, kindOf}
+use Rattle.model.specs.Rows.{rowsOf}
 use Rattle.model.specs.State.{State, stateOf}
 use Rattle.model.specs.Model.{modelOf}
 use Rattle.semantics.proofs.Accepted.{modelFaultOf}
@@ -19,26 +20,26 @@ model-fault-requires : tie.Need-model-fault-requires
 model-fault-requires c κs = search needs
 
 abbrev state : tie.Start → State
-state s = stateOf (s .args .n) (s .args .m) (s .args .bounds .now) (s .args .coefs .now) (s .args .rhs .now) []
+state s = stateOf (s .args .n) (s .args .m) (s .args .bounds .now) (rowsOf (s .args .coefs .now) (s .args .rhs .now) (s .args .kinds .now)) []
 
 -- without a table
-fault-is : (c : tie.After-model-fault) → c .model-fault .result ≡ modelFaultOf (kindOf (c .before .args .call .kind)) (state (c .before))
+fault-is : (c : tie.After-model-fault) → c .model-fault .result ≡ modelFaultOf (kindOf (c .before .before .args .call .kind)) (state (c .before .before))
 unfolding stateOf
 fault-is c =
-    let a = c .before .args in
+    let a = c .before .before .args in
     c .model-fault .ensures
-    ∙ sym (ap (λ (t : LentTable). modelFault (modelOf (a .n) (a .m) (a .bounds .now) (a .coefs .now) (a .rhs .now)) t true) (no-table (kindOf (a .call .kind)) (state (c .before)) (c .before .pre)))
+    ∙ sym (ap (λ (t : LentTable). modelFault (modelOf (a .n) (a .m) (a .bounds .now) (rowsOf (a .coefs .now) (a .rhs .now) (a .kinds .now))) t true) (no-table (kindOf (a .call .kind)) (state (c .before .before)) (c .before .before .pre)))
 
 returns : tie.Need-returns
 returns c =
-    let s = c .before .before in
+    let s = c .before .before .before in
     model-refuses (state s) (s .args .call .kind) (s .args .call .row) (s .args .call .variable) (s .args .call .budget) (fault-is (c .before)) (c .if1 .taken)
 
 valid : (c : tie.Else1)
-    → let a = c .before .before .args in ValidModel (modelOf (a .n) (a .m) (a .bounds .now) (a .coefs .now) (a .rhs .now))
+    → let a = c .before .before .before .args in ValidModel (modelOf (a .n) (a .m) (a .bounds .now) (rowsOf (a .coefs .now) (a .rhs .now) (a .kinds .now)))
 valid c =
-    let a = c .before .before .args in
-    fault-none (modelOf (a .n) (a .m) (a .bounds .now) (a .coefs .now) (a .rhs .now)) .0 (sym (c .before .model-fault .ensures) ∙ c .if1 .left)
+    let a = c .before .before .before .args in
+    fault-none (modelOf (a .n) (a .m) (a .bounds .now) (rowsOf (a .coefs .now) (a .rhs .now) (a .kinds .now))) .0 (sym (c .before .model-fault .ensures) ∙ c .if1 .left)
 
 record-fault-requires : tie.Need-record-fault-requires
 record-fault-requires c κs = (valid c .box, valid c .some)
@@ -47,7 +48,7 @@ returns-2 : tie.Need-returns-2
 unfolding recordChecks stateOf callOf
 returns-2 c =
     let e = c .before in
-    let s = e .before .before in
+    let s = e .before .before .before in
     own-fault (state s) (s .args .call .kind) (s .args .call .row) (s .args .call .variable) (s .args .call .budget) (fault-is (e .before)) (e .if1 .left)
     (c .record-fault .ensures)
 

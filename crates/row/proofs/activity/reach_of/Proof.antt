@@ -1,7 +1,7 @@
--- `row::activity::reach_of`: the invariant says that the sum and the greatest width are those of the terms so far. A coefficient of 0
--- adds 0 to both. Assumes nothing.
+-- `row::activity::reach_of`: the invariant says that the sum and the greatest width are those of the terms so far, each coefficient read
+-- with its sign (`signed-bits`). A coefficient of 0 adds 0 to both. Assumes nothing.
 use Prim.Native.Nat.{_*_, _+_, _-_, _≤_, ℕ}
-use lib.IntN.{pos, ℤ}
+use lib.IntN.{_*ℤ_, pos, ℤ}
 use lib.ListN.{length}
 use mathlib.Core.List.{List}
 use mathlib.Core.Path.{_∙_, _≡_, ap, refl, sym}
@@ -14,21 +14,23 @@ use Rattle.integer.specs.Order.{maxZ}
 use Rattle.integer.specs.Range.{Within}
 use Rattle.integer.proofs.RangeLaws.{within-fits}
 use Rattle.model.specs.Box.{at, lower, upper}
-use Rattle.row.specs.Activity.{greatest, minActivity, minTerm, widestTerm}
+use Rattle.row.specs.Activity.{greatest, minActivity, widestTerm}
+use Rattle.row.specs.Kinds.{signed}
 use Rattle.row.specs.ValidRow.{ValidCoefs}
 use Rattle.row.proofs.ReachLaws.{greatest-more, least-zero, widest-zero, minTermAt, widthAt}
 use Rattle.row.proofs.RowLoops.{bounds-small, coefs-small, min-terms, turn, turn-fits}
+use Rattle.row.proofs.SignedLaws.{sign-bits, sign-is, signed-bits, signed-coefs, signed-fits}
 use Rattle.row.proofs.activity.reach_of.Statement.{statement}
 use Rattle.row.proofs.activity.reach_of.Tie as tie
 
 abbrev Inv-loop : tie.InvT-loop
-Inv-loop coefs bounds least₀ widest₀ j₀ least widest j =
+Inv-loop coefs sign bounds least₀ widest₀ j₀ least widest j =
     (j ≤ length coefs)
-    × (toZ w64 least ≡ total j (minTermAt coefs bounds))
-    × (toZ w64 widest ≡ greatest j (widthAt coefs bounds))
+    × (toZ w64 least ≡ total j (minTermAt (signed (toZ w32 sign) coefs) bounds))
+    × (toZ w64 widest ≡ greatest j (widthAt (signed (toZ w32 sign) coefs) bounds))
 
 abbrev μ-loop : tie.MeasureT-loop
-μ-loop coefs bounds least₀ widest₀ j₀ least widest j = length coefs - j
+μ-loop coefs sign bounds least₀ widest₀ j₀ least widest j = length coefs - j
 
 loop-holds : tie.Need-loop-holds Inv-loop μ-loop
 unfolding total greatest
@@ -40,31 +42,40 @@ mul-a c = omega arith
 shared-slice-copy-out-a : tie.Need-shared-slice-copy-out-a Inv-loop μ-loop
 shared-slice-copy-out-a c = omega arith
 
--- the row, and the variable that the turn comes to
+-- the row with its sign, and the variable that the turn comes to
 module _ (h : tie.At-loop Inv-loop μ-loop) where
+  abbrev s : tie.Start Inv-loop μ-loop
+  s = h .before
+
+  abbrev C : List ℤ
+  C = s .args .coefs .now
+
   abbrev A : List ℤ
-  A = h .before .args .coefs .now
+  A = signed (toZ w32 (ofZ w32 (s .args .sign))) C
 
   abbrev B : List ℤ
-  B = h .before .args .bounds .now
+  B = s .args .bounds .now
 
   abbrev j : ℕ
   j = h .loop .j
 
-  abbrev v : ValidCoefs (length A) A B
-  v = h .before .pre
+  v : ValidCoefs (length C) A B
+  v = signed-coefs (sign-bits (s .pre .1)) (s .pre .0)
 
   small : Within 1_000_000 (at A j) × (Within 32_768 (lower B j) × Within 32_768 (upper B j))
   small = (coefs-small v j, (bounds-small v (2 * j), bounds-small v (2 * j + 1)))
 
-  a-is : toZ w32 (ofZ w32 (at A j)) ≡ at A j
-  a-is = toZ-ofZ {w = w32} (within-fits w32 tt (small .0))
+  a-is : toZ w32 (ofZ w32 (toZ w32 (ofZ w32 (s .args .sign)) *ℤ toZ w32 (ofZ w32 (at C j)))) ≡ at A j
+  a-is = signed-bits (s .pre .1) C j (coefs-small (s .pre .0) j)
 
   l-is : toZ w32 (ofZ w32 (lower B j)) ≡ lower B j
   l-is = toZ-ofZ {w = w32} (within-fits w32 tt (small .1 .0))
 
   u-is : toZ w32 (ofZ w32 (upper B j)) ≡ upper B j
   u-is = toZ-ofZ {w = w32} (within-fits w32 tt (small .1 .1))
+
+mul-a-2 : tie.Need-mul-a-2 Inv-loop μ-loop
+mul-a-2 c = let h = c .before .before in signed-fits (s h .pre .1) (C h) (j h) (coefs-small (s h .pre .0) (j h))
 
 add-j : tie.Need-add-j Inv-loop μ-loop
 add-j c = omega arith
@@ -138,9 +149,12 @@ returns : tie.Need-returns Inv-loop μ-loop
 unfolding minActivity widestTerm
 returns c =
     let h = c .before in
-    let end : h .loop .j ≡ length (A h) = omega arith in (
-      h .loop .inv .1 ∙ ap (λ (i : ℕ). total i (minTermAt (A h) (B h))) end,
-      h .loop .inv .2 ∙ ap (λ (i : ℕ). greatest i (widthAt (A h) (B h))) end,
+    let end : h .loop .j ≡ length (C h) = omega arith in
+    let e = sign-is (s h .pre .1) in (
+      h .loop .inv .1 ∙ ap (λ (i : ℕ). total i (minTermAt (A h) (B h))) end
+          ∙ ap (λ (z : ℤ). total (length (C h)) (minTermAt (signed z (C h)) (B h))) e,
+      h .loop .inv .2 ∙ ap (λ (i : ℕ). greatest i (widthAt (A h) (B h))) end
+          ∙ ap (λ (z : ℤ). greatest (length (C h)) (widthAt (signed z (C h)) (B h))) e,
     )
 
 pub reach-of-spec : {M : Type 1} → statement M
@@ -152,6 +166,7 @@ reach-of-spec =
     loop-holds
     mul-a
     shared-slice-copy-out-a
+    mul-a-2
     add-j
     loop-less
     loop-again

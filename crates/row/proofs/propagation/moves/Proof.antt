@@ -1,41 +1,51 @@
--- `row::propagation::moves` is rowMoves: in a box that is not empty, one comparison of the room with the widest term tells
--- (`moves-test`). Assumes nothing.
-use borrow.Author.Needs.{needs}
-use mathlib.Core.Path.{_∙_, ap₂, sym}
-use Rattle.integer.proofs.Reading.{wide-fits}
-use lib.Signed.{ltZ}
-use Rattle.row.proofs.ReachLaws.{moves-empty, moves-test, slack-fits, slack-read, widest-read}
+-- `row::propagation::moves` is rowMovesOf: the ≤ form decides where it moves anything, else the negated form in the same box
+-- (`moves-first`, `moves-second`). Assumes nothing.
+use lib.ListN.{length}
+use mathlib.Core.Logic.{inl, inr}
+use mathlib.Core.Path.{_∙_, _≡_, refl, sym}
+use Rattle.integer.proofs.Tests.{eqb-test}
+use Rattle.model.specs.Rows.{isEquality, negated, rowWith}
+use Rattle.row.specs.Propagation.{rowMoves}
+use Rattle.row.proofs.KindLaws.{other-kind}
+use Rattle.row.proofs.KindMoves.{moves-first, moves-le, moves-second}
+use Rattle.row.proofs.SignedLaws.{negated-rhs, rhs-fits, rhs-negated, rhs-read, signed-negated, signed-one}
 use Rattle.row.proofs.propagation.moves.Statement.{statement}
 use Rattle.row.proofs.propagation.moves.Tie as tie
 
-is-empty-requires : tie.Need-is-empty-requires
-is-empty-requires c κs = search needs
+form-moves-requires : tie.Need-form-moves-requires
+form-moves-requires c κs = (rw (rhs-read (c .pre)) (c .pre), inl refl)
+
+-- what the ≤ form says
+first-says : (c : tie.After-form-moves)
+    → let s = c .before in c .form-moves .result ≡ rowMoves (length (s .args .coefs .now)) (s .args .coefs .now) (s .args .b) (s .args .bounds .now)
+first-says c = let s = c .before in rw (rhs-read (s .pre), signed-one (s .args .coefs .now)) at (c .form-moves .ensures)
 
 returns : tie.Need-returns
-returns c =
-    let s = c .before .before in
-    sym (moves-empty _ _ _ _ (sym (c .before .is-empty .ensures _ (s .pre .coefs .some) (s .pre .coefs .box)) ∙ c .if1 .taken))
-
-reach-of-requires : tie.Need-reach-of-requires
-reach-of-requires c κs = search needs
-
-cast-result : tie.Need-cast-result
-cast-result c = wide-fits (c .before .before .before .fits .b)
-
-sub-result : tie.Need-sub-result
-sub-result c =
-    let r = c .before .before .reach-of .ensures in
-    slack-fits (c .before .before .before .before .before .pre) (r .0) (r .1)
+returns c = sym (moves-first _ (rowWith _ _ (c .before .before .args .kind)) _ (sym (first-says (c .before)) ∙ c .if1 .taken))
 
 returns-2 : tie.Need-returns-2
+unfolding isEquality
 returns-2 c =
-    let m = c .before .before .before .before in
-    let s = m .before .before .before in
-    let r = m .reach-of .ensures in
-    let some = sym (m .before .before .is-empty .ensures _ (s .pre .coefs .some) (s .pre .coefs .box)) ∙ m .before .if1 .left in
-    ap₂ ltZ (slack-read (s .pre) (r .0) (r .1)) (widest-read (s .pre) (r .0) (r .1)) ∙ moves-test _ _ _ _ some (s .pre .coefs .box .len)
+    let m = c .before .before in
+    let k = m .before .args .kind in
+    sym (moves-le _ (rowWith _ _ k) _ (other-kind k (c .if2 .taken)) ∙ sym (first-says m) ∙ c .before .if1 .left)
+
+sub-form-moves : tie.Need-sub-form-moves
+sub-form-moves c = rhs-fits (c .before .before .before .pre)
+
+form-moves-requires-2 : tie.Need-form-moves-requires-2
+form-moves-requires-2 c κs = let s = c .before .before .before in (rw (rhs-negated (s .pre)) (negated-rhs (s .pre)), inr refl)
+
+returns-3 : tie.Need-returns-3
+unfolding isEquality negated
+returns-3 c =
+    let m = c .before .before .before in
+    let s = m .before in
+    let k = s .args .kind in
+    let told = rw (rhs-negated (s .pre), signed-negated (s .args .coefs .now)) at (c .form-moves2 .ensures) in
+    told ∙ sym (moves-second _ (rowWith _ _ k) _ (s .pre .coefs .box .len) (eqb-test k 1 .1 (c .before .if2 .left)) (sym (first-says m) ∙ c .before .before .if1 .left))
 
 pub moves-spec : {M : Type 1} → statement M
 moves-spec =
     tie.close
-    (tie.spec is-empty-requires returns reach-of-requires cast-result sub-result returns-2)
+    (tie.spec form-moves-requires returns returns-2 sub-form-moves form-moves-requires-2 returns-3)

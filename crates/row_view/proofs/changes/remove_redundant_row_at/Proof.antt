@@ -1,8 +1,6 @@
 -- `changes::remove_redundant_row_at` changes row r as the rule says: the part that is lent is the row, and it comes back in its place.
 -- Assumes nothing.
 use borrow.Author.Needs.{needs}
-use Rattle.model.specs.Rows.{rowAt, rowsOf}
-use Rattle.row.specs.Redundancy.{removeRowOf}
 use Rattle.row_view.proofs.PartLaws.{part-is, row-changed}
 use Rattle.row_view.proofs.changes.remove_redundant_row_at.Statement.{statement}
 use Rattle.row_view.proofs.changes.remove_redundant_row_at.Tie as tie
@@ -31,9 +29,13 @@ mul-remove-redundant-row-2 c = search needs
 index-1-remove-redundant-row : tie.Need-index-1-remove-redundant-row
 index-1-remove-redundant-row c = search needs
 
+index-1-remove-redundant-row-2 : tie.Need-index-1-remove-redundant-row-2
+index-1-remove-redundant-row-2 c = search needs
+
 remove-redundant-row-requires : tie.Need-remove-redundant-row-requires
 remove-redundant-row-requires c κs =
-    let s = c .before .before in rw (part-is (s .args .r) (s .args .n) (s .args .coefs .now), s .pre .1 .coefs .len) (s .pre .1)
+    let s = c .before .before .before .before in
+    rw (part-is (s .args .r) (s .args .n) (s .args .coefs .now), s .pre .1 .coefs .len) (s .pre .1)
 
 same-length : tie.Need-same-length
 same-length c = search needs
@@ -41,15 +43,19 @@ same-length c = search needs
 same-length-2 : tie.Need-same-length-2
 same-length-2 c = search needs
 
+same-length-3 : tie.Need-same-length-3
+same-length-3 c = search needs
+
 returns : tie.Need-returns
 returns c =
     let d = c .before .remove-redundant-row in
-    let s = c .before .before .before .before in
+    let s = c .before .before .before .before .before .before in
     let a = s .args in
-    let new = removeRowOf (a .n) (rowAt (a .n) (rowsOf (a .coefs .now) (a .rhs .now)) (a .r)) (a .bounds .now) in
-    row-changed (a .coefs .now) (a .rhs .now) (a .r) (a .n) new
-    (rw (part-is (a .r) (a .n) (a .coefs .now), s .pre .1 .coefs .len) at (d .kept .0))
-    (rw (part-is (a .r) (a .n) (a .coefs .now), s .pre .1 .coefs .len) at (d .ensures))
+    let told = rw (part-is (a .r) (a .n) (a .coefs .now), s .pre .1 .coefs .len) at (d .ensures) in (
+      told .0,
+      row-changed (a .coefs .now) (a .rhs .now) (a .kinds .now) (a .r) (a .n)
+          (rw (part-is (a .r) (a .n) (a .coefs .now), s .pre .1 .coefs .len) at (d .kept .0)) (told .1),
+    )
 
 pub remove-redundant-row-at-spec : {M : Type 1} → statement M
 remove-redundant-row-at-spec =
@@ -63,7 +69,9 @@ remove-redundant-row-at-spec =
     part-remove-redundant-row-end
     mul-remove-redundant-row-2
     index-1-remove-redundant-row
+    index-1-remove-redundant-row-2
     remove-redundant-row-requires
     same-length
     same-length-2
+    same-length-3
     returns)

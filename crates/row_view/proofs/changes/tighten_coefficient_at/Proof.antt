@@ -1,9 +1,7 @@
 -- `changes::tighten_coefficient_at` changes row r as the rule says: the part that is lent is the row, and it comes back in its place.
 -- Assumes nothing.
 use borrow.Author.Needs.{needs}
-use Rattle.model.specs.Rows.{rowAt, rowsOf}
-use Rattle.row.specs.Tightening.{tightenRowOf}
-use Rattle.row_view.proofs.PartLaws.{part-is, row-changed}
+use Rattle.row_view.proofs.PartLaws.{part-is, row-changed-kept}
 use Rattle.row_view.proofs.changes.tighten_coefficient_at.Statement.{statement}
 use Rattle.row_view.proofs.changes.tighten_coefficient_at.Tie as tie
 
@@ -31,9 +29,14 @@ mul-tighten-coefficient-2 c = search needs
 index-1-tighten-coefficient : tie.Need-index-1-tighten-coefficient
 index-1-tighten-coefficient c = search needs
 
+shared-slice-read-tighten-coefficient : tie.Need-shared-slice-read-tighten-coefficient
+shared-slice-read-tighten-coefficient c = search needs
+
 tighten-coefficient-requires : tie.Need-tighten-coefficient-requires
 tighten-coefficient-requires c κs =
-    let s = c .before .before in rw (part-is (s .args .r) (s .args .n) (s .args .coefs .now), s .pre .1 .0 .coefs .len) (s .pre .1 .0, s .pre .1 .1)
+    let s = c .before .before .before .before in
+    let v = s .pre .0 .1 in
+    rw (part-is (s .args .r) (s .args .n) (s .args .coefs .now), v .coefs .len) (v, s .pre .1)
 
 same-length : tie.Need-same-length
 same-length c = search needs
@@ -44,12 +47,14 @@ same-length-2 c = search needs
 returns : tie.Need-returns
 returns c =
     let d = c .before .tighten-coefficient in
-    let s = c .before .before .before .before in
+    let s = c .before .before .before .before .before .before in
     let a = s .args in
-    let new = tightenRowOf (a .n) (rowAt (a .n) (rowsOf (a .coefs .now) (a .rhs .now)) (a .r)) (a .bounds .now) (a .k) in
-    row-changed (a .coefs .now) (a .rhs .now) (a .r) (a .n) new
-    (rw (part-is (a .r) (a .n) (a .coefs .now), s .pre .1 .0 .coefs .len) at (d .kept .0))
-    (rw (part-is (a .r) (a .n) (a .coefs .now), s .pre .1 .0 .coefs .len) at (d .ensures))
+    let v = s .pre .0 .1 in
+    let told = rw (part-is (a .r) (a .n) (a .coefs .now), v .coefs .len) at (d .ensures) in (
+      told .0,
+      row-changed-kept (a .coefs .now) (a .rhs .now) (a .kinds .now) (a .r) (a .n)
+          (rw (part-is (a .r) (a .n) (a .coefs .now), v .coefs .len) at (d .kept .0)) (told .1),
+    )
 
 pub tighten-coefficient-at-spec : {M : Type 1} → statement M
 tighten-coefficient-at-spec =
@@ -63,6 +68,7 @@ tighten-coefficient-at-spec =
     part-tighten-coefficient-end
     mul-tighten-coefficient-2
     index-1-tighten-coefficient
+    shared-slice-read-tighten-coefficient
     tighten-coefficient-requires
     same-length
     same-length-2

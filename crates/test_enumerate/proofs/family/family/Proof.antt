@@ -6,16 +6,19 @@ use Rattle.test_enumerate.proofs.family.family.Statement.{statement}
 use Rattle.test_enumerate.proofs.family.family.Tie as tie
 
 abbrev Inv-loop : tie.InvT-loop
-Inv-loop word n size lie tally₀ code₀ i₀ tally code i = i ≤ size
+Inv-loop word n size lie equality tally₀ code₀ i₀ tally code i = i ≤ size
 
 abbrev μ-loop : tie.MeasureT-loop
-μ-loop word n size lie tally₀ code₀ i₀ tally code i = size - i
+μ-loop word n size lie equality tally₀ code₀ i₀ tally code i = size - i
 
 loop-holds : tie.Need-loop-holds Inv-loop μ-loop
 loop-holds c = omega arith
 
 next-model-requires : tie.Need-next-model-requires Inv-loop μ-loop
 next-model-requires c κs = search needs
+
+kinded-requires : tie.Need-kinded-requires Inv-loop μ-loop
+kinded-requires c κs = search needs
 
 model-requires : tie.Need-model-requires Inv-loop μ-loop
 model-requires c κs = search needs
@@ -43,6 +46,7 @@ family-spec =
     μ-loop
     loop-holds
     next-model-requires
+    kinded-requires
     model-requires
     add-i
     loop-less

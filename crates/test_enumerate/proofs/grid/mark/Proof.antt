@@ -8,10 +8,10 @@ use Rattle.test_enumerate.proofs.grid.mark.Statement.{statement}
 use Rattle.test_enumerate.proofs.grid.mark.Tie as tie
 
 abbrev Inv-loop : tie.InvT-loop
-Inv-loop n bounds coefs rhs marks₀ k₀ marks k = (k ≤ length marks) × (length marks ≡ length marks₀)
+Inv-loop n bounds coefs rhs kinds marks₀ k₀ marks k = (k ≤ length marks) × (length marks ≡ length marks₀)
 
 abbrev μ-loop : tie.MeasureT-loop
-μ-loop n bounds coefs rhs marks₀ k₀ marks k = length marks₀ - k
+μ-loop n bounds coefs rhs kinds marks₀ k₀ marks k = length marks₀ - k
 
 loop-holds : tie.Need-loop-holds Inv-loop μ-loop
 loop-holds c = omega arith

@@ -7,10 +7,10 @@ use Rattle.test_enumerate.proofs.grid.meets_rows.Statement.{statement}
 use Rattle.test_enumerate.proofs.grid.meets_rows.Tie as tie
 
 abbrev Inv-loop : tie.InvT-loop
-Inv-loop n coefs rhs point i₀ r₀ j₀ sum₀ i r j sum = (i ≤ length coefs) × (r ≤ i) × (j ≤ i)
+Inv-loop n coefs rhs kinds point i₀ r₀ j₀ sum₀ i r j sum = (i ≤ length coefs) × (r ≤ i) × (j ≤ i)
 
 abbrev μ-loop : tie.MeasureT-loop
-μ-loop n coefs rhs point i₀ r₀ j₀ sum₀ i r j sum = length coefs - i
+μ-loop n coefs rhs kinds point i₀ r₀ j₀ sum₀ i r j sum = length coefs - i
 
 loop-holds : tie.Need-loop-holds Inv-loop μ-loop
 loop-holds c = omega arith
@@ -33,8 +33,8 @@ add-i c = omega arith
 add-j : tie.Need-add-j Inv-loop μ-loop
 add-j c = omega arith
 
-exceeds-requires : tie.Need-exceeds-requires Inv-loop μ-loop
-exceeds-requires c κs = search needs
+fails-requires : tie.Need-fails-requires Inv-loop μ-loop
+fails-requires c κs = search needs
 
 returns : tie.Need-returns Inv-loop μ-loop
 returns c = search needs
@@ -70,7 +70,7 @@ meets-rows-spec =
     add-term-requires
     add-i
     add-j
-    exceeds-requires
+    fails-requires
     returns
     add-r
     loop-less

@@ -8,11 +8,11 @@ use Rattle.test_enumerate.proofs.runs.sweep.Statement.{statement}
 use Rattle.test_enumerate.proofs.runs.sweep.Tie as tie
 
 abbrev Inv-loop : tie.InvT-loop
-Inv-loop n m bounds₀ coefs₀ rhs₀ table₀ down i₀ bounds coefs rhs table i =
-    (i ≤ 8) × (length bounds ≡ length bounds₀) × (length coefs ≡ length coefs₀) × (length rhs ≡ length rhs₀) × (length table ≡ length table₀)
+Inv-loop n m bounds₀ coefs₀ rhs₀ kinds₀ table₀ down i₀ bounds coefs rhs kinds table i =
+    (i ≤ 8) × (length bounds ≡ length bounds₀) × (length coefs ≡ length coefs₀) × (length rhs ≡ length rhs₀) × (length kinds ≡ length kinds₀) × (length table ≡ length table₀)
 
 abbrev μ-loop : tie.MeasureT-loop
-μ-loop n m bounds₀ coefs₀ rhs₀ table₀ down i₀ bounds coefs rhs table i = 8 - i
+μ-loop n m bounds₀ coefs₀ rhs₀ kinds₀ table₀ down i₀ bounds coefs rhs kinds table i = 8 - i
 
 loop-holds : tie.Need-loop-holds Inv-loop μ-loop
 loop-holds c = omega arith
@@ -44,6 +44,9 @@ same-length-3 c = omega arith
 same-length-4 : tie.Need-same-length-4 Inv-loop μ-loop
 same-length-4 c = omega arith
 
+same-length-5 : tie.Need-same-length-5 Inv-loop μ-loop
+same-length-5 c = omega arith
+
 returns : tie.Need-returns Inv-loop μ-loop
 returns c = search needs
 
@@ -63,4 +66,5 @@ sweep-spec =
     same-length-2
     same-length-3
     same-length-4
+    same-length-5
     returns)

@@ -7,10 +7,10 @@ use Rattle.test_support.proofs.cases.each_line.Statement.{statement}
 use Rattle.test_support.proofs.cases.each_line.Tie as tie
 
 abbrev Inv-loop : tie.InvT-loop
-Inv-loop text bounds₀ coefs₀ rhs₀ table₀ sizes₀ at₀ bounds coefs rhs table sizes at = Unit {0}
+Inv-loop text bounds₀ coefs₀ rhs₀ kinds₀ table₀ sizes₀ at₀ bounds coefs rhs kinds table sizes at = Unit {0}
 
 abbrev μ-loop : tie.MeasureT-loop
-μ-loop text bounds₀ coefs₀ rhs₀ table₀ sizes₀ at₀ bounds coefs rhs table sizes at = length text - at
+μ-loop text bounds₀ coefs₀ rhs₀ kinds₀ table₀ sizes₀ at₀ bounds coefs rhs kinds table sizes at = length text - at
 
 nothing-requires : tie.Need-nothing-requires Inv-loop μ-loop
 nothing-requires c κs = search needs
@@ -28,7 +28,7 @@ next-line-requires : tie.Need-next-line-requires Inv-loop μ-loop
 next-line-requires c κs = search needs
 
 loop-less : tie.Need-loop-less Inv-loop μ-loop
-loop-less c = omega (arith, c .next-line .ensures (c .before .before .before .before .before .before .before .loop-test .taken))
+loop-less c = omega (arith, c .next-line .ensures (c .before .before .before .before .before .before .before .before .loop-test .taken))
 
 loop-again : tie.Need-loop-again Inv-loop μ-loop
 loop-again c = tt

@@ -6,10 +6,10 @@ use Rattle.test_support.proofs.copies.all.Statement.{statement}
 use Rattle.test_support.proofs.copies.all.Tie as tie
 
 abbrev Inv-loop : tie.InvT-loop
-Inv-loop n m bounds coefs rhs table row variable budget kind₀ kind = kind ≤ 7
+Inv-loop n m bounds coefs rhs kinds table row variable budget kind₀ kind = kind ≤ 7
 
 abbrev μ-loop : tie.MeasureT-loop
-μ-loop n m bounds coefs rhs table row variable budget kind₀ kind = 7 - kind
+μ-loop n m bounds coefs rhs kinds table row variable budget kind₀ kind = 7 - kind
 
 array-read-row : tie.Need-array-read-row Inv-loop μ-loop
 array-read-row c = search needs

@@ -7,10 +7,10 @@ use Rattle.test_support.proofs.transcript.rows.Statement.{statement}
 use Rattle.test_support.proofs.transcript.rows.Tie as tie
 
 abbrev Inv-loop : tie.InvT-loop
-Inv-loop n coefs rhs i₀ r₀ column₀ i r column = (i ≤ length coefs) × (r ≤ i) × (column ≤ i)
+Inv-loop n coefs rhs kinds i₀ r₀ column₀ i r column = (i ≤ length coefs) × (r ≤ i) × (column ≤ i)
 
 abbrev μ-loop : tie.MeasureT-loop
-μ-loop n coefs rhs i₀ r₀ column₀ i r column = length coefs - i
+μ-loop n coefs rhs kinds i₀ r₀ column₀ i r column = length coefs - i
 
 loop-holds : tie.Need-loop-holds Inv-loop μ-loop
 loop-holds c = omega arith
