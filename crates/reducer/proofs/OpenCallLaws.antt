@@ -180,9 +180,14 @@ pub rest-promised : (s : State) {v : RestVerdict} → v ≡ rest s
 unfolding RestMeans ProbeMoves restFault
 rest-promised s {v} e =
     let said : (a : Rest) → (v ≡ tested a) ↔ ((restFault s ≡ 0) × RestMeans s a) =
-    (λ a. let q = rest-said s a in ((λ g. q .0 (sym e ∙ g)), (λ h. e ∙ q .1 h))) in
-    (e, (said atRest, record {
-      row = λ r. said (byRow r);
-      variable = λ k. said (byVariable k);
-      probe = λ k g. let h = said (byVariable k) .0 g in rest-probe-moves s (fault-none (s .model) .0 (h .0)) k (h .1);
-    }))
+    (λ a. let q = rest-said s a in ((λ g. q .0 (sym e ∙ g)), (λ h. e ∙ q .1 h))) in (
+      e,
+      (
+        said atRest,
+        record {
+          row = λ r. said (byRow r);
+          variable = λ k. said (byVariable k);
+          probe = λ k g. let h = said (byVariable k) .0 g in rest-probe-moves s (fault-none (s .model) .0 (h .0)) k (h .1);
+        },
+      ),
+    )

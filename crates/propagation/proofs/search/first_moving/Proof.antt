@@ -63,9 +63,11 @@ loop-again c =
     let s = c .before .before .before .before .before .before .before .before in
     let h = c .before .before .before .before .loop in
     let q = s .pre .1 in
-    let e = c .next-row2 .ensures in
-    (e .1, tested-passed (s .args .n) (rows s) (s .args .bounds .now) (s .pre .0 .some) (q .0) (s .args .m) (q .1) (h .r) _ (h .inv .1) (c .before .before .before .loop-test .taken)
-    (sym (c .before .before .row-moves-at .ensures) ∙ c .before .if1 .left) (e .1) (e .2))
+    let e = c .next-row2 .ensures in (
+      e .1,
+      tested-passed (s .args .n) (rows s) (s .args .bounds .now) (s .pre .0 .some) (q .0) (s .args .m) (q .1) (h .r) _ (h .inv .1) (c .before .before .before .loop-test .taken)
+          (sym (c .before .before .row-moves-at .ensures) ∙ c .before .if1 .left) (e .1) (e .2),
+    )
 
 returns-2 : tie.Need-returns-2 Inv-loop μ-loop
 returns-2 c =
