@@ -218,13 +218,19 @@ uint32_t astrolabe_probe(size_t n, size_t m,
 /* Answers of astrolabe_is_probing_fixpoint, answer[0]. */
 #define ASTROLABE_FIXPOINT_NO 0  /* a row or a probe would still change the box */
 #define ASTROLABE_FIXPOINT_YES 1 /* 01's at rest */
+/* What a no carries, answer[1]. */
+#define ASTROLABE_FIXPOINT_NO_BY_ROW 0      /* the lowest row that changes the box, or is infeasible */
+#define ASTROLABE_FIXPOINT_NO_BY_VARIABLE 1 /* no row does; the lowest free binary variable whose sides fail */
 
 /*
  * Says whether the box is a probing fixpoint (01's at rest): it is empty; or no row narrows it and, for
  * each free binary variable, both sides propagated to their ends are feasible and give back this box
  * as the smallest that contains both. Writes nothing but the answer; takes no budget, since none could be spent.
+ * The search through the rows, and through the variables after them, ends at the first that shows a no.
  *
- *     answer[0]   ASTROLABE_FIXPOINT_..
+ *     answer[0]   ASTROLABE_FIXPOINT_NO or _YES
+ *     answer[1]   of a no, ASTROLABE_FIXPOINT_NO_BY_..; else 0
+ *     answer[2]   of a no, the number of that row or variable; else 0
  *
  * Refused by 3 5 6 7 23 8 9 16, in this order.
  */

@@ -78,6 +78,19 @@ pub struct Counts {
     pub unchanged: u64,
 }
 
+/// Whether the box is a probing fixpoint (01's at rest), and what was found where it is not.
+#[derive(Clone, Copy, Debug, PartialEq, Eq, Hash)]
+pub enum Rest {
+    /// It is.
+    Yes,
+    /// This row, and no lower one, changes the box when it is propagated, or is infeasible.
+    NoByRow(u32),
+    /// No row changes the box, but of this free binary variable, and of no lower one, a side is infeasible
+    /// or the two sides, propagated to their ends, do not span the box: a probe of it with a budget that
+    /// is not spent changes the box.
+    NoByVariable(u32),
+}
+
 /// How the rounds ended.
 #[derive(Clone, Copy, Debug, PartialEq, Eq, Hash)]
 pub enum Rounds {
@@ -147,6 +160,17 @@ impl From<Places> for Probe {
             1 => Probe::Fixed { value: u8::from(value == 1), sides },
             2 => Probe::BothFeasible { new_implications: value, sides },
             case => no_such_case(case),
+        }
+    }
+}
+
+impl From<Places> for Rest {
+    fn from(places: Places) -> Self {
+        match places[..3] {
+            [1, ..] => Rest::Yes,
+            [0, 0, row] => Rest::NoByRow(count(row)),
+            [0, 1, variable] => Rest::NoByVariable(count(variable)),
+            _ => no_such_case(places[0]),
         }
     }
 }

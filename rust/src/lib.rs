@@ -41,7 +41,7 @@ pub mod ffi;
 mod model;
 mod refusal;
 
-pub use answer::{Counts, Outcome, Probe, Propagation, Rounds, RowPropagation, Side};
+pub use answer::{Counts, Outcome, Probe, Propagation, Rest, Rounds, RowPropagation, Side};
 pub use model::{Call, Model, Row, RowKind, book_size};
 pub use refusal::Refusal;
 

@@ -1,6 +1,6 @@
 //! The model, in owned buffers, with a method for each call.
 
-use crate::answer::{Counts, Outcome, Places, Probe, Propagation, Rounds, RowPropagation};
+use crate::answer::{Counts, Outcome, Places, Probe, Propagation, Rest, Rounds, RowPropagation};
 use crate::ffi;
 use crate::refusal::Refusal;
 
@@ -449,17 +449,19 @@ impl Model {
 
     /// Whether the box is a probing fixpoint (01's at rest): it is empty, or no row and no probe carried
     /// to its end narrows or fixes anything. Two searches that end in a probing fixpoint of the same
-    /// model end in the same box, whatever their orders and budgets.
+    /// model end in the same box, whatever their orders and budgets. A no carries the lowest row that
+    /// changes the box or, if none does, the lowest variable that a probe would narrow or fix something by.
     ///
     /// ```
+    /// use astrolabe::{Model, Rest};
+    ///
     /// // x ≤ y and x + y ≤ 1: no row moves a bound, but probing x would fix it.
-    /// let model = astrolabe::Model::new(vec![0, 1, 0, 1], vec![1, -1, 1, 1], vec![0, 1])?;
-    /// assert!(!model.is_probing_fixpoint()?);
+    /// let model = Model::new(vec![0, 1, 0, 1], vec![1, -1, 1, 1], vec![0, 1])?;
+    /// assert_eq!(model.is_probing_fixpoint()?, Rest::NoByVariable(0));
     /// # Ok::<(), astrolabe::Refusal>(())
     /// ```
-    pub fn is_probing_fixpoint(&self) -> Result<bool, Refusal> {
-        let places: Places = call!(self.astrolabe_is_probing_fixpoint, as_ptr, as_ptr, as_ptr)?;
-        Ok(places[0] == 1)
+    pub fn is_probing_fixpoint(&self) -> Result<Rest, Refusal> {
+        call!(self.astrolabe_is_probing_fixpoint, as_ptr, as_ptr, as_ptr)
     }
 
     /// Makes the calls of a list one after another (01's run sheet). A refused one changes nothing, and

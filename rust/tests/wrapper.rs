@@ -2,7 +2,8 @@
 
 use astrolabe::ffi::ANSWER_LEN;
 use astrolabe::{
-    Call, Model, Outcome, Probe, Propagation, Refusal, Rounds, Row, RowKind, RowPropagation, Side,
+    Call, Model, Outcome, Probe, Propagation, Refusal, Rest, Rounds, Row, RowKind, RowPropagation,
+    Side,
 };
 use compare::lent::{Backend, Lent, Operation, Reference};
 use compare::models::{self, Family};
@@ -64,6 +65,14 @@ fn rounds(answer: Rounds) -> [u64; 2] {
     [case, rounds.into()]
 }
 
+fn rest(a: Rest) -> [u64; 3] {
+    match a {
+        Rest::Yes => [1, 0, 0],
+        Rest::NoByRow(row) => [0, 0, row.into()],
+        Rest::NoByVariable(variable) => [0, 1, variable.into()],
+    }
+}
+
 fn call(model: &mut Model, operation: Operation, list: &[Call]) -> Said {
     match operation {
         Operation::PropagateRow { row } => said(model.propagate_row(row), row_propagation),
@@ -73,7 +82,7 @@ fn call(model: &mut Model, operation: Operation, list: &[Call]) -> Said {
             said(model.tighten_coefficient(row, variable), outcome)
         }
         Operation::RemoveRedundantRow { row } => said(model.remove_redundant_row(row), outcome),
-        Operation::IsProbingFixpoint => said(model.is_probing_fixpoint(), |yes| [yes.into()]),
+        Operation::IsProbingFixpoint => said(model.is_probing_fixpoint(), rest),
         Operation::Run => said(model.run(list), |counts| {
             [counts.refused, counts.infeasible, counts.changed, counts.unchanged]
         }),
@@ -202,7 +211,7 @@ fn equality_rows() {
     let mut model = equal(&[0, 1, 0, 1], &[1, 1], 1);
     assert!(matches!(model.probe(0, 9), Ok(Probe::BothFeasible { new_implications: 4, .. })));
     assert!(model.implies(0, false, 1, true) && model.implies(0, true, 1, false));
-    assert_eq!(model.is_probing_fixpoint(), Ok(true));
+    assert_eq!(model.is_probing_fixpoint(), Ok(Rest::Yes));
     // 0 = 0: a round changes its kind alone, the next nothing.
     let mut model = equal(&[0, 1], &[0], 0);
     assert_eq!(model.clone().rounds(8), Ok(Rounds::Unchanged { rounds: 2 }));
@@ -220,7 +229,7 @@ fn an_exact_tonnage_is_one_row() {
     for model in [&mut exact, &mut two] {
         assert!(matches!(model.probe(0, 1_000), Ok(Probe::Fixed { value: 0, .. })));
         assert_eq!(model.bounds(), [0, 0, 1, 1, 1, 1]);
-        assert_eq!(model.is_probing_fixpoint(), Ok(true));
+        assert_eq!(model.is_probing_fixpoint(), Ok(Rest::Yes));
     }
 }
 

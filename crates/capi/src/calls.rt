@@ -164,7 +164,7 @@ pub extern "C" fn astrolabe_remove_redundant_row(
     )
 }
 
-// 01's rest call: {0 no | 1 yes}.
+// 01's rest call: {1 yes}, or a no with what was found: {0 no, 0 row | 1 variable, its number}.
 #[no_mangle]
 pub extern "C" fn astrolabe_is_probing_fixpoint(
     n: usize,

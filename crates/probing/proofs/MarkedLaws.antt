@@ -21,7 +21,7 @@ use Rattle.row_marks.proofs.MarkLaws.{clean-narrower, clean-remarked, unread-at
 use Rattle.marked_row.proofs.LocalBox.{blank}
 use Rattle.marked_row.proofs.LocalIndex.{clean-none, index-none}
 use Rattle.row.proofs.KindLaws.{kinded-stays}
-use Rattle.semantics.specs.RestTest.{isFixpoint}
+use Rattle.semantics.specs.FixpointTest.{isFixpoint}
 use Rattle.semantics.proofs.Convergence.{fixpoint-test}
 use Rattle.probing.specs.Marked.{Marked, SideReady}
 use Rattle.probing.specs.Results.{probingOf}

@@ -2,6 +2,8 @@
 // budget is spent or a row is infeasible. Each row is read in place through its view. What is known of the rows from
 // earlier visits is kept beside the box while a call runs: their index and which of them are clean
 // (crate `row_marks`).
+pub mod search;
+
 use boxes::copy_box;
 use marked_row::propagate_row_marked;
 use model::MAX_BOX;

@@ -119,14 +119,21 @@ removeAnswer-injective removes.Unchanged removes.Unchanged e = refl
 restVerdict-injective : (r s : RestAnswer) → restVerdict r ≡ restVerdict s → r ≡ s
 unfolding restVerdict
 restVerdict-injective (rests.Refused x) (rests.Refused y) e = cc
-restVerdict-injective (rests.Refused x) rests.No e = cc
 restVerdict-injective (rests.Refused x) rests.Yes e = cc
-restVerdict-injective rests.No (rests.Refused y) e = cc
-restVerdict-injective rests.No rests.No e = refl
-restVerdict-injective rests.No rests.Yes e = cc
+restVerdict-injective (rests.Refused x) (rests.NoByRow y) e = cc
+restVerdict-injective (rests.Refused x) (rests.NoByVariable y) e = cc
 restVerdict-injective rests.Yes (rests.Refused y) e = cc
-restVerdict-injective rests.Yes rests.No e = cc
 restVerdict-injective rests.Yes rests.Yes e = refl
+restVerdict-injective rests.Yes (rests.NoByRow y) e = cc
+restVerdict-injective rests.Yes (rests.NoByVariable y) e = cc
+restVerdict-injective (rests.NoByRow x) (rests.Refused y) e = cc
+restVerdict-injective (rests.NoByRow x) rests.Yes e = cc
+restVerdict-injective (rests.NoByRow x) (rests.NoByRow y) e = cc
+restVerdict-injective (rests.NoByRow x) (rests.NoByVariable y) e = cc
+restVerdict-injective (rests.NoByVariable x) (rests.Refused y) e = cc
+restVerdict-injective (rests.NoByVariable x) rests.Yes e = cc
+restVerdict-injective (rests.NoByVariable x) (rests.NoByRow y) e = cc
+restVerdict-injective (rests.NoByVariable x) (rests.NoByVariable y) e = cc
 
 pub open-answers-injective :
     ((r s : PropagateRowAnswer) → rowAnswer r ≡ rowAnswer s → r ≡ s)

@@ -7,7 +7,7 @@ use mathlib.Core.Bool.{Bool, cond, false, not, true}
 use mathlib.Core.List.{List, []}
 use mathlib.Core.Logic.{_↔_, ⊎-elim}
 use mathlib.Core.Path.{_∙_, _≡_, ap, refl, subst, sym}
-use Rattle.integer.proofs.Tests.{T→false, decide, eqb-test, test-false, test-true}
+use Rattle.integer.proofs.Tests.{T→false, cond-ind, decide, eqb-test, neqb→ne, test-false, test-true}
 use Rattle.model.specs.Checks.{first, none}
 use Rattle.model.specs.Rows.{Rows, rowAt, setRow}
 use Rattle.model.specs.Valid.{ValidModel}
@@ -17,23 +17,23 @@ use Rattle.row_change.specs.KindChanges.{ChangedRow}
 use Rattle.row.specs.Kinds.{propagateRowOf}
 use Rattle.row.specs.Propagation.{PropagatedRow}
 use Rattle.semantics.specs.CallChecks.{callFault, lentTable, recordChecks}
-use Rattle.semantics.specs.Convergence.{RestIsTested}
+use Rattle.semantics.specs.Convergence.{ProbeMoves, RestAnswered, RestMeans}
 use Rattle.semantics.specs.Demand2.{CallMeans, Demand2}
 use Rattle.semantics.specs.Perform.{Answer, Performed, act, perform, probed, propagated, propagatedRow, refused}
 use Rattle.semantics.specs.Points.{AtRest}
 use Rattle.semantics.specs.Probe.{Probed, probe}
 use Rattle.semantics.specs.Propagate.{Propagated, propagate}
-use Rattle.semantics.specs.RestTest.{isProbingFixpoint, restFault}
+use Rattle.semantics.specs.RestTest.{Rest, atRest, byRow, byVariable, restFault, restOf}
 use Rattle.semantics.specs.Run.{answersNone, isRefused, step}
 use Rattle.semantics.specs.Call.{Call, Kind, callOf, hasRow, hasTable, kindOf}
 use Rattle.model.specs.State.{State, stateOf, withBox, withRow}
 use Rattle.model.specs.Model.{modelOf}
 use Rattle.semantics.proofs.Accepted.{accepted, fault-of-own, modelFaultOf}
 use Rattle.semantics.proofs.CallLaws.{perform-accepted}
-use Rattle.semantics.proofs.Convergence.{rest-test}
 use Rattle.semantics.proofs.Demand2.{demand-2}
 use Rattle.semantics.proofs.Preserved.{Preserves, step-preserves}
-use Rattle.reducer.specs.OpenCalls.{Ends, Means, RestVerdict, atRest, notAtRest, performed, refusedRest, rest}
+use Rattle.semantics.proofs.RestAnswer.{rest-answer, rest-probe-moves}
+use Rattle.reducer.specs.OpenCalls.{Ends, Means, NoMeans, RestVerdict, performed, refusedRest, rest, tested}
 
 -- ---- the number that refuses
 
@@ -153,31 +153,41 @@ pub rest-refused : (s : State) {f : ℕ} → f ≡ restFault s → (f ≡ 0 → 
 unfolding rest
 rest-refused s e n = rw (e, test-false (eqb (restFault s) 0) (eqb-test (restFault s) 0) (λ z. n (e ∙ z)))
 
-pub rest-tested : (s : State) {b : Bool} → restFault s ≡ 0 → b ≡ isProbingFixpoint (s .model .n) (s .model .m) (s .model .rows) (s .model .box)
-    → cond b atRest notAtRest ≡ rest s
+pub rest-tested : (s : State) {a : Rest} → restFault s ≡ 0 → a ≡ restOf (s .model .n) (s .model .m) (s .model .rows) (s .model .box)
+    → tested a ≡ rest s
 unfolding rest
 rest-tested s z e = rw (e, z)
 
--- a verdict other than `atRest`
-abbrev NotYes : RestVerdict → Type 0
-NotYes (refusedRest number) = Unit {0}
-NotYes notAtRest = Unit {0}
-NotYes atRest = ⊥
+abbrev IsTested : RestVerdict → Type 0
+IsTested (refusedRest number) = ⊥
+IsTested (tested a) = Unit {0}
 
-rest-yes : (a b : Bool) (f : ℕ) → (cond a (cond b atRest notAtRest) (refusedRest f) ≡ atRest) ↔ (T a × T b)
-rest-yes true true f = ((λ _. (tt, tt)), (λ _. refl))
-rest-yes true false f = ((λ e. absurd (subst NotYes e tt)), (λ h. absurd (h .1)))
-rest-yes false b f = ((λ e. absurd (subst NotYes e tt)), (λ h. absurd (h .0)))
+tested-injective : {a b : Rest} → tested a ≡ tested b → a ≡ b
+tested-injective e = cc
 
--- both promises, from the first
-pub rest-promised : (s : State) {v : RestVerdict} → v ≡ rest s → (v ≡ rest s) × ((v ≡ atRest) ↔ ((restFault s ≡ 0) × AtRest s))
-unfolding rest restFault RestIsTested
-rest-promised s e =
-    let f = restFault s in
-    let x = isProbingFixpoint (s .model .n) (s .model .m) (s .model .rows) (s .model .box) in
-    let y = rest-yes (eqb f 0) x f in
-    let z = eqb-test f 0 in
-    let t : (f ≡ 0) → T x ↔ AtRest s = (λ g. rest-test s (fault-none (s .model) .0 g)) in (
+-- a verdict is given exactly where the model is accepted and what the verdict says is so
+rest-said : (s : State) (a : Rest) → (rest s ≡ tested a) ↔ ((restFault s ≡ 0) × RestMeans s a)
+unfolding rest restFault RestAnswered
+rest-said s a = cond-ind (eqb (restFault s) 0) _ _ (λ (v : RestVerdict). (v ≡ tested a) ↔ ((restFault s ≡ 0) × RestMeans s a))
+    (λ t. let z = eqb-test (restFault s) 0 .0 t in
+    let q = rest-answer s (fault-none (s .model) .0 z) a in
+    ((λ e. (z, q .0 (tested-injective e))), (λ h. ap tested (q .1 (h .1)))))
+    (λ t. ((λ e. absurd (subst IsTested (sym e) tt)), (λ h. absurd (neqb→ne (restFault s) 0 t (h .0)))))
+
+-- all promises, from the first
+pub rest-promised : (s : State) {v : RestVerdict} → v ≡ rest s
+    → (v ≡ rest s) × (((v ≡ tested atRest) ↔ ((restFault s ≡ 0) × AtRest s)) × NoMeans s v)
+unfolding RestMeans ProbeMoves restFault
+rest-promised s {v} e =
+    let said : (a : Rest) → (v ≡ tested a) ↔ ((restFault s ≡ 0) × RestMeans s a) =
+    (λ a. let q = rest-said s a in ((λ g. q .0 (sym e ∙ g)), (λ h. e ∙ q .1 h))) in (
       e,
-      ((λ g. let h = y .0 (sym e ∙ g) in (z .0 (h .0), t (z .0 (h .0)) .0 (h .1))), (λ h. e ∙ y .1 (z .1 (h .0), t (h .0) .1 (h .1)))),
+      (
+        said atRest,
+        record {
+          row = λ r. said (byRow r);
+          variable = λ k. said (byVariable k);
+          probe = λ k g. let h = said (byVariable k) .0 g in rest-probe-moves s (fault-none (s .model) .0 (h .0)) k (h .1);
+        },
+      ),
     )

@@ -8,11 +8,13 @@ use mathlib.Core.Logic.{_↔_, _≢_}
 use mathlib.Core.Path.{_≡_}
 use Rattle.model.specs.Box.{emptyBox}
 use Rattle.row.specs.Outcome.{changed, infeasible, unchanged}
+use Rattle.semantics.specs.CallChecks.{maxBudget}
+use Rattle.semantics.specs.Convergence.{MovedByRow, MovedByVariable}
 use Rattle.semantics.specs.Perform.{Answer, Performed, probed, propagated, propagatedRow, refused, removed, tightened}
 use Rattle.semantics.specs.Points.{FractionalPointOf, PointOf}
 use Rattle.semantics.specs.Probe as semantic
 use Rattle.semantics.specs.Propagate as ended
-use Rattle.semantics.specs.RestTest.{isProbingFixpoint, restFault}
+use Rattle.semantics.specs.RestTest.{Rest, atRest, byRow, byVariable, restFault, restOf}
 use Rattle.semantics.specs.Run.{answersNone}
 use Rattle.model.specs.State.{State}
 use Rattle.probing.specs.Results.{reportOf}
@@ -69,22 +71,33 @@ removeAnswer removes.Infeasible = removed infeasible
 removeAnswer removes.Removed = removed changed
 removeAnswer removes.Unchanged = removed unchanged
 
--- the rest call: refused N, no, yes
+-- the rest call: refused N, yes, no by a row, no by a variable
 pub data RestVerdict : Type 0 where
   refusedRest : ℕ → RestVerdict
-  notAtRest atRest : RestVerdict
+  tested : Rest → RestVerdict
 
 unfoldable pub restVerdict : RestAnswer → RestVerdict
 restVerdict (rests.Refused number) = refusedRest number
-restVerdict rests.No = notAtRest
-restVerdict rests.Yes = atRest
+restVerdict rests.Yes = tested atRest
+restVerdict (rests.NoByRow r) = tested (byRow r)
+restVerdict (rests.NoByVariable k) = tested (byVariable k)
 
--- "The rest call says yes exactly when the box is at rest."
+-- "The rest call says yes exactly when the box is at rest."; 02 (C-13): "a no now carries what it found"
 unfoldable pub rest : State → RestVerdict
 rest s =
     cond (eqb (restFault s) 0)
-    (cond (isProbingFixpoint (s .model .n) (s .model .m) (s .model .rows) (s .model .box)) atRest notAtRest)
+    (tested (restOf (s .model .n) (s .model .m) (s .model .rows) (s .model .box)))
     (refusedRest (restFault s))
+
+-- what the verdict v says of the state s: a no is never wrong, and what it carries is the lowest
+pub record NoMeans (s : State) (v : RestVerdict) : Type 0 where
+  -- "the lowest row whose visit changes the box"
+  pub row : (r : ℕ) → (v ≡ tested (byRow r)) ↔ ((restFault s ≡ 0) × MovedByRow s r)
+  -- "or, if none does, the lowest free 0-1 variable whose two sides fail 01's test"
+  pub variable : (k : ℕ) → (v ≡ tested (byVariable k)) ↔ ((restFault s ≡ 0) × MovedByVariable s k)
+  -- and a probe of it that is carried to its end changes the box
+  pub probe : (k : ℕ) → v ≡ tested (byVariable k)
+      → let M = s .model in semantic.probe k maxBudget (M .n) (M .m) (M .rows) (M .box) (s .table) .box ≢ M .box
 
 -- ---- what an answer means, of the state s before and r after, refused or not
 

@@ -2,8 +2,9 @@
 // check that fails and then changes nothing; everything else is accepted. In the contracts `s` is the state before
 // the call and `r'` the state after it. `defined`: the answer and every lent buffer afterwards are what `perform`
 // gives for the call made of the very n, m, numbers and buffer lengths handed over. `meaning`: what the answer means
-// for the points, and that the call ended within its budget. Every call is refused by the model's checks first, 3, 5,
-// 6, 7, 23, 8 and 9 (`model_fault`), and then by those that its own comment names.
+// for the points, and of the rest call what a yes means; `ending`: that the call ended within its budget; `found`: what
+// a no of the rest call means. Every call is refused by the model's checks first, 3, 5, 6, 7, 23, 8, 9 and 16
+// (`model_fault`), and then by those that its own comment names.
 use crate::checks::call_fault;
 use crate::checks::probe_fault;
 use call::Call;
@@ -14,6 +15,8 @@ use call::TIGHTEN_COEFFICIENT;
 use probing::sides::Probing;
 use probing::sides::Side;
 use propagation::Propagation;
+use rest::Rest;
+use rest::test_rest;
 use row::propagation::RowPropagation;
 use row_change::redundancy::RowRemoval;
 use row_change::tightening::CoefficientTightening;
@@ -25,12 +28,12 @@ ghost use mathlib.Core.Logic.{_↔_};
 ghost use mathlib.Core.Path.{_≡_};
 ghost use Rattle.semantics.specs.Perform.{perform};
 ghost use Rattle.semantics.specs.Points.{AtRest};
-ghost use Rattle.semantics.specs.RestTest.{restFault};
+ghost use Rattle.semantics.specs.RestTest.{atRest, restFault};
 ghost use Rattle.semantics.specs.Call.{callOf};
 ghost use Rattle.model.specs.Rows.{rowsOf};
 ghost use Rattle.model.specs.State.{stateOf};
-ghost use Rattle.reducer.specs.OpenCalls.{Ends, Means, atRest, performed, probeAnswer, propagateAnswer};
-ghost use Rattle.reducer.specs.OpenCalls.{removeAnswer, rest, restVerdict, rowAnswer, tightenAnswer};
+ghost use Rattle.reducer.specs.OpenCalls.{Ends, Means, NoMeans, performed, probeAnswer, propagateAnswer};
+ghost use Rattle.reducer.specs.OpenCalls.{removeAnswer, rest, restVerdict, rowAnswer, tested, tightenAnswer};
 
 // 01's visit: refused N, None, Narrowed with the number of bounds moved, Same.
 pub enum PropagateRowAnswer {
@@ -73,11 +76,13 @@ pub enum RemoveAnswer {
     Unchanged,
 }
 
-// 01's rest call: refused N, no, yes.
+// 01's rest call: refused N, yes, no. A no carries what was found: the lowest row whose propagation changes the box
+// or, if none does, the lowest free variable whose sides do not span it.
 pub enum RestAnswer {
     Refused(u32),
-    No,
     Yes,
+    NoByRow(u32),
+    NoByVariable(u32),
 }
 
 // Propagates row `row` once (01's visit). Refused by 12.
@@ -302,7 +307,7 @@ pub fn remove_redundant_row(
     }
 }
 
-// Whether the box is a probing fixpoint (01's rest call).
+// Whether the box is a probing fixpoint (01's rest call), and what shows that it is none.
 pub fn is_probing_fixpoint(
     n: usize,
     m: usize,
@@ -318,14 +323,19 @@ pub fn is_probing_fixpoint(
     ensures meaning { λ r.
         let A = rowsOf (now (coefs .entry)) (now (rhs .entry)) (now (kinds .entry)) in
         let s = stateOf n m (now (bounds .entry)) A [] in
-        ⌜ (restVerdict r ≡ atRest) ↔ ((restFault s ≡ 0) × AtRest s) ⌝ }
+        ⌜ (restVerdict r ≡ tested atRest) ↔ ((restFault s ≡ 0) × AtRest s) ⌝ }
+    ensures found { λ r.
+        let A = rowsOf (now (coefs .entry)) (now (rhs .entry)) (now (kinds .entry)) in
+        let s = stateOf n m (now (bounds .entry)) A [] in
+        ⌜ NoMeans s (restVerdict r) ⌝ }
 {
     let fault = model::model_fault(n, m, bounds, coefs, rhs, kinds, true);
     if fault != 0 {
         return RestAnswer::Refused(fault);
     }
-    if rest::is_probing_fixpoint(n, m, bounds, coefs, rhs, kinds) {
-        return RestAnswer::Yes;
+    match test_rest(n, m, bounds, coefs, rhs, kinds) {
+        Rest::AtRest => RestAnswer::Yes,
+        Rest::ByRow(r) => RestAnswer::NoByRow(r),
+        Rest::ByVariable(k) => RestAnswer::NoByVariable(k),
     }
-    RestAnswer::No
 }

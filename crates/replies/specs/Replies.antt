@@ -6,11 +6,12 @@ use mathlib.Core.List.{List, [], _++_, _∷_}
 use Rattle.book.specs.Answers as books
 use Rattle.model.specs.Checks.{Check, first, must}
 use Rattle.probing.specs.Results.{reportOf}
-use Rattle.reducer.specs.OpenCalls.{RestVerdict, atRest, notAtRest, refusedRest}
+use Rattle.reducer.specs.OpenCalls.{RestVerdict, refusedRest, tested}
 use Rattle.rounds.specs.Rounds as rounds
 use Rattle.row.specs.Outcome.{Outcome, changed, infeasible, unchanged}
 use Rattle.semantics.specs.CallList.{ListAnswer, ran, refusedList}
 use Rattle.semantics.specs.Perform.{Answer, probed, propagated, propagatedRow, refused, removed, tightened}
+use Rattle.semantics.specs.RestTest.{atRest, byRow, byVariable}
 use Rattle.semantics.specs.Probe as probe
 use Rattle.semantics.specs.Propagate as propagate
 use Rattle.replies.specs.declared.reply.Reply as code
@@ -85,11 +86,12 @@ callReply (removed o) = says (outcomeCase o ∷ [])
 
 -- ---- the others
 
--- "{0 no | 1 yes}"
+-- "{1 yes}" or, with what was found (02, C-13), "{0 no, 0 row | 1 variable, its number}"
 unfoldable pub restReply : RestVerdict → Reply
 restReply (refusedRest number) = refusedBy number
-restReply notAtRest = says (0 ∷ [])
-restReply atRest = says (1 ∷ [])
+restReply (tested atRest) = says (1 ∷ [])
+restReply (tested (byRow r)) = says (0 ∷ 0 ∷ r ∷ [])
+restReply (tested (byVariable k)) = says (0 ∷ 1 ∷ k ∷ [])
 
 -- "{refused, none, changed, unchanged}"
 unfoldable pub listReply : ListAnswer → Reply

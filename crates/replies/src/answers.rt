@@ -84,8 +84,9 @@ pub fn rest_reply(a: RestAnswer) -> Reply
 {
     match a {
         RestAnswer::Refused(number) => Reply::Refused(number),
-        RestAnswer::No => Reply::Numbers(0, 0, 0, 0),
         RestAnswer::Yes => Reply::Numbers(1, 0, 0, 0),
+        RestAnswer::NoByRow(r) => Reply::Numbers(0, 0, r as u64, 0),
+        RestAnswer::NoByVariable(k) => Reply::Numbers(0, 1, k as u64, 0),
     }
 }
 

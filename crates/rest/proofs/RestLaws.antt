@@ -1,23 +1,22 @@
--- What the functions of the rest test need: what an answer says, the test of a hull by its bounds, and of a row of a fixpoint.
-use Prim.Native.Nat.{_*_, _<_, ℕ}
-use lib.Dec.{T}
+-- What the functions of the rest test need: what an answer says, the test of a hull by its bounds, and the answer as the search went.
+use Prim.Native.Nat.{_*_, _<_, _≤_, ℕ}
+use lib.Dec.{T, ltb}
 use lib.IntN.{ℤ}
 use lib.ListN.{length}
-use mathlib.Core.Bool.{Bool, false, true}
+use mathlib.Core.Bool.{false, true}
 use mathlib.Core.List.{List, []}
 use mathlib.Core.Logic.{_↔_}
-use mathlib.Core.Path.{_∙_, _≡_, ap, refl, subst, sym}
+use mathlib.Core.Path.{_∙_, _≡_, ap, subst, sym}
+use native.Mathlib.Omega.{arith}
 use Rattle.integer.specs.Order.{maxZ, minZ}
-use Rattle.integer.proofs.Tests.{T→true, true→T}
-use Rattle.model.specs.Box.{NonEmpty, lower, sameList, upper}
-use Rattle.model.specs.Rows.{Row}
+use Rattle.integer.proofs.Tests.{ltb-test, test-false, test-true}
+use Rattle.model.specs.Box.{isEmpty, lower, sameList, upper}
+use Rattle.model.specs.Rows.{Rows}
 use Rattle.model.proofs.BoxLaws.{box-ext, length-boxOf, lower-boxOf, sameList-refl, sameList→eq, upper-boxOf}
-use Rattle.row.specs.Outcome.{isUnchanged}
-use Rattle.row.specs.Kinds.{propagateRowOf, rowMovesOf}
-use Rattle.row.proofs.KindLaws.{kinded-stays}
-use Rattle.marked_row.proofs.MarkedRowLaws.{moves-none}
+use Rattle.semantics.specs.FixpointTest.{firstMoving}
 use Rattle.semantics.specs.Probe.{hull}
 use Rattle.semantics.specs.Propagate.{Propagated, isNone}
+use Rattle.semantics.specs.RestTest.{atRest, byRow, byVariable, firstUnspanned, restOf}
 use Rattle.propagation.specs.Results.{propagationOf}
 use Rattle.propagation.specs.declared.Propagation as code
 use Rattle.propagation.specs.declared.Propagation.the-variants.{BudgetSpent, Converged, Infeasible}
@@ -44,18 +43,26 @@ hull-test n P Q B l = (
       (sameList-refl (hull n P Q))),
 )
 
--- ---- a row of a fixpoint
+-- ---- the answer of the test, as its search went
 
-module _ (n : ℕ) (r : Row) (B : List ℤ) (h : 0 < n) (p : NonEmpty n B) where
-  pub row-stays : rowMovesOf n r B ≡ false → sameList (propagateRowOf n r B .box) B ≡ true
-  row-stays e = rw (moves-none r h e p) (T→true (sameList B B) (sameList-refl B))
+module _ (n m : ℕ) (A : Rows) (B : List ℤ) where
+  pub rest-empty : isEmpty n B ≡ true → atRest ≡ restOf n m A B
+  unfolding restOf
+  rest-empty e = rw e
 
-  pub row-moved : rowMovesOf n r B ≡ true → sameList (propagateRowOf n r B .box) B ≡ false
-  unfolding rowMovesOf isUnchanged
-  row-moved e = go (sameList (propagateRowOf n r B .box) B) refl
-    where
-      go : (x : Bool) → sameList (propagateRowOf n r B .box) B ≡ x → x ≡ false
-      go false f = refl
-      go true f =
-          let q = sameList→eq (propagateRowOf n r B .box) B (true→T (sameList (propagateRowOf n r B .box) B) f) in
-          sym e ∙ rw (kinded-stays r h p q) refl
+  module _ (e : isEmpty n B ≡ false) {r : ℕ} (f : r ≡ firstMoving n m A B) where
+    pub rest-by-row : r < m → byRow r ≡ restOf n m A B
+    unfolding restOf
+    rest-by-row h = rw (e, ← f, test-true (ltb r m) (ltb-test r m) h)
+
+    module _ (l : m ≤ r) {k : ℕ} (g : k ≡ firstUnspanned n m A B) where
+      no-row : ltb r m ≡ false
+      no-row = test-false (ltb r m) (ltb-test r m) (λ h. omega arith)
+
+      pub rest-by-variable : k < n → byVariable k ≡ restOf n m A B
+      unfolding restOf
+      rest-by-variable h = rw (e, ← f, no-row, ← g, test-true (ltb k n) (ltb-test k n) h)
+
+      pub rest-found-none : n ≤ k → atRest ≡ restOf n m A B
+      unfolding restOf
+      rest-found-none h = rw (e, ← f, no-row, ← g, test-false (ltb k n) (ltb-test k n) (λ q. omega arith))

@@ -8,12 +8,10 @@ use model::MAX_ROWS;
 use probing::sides::try_side;
 use propagation::MAX_BUDGET;
 use propagation::Propagation;
-use row_view::row_moves_at;
-ghost use mathlib.Core.Bool.{_||_, not};
+use propagation::search::first_moving;
 ghost use mathlib.Core.Path.{_≡_};
-ghost use Rattle.integer.specs.Index.{all};
 ghost use Rattle.probing.specs.Marked.{Marked};
-ghost use Prim.Native.Nat.{ℕ, _*_, _<_};
+ghost use Prim.Native.Nat.{ℕ, _*_, _<_, _≤_};
 ghost use lib.Dec.{T};
 ghost use lib.ListN.{length};
 ghost use Rattle.model.specs.Box.{NonEmpty, hull as hulled, isFree, sameList};
@@ -24,24 +22,16 @@ ghost use mathlib.Core.List.{[]};
 ghost use Rattle.semantics.specs.Propagate.{isNone};
 ghost use Rattle.row_marks.specs.Index.{Index};
 ghost use Rattle.propagation.specs.Results.{propagationOf};
-ghost use Rattle.semantics.specs.RestTest.{isFixpoint, isProbingFixpoint, sidesSpan};
+ghost use Rattle.semantics.specs.FixpointTest.{firstMoving};
+ghost use Rattle.semantics.specs.RestTest.{firstUnspanned, restOf, sidesSpan, spansAt};
+ghost use Rattle.rest.specs.Results.{restAnswerOf};
 
-// Whether no row moves a bound: the first that would ends it.
-fn is_fixpoint(n: usize, m: usize, bounds: &[i32], coefs: &[i32], rhs: &[i32], kinds: &[u8]) -> bool
-    requires { ⌜ ValidModel (modelOf n m (now bounds) (rowsOf (now coefs) (now rhs) (now kinds))) ⌝ }
-    requires { ⌜ NonEmpty n (now bounds) ⌝ }
-    ensures { λ r.
-        let A = rowsOf (now (coefs .entry)) (now (rhs .entry)) (now (kinds .entry)) in
-        ⌜ r ≡ isFixpoint n m A (now (bounds .entry)) ⌝ }
-{
-    let mut r = 0;
-    while r < m {
-        if row_moves_at(n, coefs, rhs, kinds, r, bounds) {
-            return false;
-        }
-        r += 1;
-    }
-    true
+// 01's yes, and its no with what the search found: the lowest row whose propagation changes the box or, if none does,
+// the lowest free variable whose sides do not span it.
+pub enum Rest {
+    AtRest,
+    ByRow(u32),
+    ByVariable(u32),
 }
 
 // Whether the hull of two boxes is the box `bounds`.
@@ -159,9 +149,7 @@ fn spans_at(
         ⌜ Marked n m (now bounds) A (now across) (now signs) (now marks) ⌝ }
     ensures answer { λ r.
         let A = rowsOf (now (coefs .entry)) (now (rhs .entry)) (now (kinds .entry)) in
-        ⌜ r
-        ≡ (not (isFree (now (bounds .entry)) k) || sidesSpan n m A
-        (now (bounds .entry)) k) ⌝ }
+        ⌜ r ≡ spansAt n m A (now (bounds .entry)) k ⌝ }
     ensures index { λ r. ⌜ Index n m (now (coefs .entry)) (now (across .exit)) (now (signs .exit)) ⌝ }
 {
     if !is_free(bounds, k) {
@@ -170,8 +158,8 @@ fn spans_at(
     sides_span(n, m, bounds, coefs, rhs, kinds, k, across, signs, marks)
 }
 
-// Whether the sides of each free variable span the box.
-fn all_span(
+// The lowest free variable whose sides do not span the box, n if there is none.
+fn first_unspanned_marked(
     n: usize,
     m: usize,
     bounds: &[i32],
@@ -181,50 +169,44 @@ fn all_span(
     across: &mut [u8],
     signs: &mut [u8],
     marks: &[u8],
-) -> bool
+) -> usize
     requires { ⌜ ValidModel (modelOf n m (now bounds) (rowsOf (now coefs) (now rhs) (now kinds))) ⌝ }
     requires { let A = rowsOf (now coefs) (now rhs) (now kinds) in
         ⌜ Marked n m (now bounds) A (now across) (now signs) (now marks) ⌝ }
     ensures { λ r.
         let A = rowsOf (now (coefs .entry)) (now (rhs .entry)) (now (kinds .entry)) in
-        ⌜ r
-        ≡ all n
-        (λ k. not (isFree (now (bounds .entry)) k) || sidesSpan n m
-        A (now (bounds .entry)) k) ⌝ }
+        ⌜ r ≡ firstUnspanned n m A (now (bounds .entry)) ⌝ }
 {
     let mut k = 0;
     while k < n {
         if !spans_at(n, m, bounds, coefs, rhs, kinds, k, across, signs, marks) {
-            return false;
+            return k;
         }
         k += 1;
     }
-    true
+    n
 }
 
 // The same of a propagation fixpoint: each row is clean.
-fn every_side_spans(
+fn first_unspanned(
     n: usize,
     m: usize,
     bounds: &[i32],
     coefs: &[i32],
     rhs: &[i32],
     kinds: &[u8],
-) -> bool
+) -> usize
     requires { ⌜ ValidModel (modelOf n m (now bounds) (rowsOf (now coefs) (now rhs) (now kinds))) ⌝ }
     requires { let A = rowsOf (now coefs) (now rhs) (now kinds) in
-        ⌜ NonEmpty n (now bounds) × T (isFixpoint n m A (now bounds)) ⌝ }
+        ⌜ NonEmpty n (now bounds) × (m ≤ firstMoving n m A (now bounds)) ⌝ }
     ensures { λ r.
         let A = rowsOf (now (coefs .entry)) (now (rhs .entry)) (now (kinds .entry)) in
-        ⌜ r
-        ≡ all n
-        (λ k. not (isFree (now (bounds .entry)) k) || sidesSpan n m
-        A (now (bounds .entry)) k) ⌝ }
+        ⌜ r ≡ firstUnspanned n m A (now (bounds .entry)) ⌝ }
 {
     let mut across = [0u8; MAX_MATRIX];
     let mut signs = [0u8; MAX_MATRIX];
     let marks = [1u8; MAX_ROWS];
-    all_span(
+    first_unspanned_marked(
         n,
         m,
         bounds,
@@ -237,25 +219,32 @@ fn every_side_spans(
     )
 }
 
-// Whether the box of a model that passed the checks is a probing fixpoint.
-pub fn is_probing_fixpoint(
+// Whether the box of a model that passed the checks is a probing fixpoint, and what shows that it is none: the search
+// through the rows, and through the variables after them, ends at the first that does.
+pub fn test_rest(
     n: usize,
     m: usize,
     bounds: &[i32],
     coefs: &[i32],
     rhs: &[i32],
     kinds: &[u8],
-) -> bool
+) -> Rest
     requires { ⌜ ValidModel (modelOf n m (now bounds) (rowsOf (now coefs) (now rhs) (now kinds))) ⌝ }
     ensures { λ r.
         let A = rowsOf (now (coefs .entry)) (now (rhs .entry)) (now (kinds .entry)) in
-        ⌜ r ≡ isProbingFixpoint n m A (now (bounds .entry)) ⌝ }
+        ⌜ restAnswerOf r ≡ restOf n m A (now (bounds .entry)) ⌝ }
 {
     if boxes::is_empty(bounds) {
-        return true;
+        return Rest::AtRest;
     }
-    if !is_fixpoint(n, m, bounds, coefs, rhs, kinds) {
-        return false;
+    let marks = [0u8; MAX_ROWS];
+    let r = first_moving(n, m, bounds, coefs, rhs, kinds, &marks);
+    if r < m {
+        return Rest::ByRow(r as u32);
     }
-    every_side_spans(n, m, bounds, coefs, rhs, kinds)
+    let k = first_unspanned(n, m, bounds, coefs, rhs, kinds);
+    if k < n {
+        return Rest::ByVariable(k as u32);
+    }
+    Rest::AtRest
 }

@@ -6,7 +6,7 @@ use lib.IntN.{_+ℤ_, pos, ℤ}
 use lib.Signed.{_<ℤ_, _≤ℤ_}
 use mathlib.Core.Bool.{Bool, _&&_, _||_, false, not, true}
 use mathlib.Core.List.{List}
-use mathlib.Core.Logic.{_↔_, _⊎_, inl, inr, ⊎-elim}
+use mathlib.Core.Logic.{_↔_, _≢_, _⊎_, inl, inr, ⊎-elim}
 use mathlib.Core.Path.{_∙_, _≡_, ap, ap₂, refl, subst}
 use native.Mathlib.Decide.{ℕ-discrete}
 use native.Mathlib.Omega.{arith}
@@ -19,7 +19,7 @@ use Rattle.model.specs.Model.{Model}
 use Rattle.model.specs.Rows.{Rows, rowAt}
 use Rattle.model.specs.State.{State}
 use Rattle.model.specs.Valid.{ValidModel}
-use Rattle.model.proofs.BoxLaws.{empty-is, inside-antisymm, inside-refl, inside-trans, isEmpty→eq, nonEmpty-isn't, not-in-empty, sameList-refl, sameList→eq}
+use Rattle.model.proofs.BoxLaws.{empty-is, free-lower, free-upper, inside-antisymm, inside-refl, inside-trans, isEmpty→eq, nonEmpty-isn't, not-in-empty, sameList-refl, sameList→eq}
 use Rattle.model.proofs.CheckLaws.{model-width}
 use Rattle.row.specs.Kinds.{propagateRowOf}
 use Rattle.row.specs.Outcome.{isChanged, isInfeasible}
@@ -30,11 +30,12 @@ use Rattle.row.proofs.Width.{width-mono, width-nonneg}
 use Rattle.semantics.specs.CallChecks.{maxBudget}
 use Rattle.semantics.specs.Convergence.{Ends, EnoughPasses, LargestBudget, MovedLimit, NothingMoves, RestInOwnWords, RestIsTested, UniqueGreatest}
 use Rattle.semantics.specs.Fixpoint.{Fixpoint, GreatestFixpoint, ProbedFixpoint, ProbingFixpoint, SidesSpan}
+use Rattle.semantics.specs.FixpointTest.{isFixpoint}
 use Rattle.semantics.specs.Probe.{ProbeEnding, bothFeasible, fix, fixed, hull, infeasible, probe}
 use Rattle.semantics.specs.Propagate.{isNone, isSpent, passTo, propagate, propagateFrom}
-use Rattle.semantics.specs.RestTest.{isFixpoint, isProbingFixpoint, sidesSpan}
-use Rattle.semantics.proofs.ProbeLaws.{fix-inside, fix-nonEmpty, probe-ind}
-use Rattle.semantics.proofs.PropagateLaws.{moved-at-most, pass-ind, pass-infeasible-box, pass-keeps, pass-moved-none, pass-moved-width, pass-nonEmpty, pass-shrinks, propagate-empty, propagate-ind, propagate-moved-le, propagateFrom-ind}
+use Rattle.semantics.specs.RestTest.{isProbingFixpoint, sidesSpan}
+use Rattle.semantics.proofs.ProbeLaws.{at-fix, fix-inside, fix-nonEmpty, probe-ind}
+use Rattle.semantics.proofs.PropagateLaws.{moved-at-most, pass-ind, pass-infeasible-box, pass-keeps, pass-moved-none, pass-moved-width, pass-nonEmpty, pass-shrinks, propagate-empty, propagate-ind, propagate-moved-le, propagate-shrinks, propagateFrom-ind}
 
 -- ---- a pass that moved nothing
 
@@ -171,12 +172,29 @@ module _ (budget n m : ℕ) (A : Rows) (B : List ℤ) (h : 0 < n) (p : NonEmpty 
       (λ _ _ y. ((λ q. absurd (not-both (fixed 0) (q .0) tt)), (λ s. absurd (T-not (isNone (propagate budget n m A (fix n B k 1) .ending)) (s .1) y))))
       (λ _ x y. ((λ q. (x, y, q .1)), (λ s. ((_, refl), s .2))))
 
+-- a probe with the largest budget of a free variable whose sides fail the test changes the box
+module _ (n m : ℕ) (A : Rows) (B : List ℤ) (h : 0 < n) (p : NonEmpty n B) (w : width n B <ℤ pos maxBudget) (k : ℕ) (t : List ℕ) (kn : k < n) (f : T (isFree B k)) where
+  side-moves : (v : ℕ) → v < 2 → T (not (isNone (propagate maxBudget n m A (fix n B k v) .ending))) → propagate maxBudget n m A (fix n B k v) .box ≢ B
+  side-moves v b x e =
+      let a = at-fix B k v kn (rw e at (propagate-shrinks n m A maxBudget (fix n B k v) x)) in
+      let l = free-lower B k f in
+      let g = free-upper B k f in
+      omega zarith
+
+  pub probe-moves : (SidesSpan n m A B k → ⊥) → probe k maxBudget n m A B t .box ≢ B
+  probe-moves u = probe-ind k maxBudget n m A B t (λ r. r .box ≢ B)
+      (λ e. absurd (T-not (isEmpty n B) (false→T (isEmpty n B) (nonEmpty-isn't h p)) e))
+      (λ _ _ _ e. not-in-empty n B h p (rw e (inside-refl n B)))
+      (λ _ _ y. side-moves 1 (omega arith) y)
+      (λ _ x _. side-moves 0 (omega arith) x)
+      (λ _ x y e. u (span-iff maxBudget n m A B h p w k f .0 (x, y, e)))
+
 -- ---- the test of the rest call
 
 sameList-test : (a b : List ℤ) → T (sameList a b) ↔ (a ≡ b)
 sameList-test a b = (sameList→eq a b, (λ e. rw e (sameList-refl b)))
 
-implies-test : (a b : Bool) {P : Type 0} → (T a → T b ↔ P) → T (not a || b) ↔ (T a → P)
+pub implies-test : (a b : Bool) {P : Type 0} → (T a → T b ↔ P) → T (not a || b) ↔ (T a → P)
 implies-test true b d = ((λ t _. d tt .0 t), (λ g. d tt .1 (g tt)))
 implies-test false b d = ((λ _ z. absurd z), (λ _. tt))
 

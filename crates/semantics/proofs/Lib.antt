@@ -5,11 +5,13 @@ pub mod Demand1
 pub mod RowChange
 pub mod ImplicationLaws
 pub mod Tally
+pub mod LowestLaws
 pub mod PropagateLaws
 pub mod ProbeLaws
 pub mod Convergence
 pub mod CallLaws
 pub mod Preserved
+pub mod RestAnswer
 pub mod Reachability
 pub mod Demand2
 pub mod Demand3

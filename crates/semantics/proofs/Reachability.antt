@@ -25,15 +25,16 @@ use Rattle.semantics.specs.Call.{Call, hasBudget, hasRow, hasTable, hasV
 use Rattle.semantics.specs.CallChecks.{callFault, maxBudget}
 use Rattle.semantics.specs.Convergence.{EnoughPasses, LargestBudget, PropagateOrProbe, Reachable, RestIsTested, RestReached}
 use Rattle.semantics.specs.Fixpoint.{Fixpoint, ProbingFixpoint}
+use Rattle.semantics.specs.FixpointTest.{isFixpoint}
 use Rattle.semantics.specs.Perform.{act}
 use Rattle.semantics.specs.Points.{AtRest}
 use Rattle.semantics.specs.Probe.{fix, probe}
 use Rattle.semantics.specs.Propagate.{isNone, propagate}
-use Rattle.semantics.specs.RestTest.{isFixpoint, isProbingFixpoint, sidesSpan}
+use Rattle.semantics.specs.RestTest.{isProbingFixpoint, sidesSpan}
 use Rattle.semantics.specs.Run.{run, step}
 use Rattle.semantics.proofs.Accepted.{accepts, lent-own}
 use Rattle.semantics.proofs.CallLaws.{step-accepted}
-use Rattle.semantics.proofs.Convergence.{fixpoint-test, propagate-ends, rest-test, span-iff, span-test, width-limit}
+use Rattle.semantics.proofs.Convergence.{fixpoint-test, probe-moves, propagate-ends, rest-test, span-test, width-limit}
 use Rattle.semantics.proofs.Preserved.{step-preserves}
 use Rattle.semantics.proofs.ProbeLaws.{at-fix, probe-ind, probe-narrower}
 use Rattle.semantics.proofs.PropagateLaws.{propagate-infeasible-box, propagate-shrinks}
@@ -101,24 +102,9 @@ module _ (n m : ℕ) (A : Rows) (B : List ℤ) (h : 0 < n) (p : NonEmpty n B) (w
   -- a probe of a free variable whose sides do not span the box
   probe-less : (k : ℕ) (t : List ℕ) → k < n → T (isFree B k) → T (not (sidesSpan n m A B k)) → Less n (probe k maxBudget n m A B t .box) B
   probe-less k t kn f u =
-      ⊎-elim (λ e. inl e) (λ q. inr (less-of (q .0) p (q .1) moves)) (probe-narrower k maxBudget m A t (or-inr (isEmpty n B) (isFree B k) f) p)
-    where
-      not-fixed : (v : ℕ) → v < 2 → T (not (isNone (propagate maxBudget n m A (fix n B k v) .ending)))
-          → propagate maxBudget n m A (fix n B k v) .box ≢ B
-      not-fixed v b x e =
-          let a = at-fix B k v kn (rw e at (propagate-shrinks n m A maxBudget (fix n B k v) x)) in
-          let l = free-lower B k f in
-          let g = free-upper B k f in
-          omega zarith
-
-      moves : probe k maxBudget n m A B t .box ≢ B
-      moves = probe-ind k maxBudget n m A B t (λ r. r .box ≢ B)
-          (λ e. absurd (T-not (isEmpty n B) (false→T (isEmpty n B) (nonEmpty-isn't h p)) e))
-          (λ _ _ _ e. not-in-empty n B h p (rw e (inside-refl n B)))
-          (λ _ _ y. not-fixed 1 (omega arith) y)
-          (λ _ x _. not-fixed 0 (omega arith) x)
-          (λ _ x y e. T-not (sidesSpan n m A B k) u
-          (span-test n m A B h p w k f .1 (span-iff maxBudget n m A B h p w k f .0 (x, y, e))))
+      ⊎-elim (λ e. inl e)
+      (λ q. inr (less-of (q .0) p (q .1) (probe-moves n m A B h p w k t kn f (λ s. T-not (sidesSpan n m A B k) u (span-test n m A B h p w k f .1 s)))))
+      (probe-narrower k maxBudget m A t (or-inr (isEmpty n B) (isFree B k) f) p)
 
 -- where the box is not at rest, some accepted settle or probe makes it empty or narrower
 record Progress (s : State) : Type 0 where

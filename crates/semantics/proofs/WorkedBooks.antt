@@ -19,10 +19,11 @@ use Rattle.semantics.specs.Books.{AllHold, boxed, callOn, fresh, freshKi
 use Rattle.semantics.specs.Call.{hasBudget, hasRow, hasTable, hasVariable, isUnknown, kindOf, lengthsOf}
 use Rattle.semantics.specs.CallChecks.{callChecks, callFault, givenModel, isLent, lentTable, recordChecks}
 use Rattle.semantics.specs.Demand2.{ones}
+use Rattle.semantics.specs.FixpointTest.{isFixpoint}
 use Rattle.semantics.specs.Perform.{act, perform}
 use Rattle.semantics.specs.Probe.{byteOf, fix, hull, implies, isFixed, joinSides, literal, probe, put, recordSide, recordTo, sideOf}
 use Rattle.semantics.specs.Propagate.{isNone, isSpent, passRow, passTo, propagate, propagateFrom}
-use Rattle.semantics.specs.RestTest.{isFixpoint, isProbingFixpoint, sidesSpan}
+use Rattle.semantics.specs.RestTest.{isProbingFixpoint, sidesSpan}
 use Rattle.semantics.specs.Run.{run, step}
 use Rattle.semantics.specs.WorkedBooks.{atRest, binary2, boxAfter, chained, clique, crossed, empty2, pair, single, workedBooks}
 

@@ -6,7 +6,7 @@ use lib.IntN.{pos, ℤ}
 use lib.Signed.{_<ℤ_, _≤ℤ_}
 use mathlib.Core.Bool.{not}
 use mathlib.Core.List.{List, [], _∷_}
-use mathlib.Core.Logic.{_↔_, _⊎_}
+use mathlib.Core.Logic.{_↔_, _≢_, _⊎_}
 use mathlib.Core.Path.{_≡_}
 use Rattle.model.specs.Box.{Inside, NonEmpty, emptyBox, isFree, width}
 use Rattle.model.specs.Model.{Model}
@@ -17,11 +17,11 @@ use Rattle.row.specs.Outcome.{unchanged}
 use Rattle.row.specs.Kinds.{propagateRowOf}
 use Rattle.semantics.specs.Call.{Call, kindOf, probing, propagation}
 use Rattle.semantics.specs.CallChecks.{callFault, maxBudget}
-use Rattle.semantics.specs.Fixpoint.{Fixpoint, GreatestFixpoint}
+use Rattle.semantics.specs.Fixpoint.{Fixpoint, GreatestFixpoint, SidesSpan}
 use Rattle.semantics.specs.Points.{AtRest}
 use Rattle.semantics.specs.Probe.{bothFeasible, probe}
 use Rattle.semantics.specs.Propagate.{Propagated, isNone, isSpent, propagate}
-use Rattle.semantics.specs.RestTest.{isProbingFixpoint}
+use Rattle.semantics.specs.RestTest.{Rest, atRest, byRow, byVariable, isProbingFixpoint, restOf}
 use Rattle.semantics.specs.Run.{run, step}
 
 -- r is what propagating B came to, and the budget was enough
@@ -67,6 +67,42 @@ pub record NothingMoves (s : State) : Type 0 where
 -- proved as `rest-in-own-words`
 unfoldable pub RestInOwnWords : Type 0
 RestInOwnWords = (s : State) → ValidModel (s .model) → AtRest s ↔ ((s .model .box ≡ emptyBox (s .model .n)) ⊎ NothingMoves s)
+
+-- ---- what the rest call's no carries (02, C-13)
+
+-- "the lowest row whose visit changes the box": of row r; a visit that answers None changes it too
+pub record MovedByRow (s : State) (r : ℕ) : Type 0 where
+  pub nonEmpty : NonEmpty (s .model .n) (s .model .box)
+  pub row : r < s .model .m
+  pub changes : let M = s .model in propagateRowOf (M .n) (rowAt (M .n) (M .rows) r) (M .box) .box ≢ M .box
+  -- every lower one is fine
+  pub lower : (i : ℕ) → i < r → let M = s .model in propagateRowOf (M .n) (rowAt (M .n) (M .rows) i) (M .box) .box ≡ M .box
+
+-- "or, if none does, the lowest free 0-1 variable whose two sides fail 01's test": of variable k
+pub record MovedByVariable (s : State) (k : ℕ) : Type 0 where
+  -- "if none does"
+  pub quiet : let M = s .model in Fixpoint (M .n) (M .m) (M .rows) (M .box)
+  pub variable : k < s .model .n
+  pub free : T (isFree (s .model .box) k)
+  pub fails : let M = s .model in SidesSpan (M .n) (M .m) (M .rows) (M .box) k → ⊥
+  -- every lower one is fine
+  pub lower : (j : ℕ) → j < k → T (isFree (s .model .box) j) → let M = s .model in SidesSpan (M .n) (M .m) (M .rows) (M .box) j
+
+-- what each answer says
+unfoldable pub RestMeans : State → Rest → Type 0
+RestMeans s atRest = AtRest s
+RestMeans s (byRow r) = MovedByRow s r
+RestMeans s (byVariable k) = MovedByVariable s k
+
+-- it is the answer exactly where what it says is so (`rest-answer`)
+unfoldable pub RestAnswered : Type 0
+RestAnswered = (s : State) → ValidModel (s .model) → (a : Rest)
+    → let M = s .model in (restOf (M .n) (M .m) (M .rows) (M .box) ≡ a) ↔ RestMeans s a
+
+-- and a variable's no is seen by probing: a probe of it with the largest budget, which is never spent, changes the box (`rest-probe-moves`)
+unfoldable pub ProbeMoves : Type 0
+ProbeMoves = (s : State) → ValidModel (s .model) → (k : ℕ) → MovedByVariable s k
+    → let M = s .model in probe k maxBudget (M .n) (M .m) (M .rows) (M .box) (s .table) .box ≢ M .box
 
 -- a list of accepted settles and probes from s
 unfoldable pub PropagateOrProbe : State → List Call → Type 0

@@ -13,9 +13,9 @@ use Rattle.semantics.specs.CallList.{callsMade, ran, refusedList, runLis
 use Rattle.semantics.specs.Perform.{perform, probed, propagated, propagatedRow, refused, removed, tightened}
 use Rattle.semantics.specs.Probe.{Side, bothFeasible, fixed, infeasible as bothInfeasible}
 use Rattle.semantics.specs.Propagate.{budgetSpent, converged, infeasible as none}
-use Rattle.semantics.specs.RestTest.{isProbingFixpoint, restFault}
+use Rattle.semantics.specs.RestTest.{Rest, atRest, byRow, byVariable, isProbingFixpoint, restFault, restOf}
 use Rattle.semantics.specs.Run.{noCounts, tally}
-use Rattle.semantics.specs.WorkedBooks.{binary2, empty2, pair, single}
+use Rattle.semantics.specs.WorkedBooks.{binary2, chained, crossed, empty2, pair, single}
 
 -- x + y ≤ 1 on the empty box
 unfoldable pub emptied : State
@@ -95,6 +95,16 @@ unspent p k = record { passes = p; spent = false; moved = k }
 
 unfoldable pub spentSide : (p k : ℕ) → Side
 spentSide p k = record { passes = p; spent = true; moved = k }
+
+-- what the rest call finds in s
+unfoldable pub restIn : State → Rest
+restIn s = restOf (s .model .n) (s .model .m) (s .model .rows) (s .model .box)
+
+-- y − z ≤ 0 and y + z ≤ 1 with y and z free 0-1, and a third row a x ≤ b with x from 0 to u
+unfoldable pub later : ℤ → ℤ → ℤ → State
+later u a b =
+    fresh 3 3 (pos 0 ∷ u ∷ pos 0 ∷ pos 1 ∷ pos 0 ∷ pos 1 ∷ [])
+    (pos 0 ∷ pos 1 ∷ negsuc 0 ∷ pos 0 ∷ pos 1 ∷ pos 1 ∷ a ∷ pos 0 ∷ pos 0 ∷ []) (pos 0 ∷ pos 1 ∷ b ∷ [])
 
 -- 0 to 3 are the literals x = 0, x = 1, y = 0, y = 1; byte 4p + q says that p implies q
 unfoldable pub corners : List Line
@@ -360,4 +370,20 @@ corners =
     is (perform s (withLengths (propagateRowCall s 0) (record { box = 2; coefs = 1; rhs = 1; kinds = 2; table = 4 }))) (kept s (refused 5)))
     ∷ (let s = freshKinds 1 1 (pos 0 ∷ pos 1 ∷ []) (pos 1 ∷ []) (pos 1_000_000_001 ∷ []) [] in
     is (perform s (propagateRowCall s 0)) (kept s (refused 5)))
+    -- what the rest call's no carries (02, C-13): the lowest row that changes the box, None counting; x ≥ 1 and y ≥ 1, and
+    -- 0 ≤ 0 and 0 ≤ −1
+    ∷ is (restIn (fresh 2 2 binary2 (negsuc 0 ∷ pos 0 ∷ pos 0 ∷ negsuc 0 ∷ []) (negsuc 0 ∷ negsuc 0 ∷ []))) (byRow 0)
+    ∷ is (restIn (fresh 1 2 (pos 0 ∷ pos 1 ∷ []) (pos 0 ∷ pos 0 ∷ []) (pos 0 ∷ negsuc 0 ∷ []))) (byRow 1)
+    ∷ is (restIn (withBox chained (pos 0 ∷ pos 2 ∷ pos 0 ∷ pos 5 ∷ []) [])) (byRow 1)
+    -- the lowest free variable whose sides do not span the box; x, which is in no row, does not fail, and neither does one that is not free
+    ∷ is (restIn crossed) (byVariable 0)
+    ∷ is (restIn (later (pos 1) (pos 0) (pos 0))) (byVariable 1)
+    ∷ is (restIn (later (pos 2) (pos 0) (pos 0))) (byVariable 1)
+    -- a row that changes the box comes before any variable
+    ∷ is (restIn (later (pos 1) (negsuc 0) (negsuc 0))) (byRow 2)
+    ∷ is (restIn (later (pos 1) (pos 0) (negsuc 0))) (byRow 2)
+    -- the empty box, a box at rest, and one without rows
+    ∷ is (restIn emptied) atRest
+    ∷ is (restIn (pair (pos 1) (pos 1) (pos 1))) atRest
+    ∷ is (restIn (fresh 1 0 (pos 0 ∷ pos 1 ∷ []) [] [])) atRest
     ∷ []

@@ -1,3 +1,5 @@
+pub mod Lowest
+pub mod FixpointTest
 pub mod Propagate
 pub mod Probe
 pub mod Fixpoint

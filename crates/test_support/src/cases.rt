@@ -10,7 +10,7 @@
 //   CALL KIND ROW VARIABLE BUDGET  one on the model itself: the record and the answer
 //   execute LENGTH X ..            runs the list of as many numbers and writes the four counts
 //   FOUR X ..                      the same of four records, 16 numbers in all
-//   fixpoint                       writes whether the box is at rest
+//   fixpoint                       writes whether the box is at rest, or what shows that it is not
 //   READ                           reads the book into the buffers of the model
 //   TRAILER                        reads the sizes from the bytes, a trailer alone
 //   WRITE                          writes the model into the book

@@ -14,7 +14,7 @@ use reducer::calls::RestAnswer;
 use reducer::calls::TightenAnswer;
 
 // A number behind a word.
-fn item(word: &[u8], number: u32) {
+pub fn item(word: &[u8], number: u32) {
     text(word);
     count(number as usize);
 }
@@ -99,8 +99,9 @@ fn removed(a: RemoveAnswer) {
 fn rest(a: RestAnswer) {
     match a {
         RestAnswer::Refused(number) => refused(number),
-        RestAnswer::No => text(b" no"),
         RestAnswer::Yes => text(b" yes"),
+        RestAnswer::NoByRow(r) => item(b" no by row", r),
+        RestAnswer::NoByVariable(k) => item(b" no by variable", k),
     }
 }
 

@@ -1,4 +1,5 @@
 // Call lists (01's run sheets), as numbers and as records, and what they leave.
+use crate::in_words::item;
 use crate::in_words::ran;
 use crate::in_words::refused;
 use crate::parts::naturals_part;
@@ -76,8 +77,9 @@ pub fn rest(answer: RestAnswer) {
             text(b" ");
             refused(number);
         }
-        RestAnswer::No => text(b"  not at rest"),
         RestAnswer::Yes => text(b"  at rest"),
+        RestAnswer::NoByRow(r) => item(b"  not at rest by row", r),
+        RestAnswer::NoByVariable(k) => item(b"  not at rest by variable", k),
     }
     line();
 }

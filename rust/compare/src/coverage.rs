@@ -4,7 +4,7 @@ use std::collections::{BTreeMap, BTreeSet};
 use std::fmt;
 
 use reference::bounds;
-use reference::row::{self, AT_MOST, EQUAL, Outcome};
+use reference::row::{self, AT_MOST, EQUAL, Outcome, RowPropagation, Rows};
 
 use crate::damage;
 use crate::lent::{Lent, Operation};
@@ -18,7 +18,7 @@ pub struct Coverage {
     pub most_passes: u64,
     /// The most bounds that one propagation moved.
     pub most_moved: u64,
-    /// Which of [`MOVES`] and [`EQUALITIES`] were met.
+    /// Which of [`MOVES`], [`EQUALITIES`] and [`UNREST`] were met.
     pub met: BTreeSet<&'static str>,
 }
 
@@ -42,6 +42,14 @@ const EQUALITIES: [&str; 8] = [
     "rounds that removed an equality row",
 ];
 
+/// The same of the rest call's no (02, C-13).
+const UNREST: [&str; 4] = [
+    "a no by a row behind others that leave the box",
+    "a no by a row that is infeasible",
+    "a no by variable 0",
+    "a no by a variable behind free ones that pass",
+];
+
 impl Coverage {
     /// Notes what a call returned and left, and what it was lent.
     pub fn note(&mut self, operation: Operation, before: &Lent, said: u32, after: &Lent) {
@@ -61,6 +69,9 @@ impl Coverage {
         };
         *self.answered.entry((operation.name(), case)).or_default() += 1;
         self.note_equalities(operation, before, after);
+        if operation == Operation::IsProbingFixpoint {
+            self.note_unrest(before, answer);
+        }
         let [several, again, before_infeasible, side_before_infeasible] = MOVES;
         match answer[..] {
             [1, moved, ..] if matches!(operation, Operation::PropagateRow { .. }) => {
@@ -82,6 +93,21 @@ impl Coverage {
                 self.met(side_before_infeasible, met);
             }
             _ => {}
+        }
+    }
+
+    /// What an answer of the rest call met.
+    fn note_unrest(&mut self, before: &Lent, answer: &[u64]) {
+        let [later, infeasible, first, behind] = UNREST;
+        let (no, by_variable, number) = (answer[0] == 0, answer[1] == 1, answer[2] as usize);
+        self.met(later, no && !by_variable && number > 0);
+        self.met(first, no && by_variable && number == 0);
+        if no && by_variable {
+            self.met(behind, (0..number).any(|k| bounds::is_free(&before.bounds, k)));
+        } else if no {
+            let rows = Rows::new(before.n, &before.coefs, &before.rhs, &before.kinds);
+            let said = row::propagate_row(&mut before.bounds.clone(), rows.at(number));
+            self.met(infeasible, said == RowPropagation::Infeasible);
         }
     }
 
@@ -138,7 +164,7 @@ impl Coverage {
     }
 
     /// What a long enough run must have met and has not: each check of each call, each case of each
-    /// answer, and each of [`MOVES`] and [`EQUALITIES`].
+    /// answer, and each of [`MOVES`], [`EQUALITIES`] and [`UNREST`].
     pub fn missing(&self) -> Vec<String> {
         let (row, variable, budget, limit) = (0, 0, 0, 0);
         let all = [
@@ -154,7 +180,7 @@ impl Coverage {
             (Operation::BookRead, 1),
             (Operation::BookWrite, 1),
         ];
-        let mut missing: Vec<String> = [&MOVES[..], &EQUALITIES]
+        let mut missing: Vec<String> = [&MOVES[..], &EQUALITIES, &UNREST]
             .concat()
             .into_iter()
             .filter(|what| !self.met.contains(what))

@@ -510,6 +510,26 @@ fn catches_a_fixpoint_that_is_always_claimed() {
 }
 
 #[test]
+fn catches_a_no_by_row_0_always() {
+    is_caught(|operation, _, said, loan| {
+        if operation == Operation::IsProbingFixpoint && said == 0 && loan.answer[..2] == [0, 0] {
+            loan.answer[2] = 0;
+        }
+        said
+    });
+}
+
+#[test]
+fn catches_a_variable_told_as_a_row() {
+    is_caught(|operation, _, said, loan| {
+        if operation == Operation::IsProbingFixpoint && said == 0 {
+            loan.answer[1] = 0;
+        }
+        said
+    });
+}
+
+#[test]
 fn catches_a_byte_of_a_book() {
     is_caught(|operation, _, said, loan| {
         if operation == Operation::BookWrite && said == 0 && loan.m > 0 {

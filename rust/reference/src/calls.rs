@@ -7,7 +7,7 @@
 
 use crate::checks::{self, Check};
 use crate::list;
-use crate::probing::{self, Verdict};
+use crate::probing::{self, Rest, Verdict};
 use crate::propagation::{self, Ending};
 use crate::rounds::{self, Rounds};
 use crate::row::{self, AT_MOST, Outcome, RowPropagation, Rows};
@@ -217,7 +217,11 @@ pub fn is_probing_fixpoint(
     reply(answer, |places_lent| {
         check_model(n, m, bounds, coefs, rhs, kinds, None, &[(places_lent, ANSWER)])?;
         let rows = Rows::new(n, coefs, rhs, kinds);
-        Ok(places([probing::is_probing_fixpoint(bounds, rows).into()]))
+        Ok(match probing::rest(bounds, rows) {
+            Rest::Yes => places([1]),
+            Rest::NoByRow(row) => places([0, 0, row as u64]),
+            Rest::NoByVariable(variable) => places([0, 1, variable as u64]),
+        })
     })
 }
 

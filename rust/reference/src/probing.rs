@@ -100,18 +100,31 @@ pub fn literal(k: usize, v: usize) -> usize {
     2 * k + v
 }
 
-/// Whether the box is at rest: it is empty; or no row moves it and no probe carried to its end does.
-pub fn is_probing_fixpoint(bounds: &[i32], rows: Rows) -> bool {
-    bounds::is_empty(bounds)
-        || is_fixpoint(bounds, rows)
-            && (0..bounds.len() / 2)
-                .filter(|&k| bounds::is_free(bounds, k))
-                .all(|k| sides_leave(bounds, rows, k))
+/// What the rest call answers: yes, or a no with what it found (02, C-13).
+#[derive(Clone, Copy, Debug, PartialEq, Eq)]
+pub enum Rest {
+    Yes,
+    NoByRow(usize),
+    NoByVariable(usize),
 }
 
-/// Whether no row changes the box (01's quiet).
-pub fn is_fixpoint(bounds: &[i32], rows: Rows) -> bool {
-    rows.iter().all(|row| propagate_row(&mut bounds.to_vec(), row) == RowPropagation::Unchanged)
+/// Whether the box is at rest: it is empty; or no row changes it, and no probe carried to its end does. Else
+/// the lowest row that does or, if none does, the lowest free variable whose sides fail.
+pub fn rest(bounds: &[i32], rows: Rows) -> Rest {
+    if bounds::is_empty(bounds) {
+        return Rest::Yes;
+    }
+    if let Some(row) = first_moving(bounds, rows) {
+        return Rest::NoByRow(row);
+    }
+    let mut free = (0..bounds.len() / 2).filter(|&k| bounds::is_free(bounds, k));
+    free.find(|&k| !sides_leave(bounds, rows, k)).map_or(Rest::Yes, Rest::NoByVariable)
+}
+
+/// The lowest row that changes the box, also by making it empty; none where it is 01's quiet.
+pub fn first_moving(bounds: &[i32], rows: Rows) -> Option<usize> {
+    rows.iter()
+        .position(|row| propagate_row(&mut bounds.to_vec(), row) != RowPropagation::Unchanged)
 }
 
 /// Whether both sides of `k` are feasible and their hull is the box itself. The largest budget is

@@ -295,8 +295,17 @@ fn largest_quiet(model: &Model, bounds: &[i32]) -> Option<Vec<i32>> {
     largest.cloned()
 }
 
-/// 01's "at rest" word by word.
-fn at_rest_by_definition(model: &Model) -> bool {
+/// Two to four rows over three free binary variables whose coefficients are −1, 0 or 1: often no row changes
+/// the box, and a probe does.
+fn unit_model(rng: &mut Rng) -> Model {
+    let m = rng.between(2, 4) as usize;
+    let coefs: Vec<[i32; 3]> = (0..m).map(|_| [(); 3].map(|()| rng.between(-1, 1))).collect();
+    let rows: Vec<(&[i32], i32)> = coefs.iter().map(|row| (&row[..], rng.between(0, 1))).collect();
+    Model::binary(3, &rows)
+}
+
+/// 01's "at rest" word by word, and what a no carries (02, C-13).
+fn rest_by_definition(model: &Model) -> [u64; 3] {
     let bounds = &model.bounds;
     let free = |k: usize| bounds[2 * k..2 * k + 2] == [0, 1];
     let side = |k: usize, v: i32| {
@@ -308,7 +317,15 @@ fn at_rest_by_definition(model: &Model) -> bool {
         (Some(zero), Some(one)) => reference::bounds::hull(&zero, &one) == *bounds,
         _ => false,
     };
-    model.is_empty() || is_quiet(model, bounds) && (0..model.n).filter(|&k| free(k)).all(leaves)
+    let moves = |&row: &u32| model.clone().propagate_row(row).unwrap()[0] != 2;
+    if model.is_empty() {
+        return [1, 0, 0];
+    }
+    if let Some(row) = (0..model.m as u32).find(moves) {
+        return [0, 0, row.into()];
+    }
+    let unspanned = (0..model.n).filter(|&k| free(k)).find(|&k| !leaves(k));
+    unspanned.map_or([1, 0, 0], |k| [0, 1, k as u64])
 }
 
 #[test]
@@ -328,18 +345,19 @@ fn propagation_ends_in_the_largest_quiet_box() {
 #[test]
 fn the_rest_call_agrees_with_the_definition() {
     let mut rng = Rng(5);
-    let mut seen = [0; 2];
-    for round in 0..600 {
-        let mut model = small_model(&mut rng, 3);
-        // Half of them are carried to a fixpoint first: else almost all would be at unrest.
-        if round % 2 == 0 {
+    let mut seen = [0; 3];
+    for round in 0..2_400 {
+        let mut model =
+            if round % 3 == 0 { unit_model(&mut rng) } else { small_model(&mut rng, 3) };
+        // A third is carried to a fixpoint first: else almost all would be at unrest.
+        if round % 3 == 1 {
             model.propagate(MAX_BUDGET).unwrap();
         }
-        let said = model.at_rest().unwrap()[0];
-        assert_eq!(said == 1, at_rest_by_definition(&model), "{model:?}");
-        seen[said as usize] += 1;
+        let said = model.at_rest().unwrap();
+        assert_eq!(said[..3], rest_by_definition(&model), "{model:?}");
+        seen[if said[0] == 1 { 2 } else { said[1] as usize }] += 1;
     }
-    assert!(seen[0] > 50 && seen[1] > 50, "{seen:?}");
+    assert!(seen.iter().all(|&times| times > 20), "{seen:?}");
 }
 
 /// Makes random visits, settles and probes until the box is at rest.
@@ -439,10 +457,12 @@ fn an_equality_row_and_its_two_rows_end_in_the_same_quiet_box() {
         let mut turned = two.clone();
         turned.coefs = turned.coefs.chunks(model.n).rev().flatten().copied().collect();
         turned.rhs.reverse();
-        assert_eq!(model.clone().at_rest(), two.clone().at_rest());
+        let says_yes = |model: &Model| model.clone().at_rest().unwrap()[0] == 1;
+        assert_eq!(says_yes(&model), says_yes(&two));
         let ends = [&model, &two, &turned].map(|start| {
             let mut end = start.clone();
             let case = end.propagate(MAX_BUDGET).unwrap()[0];
+            // The rows leave the box, or it is empty: a no is by a variable, and the same one.
             assert_eq!(end.at_rest(), at_rest_in(&turned, &end.bounds));
             (case, end.bounds)
         });

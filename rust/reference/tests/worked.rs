@@ -90,11 +90,22 @@ fn a_propagation_fixpoint_need_not_be_at_rest() {
     let mut model = Model::binary(2, &[(&[1, -1], 0), (&[1, 1], 1)]);
     assert_eq!(model.propagate_row(0), ok(&[SAME]));
     assert_eq!(model.propagate_row(1), ok(&[SAME]));
-    assert_eq!(model.at_rest(), ok(&[0]));
+    assert_eq!(model.at_rest(), ok(&[0, 1, 0]));
     // Side 0 moves nothing. Side 1: row 0 puts y at 1, row 1 finds 2 > 1 in the same pass.
     assert_eq!(model.probe(0, 1_000), ok(&[1, 0, 1, 0, 0, 1, 0, 1]));
     assert_eq!(model.bounds, [0, 0, 0, 1]);
     assert_eq!(model.at_rest(), ok(&[1]));
+}
+
+#[test]
+fn a_no_carries_the_lowest_row_or_variable() {
+    // 02 (C-13): a row that is infeasible changes the box too.
+    let mut model = Model::binary(1, &[(&[0], 0), (&[0], -1)]);
+    assert_eq!(model.at_rest(), ok(&[0, 0, 1]));
+    // y ≤ z and y + z ≤ 1, x in no row; then 0 ≤ −1 behind them.
+    let rows: [(&[i32], i32); 3] = [(&[0, 1, -1], 0), (&[0, 1, 1], 1), (&[0, 0, 0], -1)];
+    assert_eq!(Model::binary(3, &rows[..2]).at_rest(), ok(&[0, 1, 1]));
+    assert_eq!(Model::binary(3, &rows).at_rest(), ok(&[0, 0, 2]));
 }
 
 #[test]
@@ -239,7 +250,7 @@ fn an_exact_tonnage_is_one_row() {
     // Receipts of 30, 25 and 20 tons for a notice of exactly 45.
     let mut model = Model::binary(3, &[(&[30, 25, 20], 45)]).with_equal(&[0]);
     assert_eq!(model.propagate(1_000), ok(&[SETTLED, 1, 0]));
-    assert_eq!(model.at_rest(), ok(&[0]));
+    assert_eq!(model.at_rest(), ok(&[0, 1, 0]));
     // With the first one at 1 the ≤ form puts the others at 0, and 30 < 45: None, and nothing counted.
     assert_eq!(model.in_two_rows().probe(0, 1_000), ok(&[1, 0, 2, 0, 2, 1, 0, 2]));
     assert_eq!(model.probe(0, 1_000), ok(&[1, 0, 2, 0, 2, 1, 0, 0]));

@@ -1,28 +1,23 @@
--- `rest::all_span`: the loop has passed the variables below k. Assumes nothing.
+-- `rest::first_unspanned_marked`: the sides of the variables below k span the box where they are free. Assumes nothing.
 use Prim.Native.Nat.{_-_, _≤_, ℕ}
-use lib.IntN.{ℤ}
 use lib.ListN.{length}
-use mathlib.Core.Bool.{Bool, _||_, not, true}
-use mathlib.Core.List.{List}
+use mathlib.Core.Bool.{Bool, true}
 use mathlib.Core.Path.{_∙_, _≡_, refl, sym}
 use native.Mathlib.Omega.{arith}
 use Rattle.integer.specs.Index.{all}
-use Rattle.integer.proofs.IndexLaws.{all-false, all-next}
-use Rattle.integer.proofs.Tests.{told-false, told-true}
-use Rattle.model.specs.Box.{isFree}
-use Rattle.model.specs.Rows.{Rows, rowsOf}
+use Rattle.integer.proofs.IndexLaws.{all-next}
+use Rattle.integer.proofs.Tests.{false→T, told-false, told-true, true→T}
+use Rattle.model.specs.Rows.{rowsOf}
 use Rattle.row_marks.specs.Index.{Index}
-use Rattle.semantics.specs.RestTest.{sidesSpan}
-use Rattle.rest.proofs.all_span.Statement.{statement}
-use Rattle.rest.proofs.all_span.Tie as tie
-
-abbrev spans : ℕ → ℕ → Rows → List ℤ → ℕ → Bool
-spans n m A B k = not (isFree B k) || sidesSpan n m A B k
+use Rattle.semantics.specs.RestTest.{firstUnspanned, spansAt}
+use Rattle.semantics.proofs.LowestLaws.{lowest-all, lowest-is}
+use Rattle.rest.proofs.first_unspanned_marked.Statement.{statement}
+use Rattle.rest.proofs.first_unspanned_marked.Tie as tie
 
 abbrev Inv-loop : tie.InvT-loop
 Inv-loop n m bounds coefs rhs kinds across₀ signs₀ marks k₀ across signs k =
     (k ≤ n)
-    × (all k (spans n m (rowsOf coefs rhs kinds) bounds) ≡ true)
+    × (all k (spansAt n m (rowsOf coefs rhs kinds) bounds) ≡ true)
     × Index n m coefs across signs
     × (length across ≡ length across₀)
     × (length signs ≡ length signs₀)
@@ -32,7 +27,7 @@ abbrev μ-loop : tie.MeasureT-loop
 
 -- the test of each variable
 abbrev test : tie.Start Inv-loop μ-loop → ℕ → Bool
-test s = let a = s .args in spans (a .n) (a .m) (rowsOf (a .coefs .now) (a .rhs .now) (a .kinds .now)) (a .bounds .now)
+test s = let a = s .args in spansAt (a .n) (a .m) (rowsOf (a .coefs .now) (a .rhs .now) (a .kinds .now)) (a .bounds .now)
 
 loop-holds : tie.Need-loop-holds Inv-loop μ-loop
 unfolding all
@@ -50,10 +45,13 @@ same-length-2 : tie.Need-same-length-2 Inv-loop μ-loop
 same-length-2 c = c .before .before .before .before .before .spans-at .kept .1 .1 .1 .1 .1 .1 .1 .1 .0 ∙ c .before .before .before .before .before .before .before .before .before .loop .inv .4
 
 returns : tie.Need-returns Inv-loop μ-loop
+unfolding firstUnspanned
 returns c =
     let s = c .before .before .before .before .before .before .before .before .before .before .before .before .before .before in
     let k = c .before .before .before .before .before .before .before .before .before .loop .k in
-    sym (all-false (s .args .n) (test s) k (c .before .before .before .before .before .before .before .before .loop-test .taken) (told-false {b = test s k} _ (c .before .before .before .before .before .spans-at .ensures .0) (c .if1 .taken)))
+    let h = c .before .before .before .before .before .before .before .before .before .loop in
+    sym (lowest-is (test s) (s .args .n) k (c .before .before .before .before .before .before .before .before .loop-test .taken) (true→T _ (h .inv .1))
+    (false→T _ (told-false {b = test s k} _ (c .before .before .before .before .before .spans-at .ensures .0) (c .if1 .taken))))
 
 add-k : tie.Need-add-k Inv-loop μ-loop
 add-k c = omega arith
@@ -80,14 +78,15 @@ same-length-4 : tie.Need-same-length-4 Inv-loop μ-loop
 same-length-4 c = c .before .loop .inv .4
 
 returns-2 : tie.Need-returns-2 Inv-loop μ-loop
+unfolding firstUnspanned
 returns-2 c =
     let s = c .before .before .before .before .before .before in
     let h = c .before in
     let e : h .loop .k ≡ s .args .n = omega arith in
-    sym (rw e at (h .loop .inv .1))
+    sym (lowest-all (test s) (s .args .n) (true→T _ (rw e at (h .loop .inv .1))))
 
-pub all-span-spec : {M : Type 1} → statement M
-all-span-spec =
+pub first-unspanned-marked-spec : {M : Type 1} → statement M
+first-unspanned-marked-spec =
     tie.close
     (tie.spec
     Inv-loop
