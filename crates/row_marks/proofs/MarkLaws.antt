@@ -5,7 +5,8 @@ use lib.Dec.{T, eqb, eqb→eq, not-T}
 use lib.ListN.{drop, getD, getD-replicate, length, length-replicate, replicate}
 use lib.Seq.{getD-drop, getD-take, set-getD}
 use lib.Signed.{_<ℤ_, _≤ℤ_}
-use mathlib.Core.Bool.{Bool, _&&_, false, true}
+use mathlib.Core.Bool.{Bool, _&&_, _||_, false, not, true}
+use mir.Val.{boolByte}
 use mathlib.Core.List.{List}
 use mathlib.Core.Logic.{_≢_, _⊎_, inl, inr}
 use mathlib.Core.Path.{_∙_, _≡_, refl, sym}
@@ -156,14 +157,21 @@ reads-both {kind} {a} e f = go (lt-or-ge (pos 0) a) (lt-or-ge a (pos 0))
 eqb-no : {a b : ℕ} → (a ≡ b → ⊥) → eqb a b ≡ false
 eqb-no {a} {b} f = T→false (eqb a b) (not-T (eqb a b) (λ t. f (eqb→eq a b t)))
 
-and-no : (a : Bool) → (a && false) ≡ false
-and-no true = refl
-and-no false = refl
+-- a bool as a byte
+pub byte-small : (a : Bool) → boolByte a ≤ 1
+byte-small true = omega arith
+byte-small false = omega arith
 
-pub reads-not : (kind s bound : ℕ) → (s ≡ bound → ⊥) → (kind ≡ 1 → ⊥) ⊎ (s ≡ 3) → reads kind s bound ≡ false
+none-read : (a b d : Bool) → boolByte a * 2 + boolByte b + boolByte d < 2 → (a || (b && d)) ≡ false
+none-read true b d h = absurd (let z : ⊥ = omega arith in z)
+none-read false true true h = absurd (let z : ⊥ = omega arith in z)
+none-read false true false h = refl
+none-read false false d h = refl
+
+-- the sum that `kept` compares is below 2 where the row does not read the bound
+pub reads-not : (kind s bound : ℕ) → boolByte (eqb s bound) * 2 + boolByte (eqb kind 1) + boolByte (not (eqb s 3)) < 2 → reads kind s bound ≡ false
 unfolding reads
-reads-not kind s bound f (inl g) = rw (eqb-no f, eqb-no g)
-reads-not kind s bound f (inr e) = rw (eqb-no f, e) (and-no (eqb kind 1))
+reads-not kind s bound h = none-read (eqb s bound) (eqb kind 1) (not (eqb s 3)) h
 
 pub kind-one : (r : Row) → T (isEquality r) → r .kind ≡ 1
 unfolding isEquality

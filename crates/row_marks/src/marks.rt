@@ -27,20 +27,16 @@ pub fn copy_marks(from: &[u8], to: &mut [u8])
 }
 
 // The mark of a row of the given kind whose coefficient has the sign s, once a bound moved that ≤ rows of the given
-// sign read: an = row reads both bounds. In this order of tests the loop over it is compiled to vector instructions.
+// sign read: an = row reads both bounds. It is one sum of tests, without a branch, so that the loop over it is compiled
+// to vector instructions.
 fn kept(kind: u8, s: u8, sign: u8, mark: u8) -> u8
     ensures { λ r. ⌜ (r ≡ 1 → (mark ≡ 1) × (reads kind s sign ≡ false)) ⌝ }
 {
-    if mark != 1 {
+    let read = (s == sign) as u8 * 2 + (kind == 1) as u8 + (s != 3) as u8;
+    if read < 2 {
         return mark;
     }
-    if s == sign {
-        return 2;
-    }
-    if s == 3 {
-        return mark;
-    }
-    if kind == 1 { 2 } else { mark }
+    if mark == 1 { 2 } else { mark }
 }
 
 // Rows that read the bound of the given sign in the column at `start` are clean no more.
