@@ -4,25 +4,27 @@ use Prim.Native.Nat.{_*_, _+_, _/_, _<_, _≤_, suc, zero, ℕ}
 use lib.Dec.{T, eqb, eqb→eq, leb, leb→le, nleb→lt}
 use lib.IntN.{natAbs, negsuc, pos, ℤ}
 use lib.ListN.{getD, length}
-use lib.Signed.{_≤ℤ_}
-use mathlib.Core.Bool.{_||_, not}
+use lib.Signed.{_≤ℤ_, pos-natAbs, yes-nonNeg}
+use mathlib.Core.Bool.{_||_}
 use mathlib.Core.List.{List, [], _∷_}
 use mathlib.Core.Logic.{_⊎_, inl, inr, ⊎-elim}
-use mathlib.Core.Path.{_≡_, refl, subst}
+use mathlib.Core.Path.{_≡_, subst}
 use native.Mathlib.Numerals.{add-one}
 use native.Mathlib.Omega.{arith}
 use Rattle.integer.proofs.Parts.{zarith}
 use Rattle.integer.proofs.Tests.{T→true, cond-ind, false→T, or-r}
 use Rattle.model.specs.Box.{Inside, NonEmpty, emptyBox, isEmpty, isFree, width}
+use Rattle.model.specs.Limits.{maxVariables}
 use Rattle.model.specs.Rows.{Rows}
 use Rattle.model.specs.State.{State, withBox, withRow}
 use Rattle.model.specs.Valid.{ValidBox}
 use Rattle.model.proofs.BoxLaws.{isEmpty-empty, isEmpty→eq, nonEmpty-isn't, not-in-empty}
+use Rattle.model.proofs.CheckLaws.{valid-width}
 use Rattle.row.proofs.Width.{width-mono, width-nonneg}
 use Rattle.semantics.specs.Call.{Call, Kind, hasBudget, hasVariable, isUnknown, kindOf, probing, propagation, removal, rowPropagation, tightening, unknown}
 use Rattle.semantics.specs.CallChecks.{callFault}
 use Rattle.semantics.specs.CallList.{callsMade, listFault, recordAt, recordsFrom, recordsOf}
-use Rattle.semantics.specs.Convergence.{EnoughPasses, LargestBudget}
+use Rattle.semantics.specs.Convergence.{EnoughPasses}
 use Rattle.semantics.specs.Passes.{ListPassesWithin, NeverSpent, RunPassesWithin, callLimit, callsLimit, enoughBudget, lesser, limitTo, passLimit, passesMade, passesOf, totalWidth}
 use Rattle.semantics.specs.Perform.{Performed, act, perform}
 use Rattle.semantics.specs.Probe.{fix, probe, sideOf}
@@ -31,15 +33,11 @@ use Rattle.semantics.specs.Run.{step}
 use Rattle.semantics.specs.TwoRuns.{narrows}
 use Rattle.semantics.proofs.Accepted.{Accepted, accepted}
 use Rattle.semantics.proofs.CallLaws.{Narrower, act-narrowed, step-ind}
-use Rattle.semantics.proofs.Convergence.{propagate-ends, width-limit}
+use Rattle.semantics.proofs.Convergence.{propagate-ends}
 use Rattle.semantics.proofs.ProbeLaws.{fix-inside, fix-nonEmpty, probe-empty, probe-side0, probe-side1}
 use Rattle.semantics.proofs.PropagateLaws.{propagate-empty, propagate-moved-le, propagate-moved-passes, propagate-passes}
 
 -- ---- the total width
-
-abs-itself : (z : ℤ) → pos 0 ≤ℤ z → pos (natAbs z) ≡ z
-abs-itself (pos n) h = refl
-abs-itself (negsuc n) h = absurd (h .le)
 
 abs-above : (z : ℤ) → z ≤ℤ pos (natAbs z)
 abs-above (pos n) = omega zarith
@@ -53,7 +51,7 @@ module _ {n : ℕ} {B : List ℤ} (h : 0 < n) (p : NonEmpty n B) where
   -- of a box that is not empty it is the width itself
   pub total-width-is : pos (totalWidth n B) ≡ width n B
   unfolding totalWidth
-  total-width-is = rw (nonEmpty-isn't h p) (abs-itself (width n B) (width-nonneg p))
+  total-width-is = rw (nonEmpty-isn't h p) (pos-natAbs (width n B) (yes-nonNeg (width-nonneg p)))
 
   pub total-width-inside : {Q : List ℤ} → Inside n B Q → totalWidth n B ≤ totalWidth n Q
   unfolding totalWidth
@@ -61,12 +59,19 @@ module _ {n : ℕ} {B : List ℤ} (h : 0 < n) (p : NonEmpty n B) where
       let e : totalWidth n B ≡ natAbs (width n B) = rw (nonEmpty-isn't h p) in
       rw e (cond-ind (isEmpty n Q) 0 (natAbs (width n Q)) (λ w. natAbs (width n B) ≤ w)
       (λ t. absurd (not-in-empty n B h p (subst (Inside n B) (isEmpty→eq n Q t) i)))
-      (λ _. let s = abs-itself (width n B) (width-nonneg p) in let m = width-mono i in let a = abs-above (width n Q) in omega zarith))
+      (λ _. let s = pos-natAbs (width n B) (yes-nonNeg (width-nonneg p)) in let m = width-mono i in let a = abs-above (width n Q) in omega zarith))
 
 -- it does not grow
 pub total-width-narrower : {n : ℕ} {P B : List ℤ} → 0 < n → Narrower n P B → totalWidth n P ≤ totalWidth n B
 total-width-narrower {n} {P} {B} h (inl e) = rw (e, total-width-empty n) (omega arith)
 total-width-narrower {n} {P} {B} h (inr (p, i)) = total-width-inside h p i
+
+-- in a box that passes the checks it is at most 128 × 4,096
+pub total-width-limit : {n : ℕ} {B : List ℤ} → 0 < n → n ≤ maxVariables → ValidBox n B → totalWidth n B ≤ 524_288
+total-width-limit {n} {B} h few v = ⊎-elim
+    (λ (e : B ≡ emptyBox n). rw (e, total-width-empty n) (omega arith))
+    (λ p. let e = total-width-is h p in let w = valid-width v in omega zarith)
+    (v .shape)
 
 -- ---- the lesser of two
 
@@ -74,11 +79,11 @@ pub lesser-le : (a b k : ℕ) → k ≤ a → k ≤ b → k ≤ lesser a b
 unfolding lesser
 lesser-le a b k h g = cond-ind (leb a b) a b (λ r. k ≤ r) (λ _. h) (λ _. g)
 
-lesser-l : (a b : ℕ) → lesser a b ≤ a
+pub lesser-l : (a b : ℕ) → lesser a b ≤ a
 unfolding lesser
 lesser-l a b = cond-ind (leb a b) a b (λ r. r ≤ a) (λ _. omega arith) (λ t. omega (arith, nleb→lt a b t))
 
-lesser-r : (a b : ℕ) → lesser a b ≤ b
+pub lesser-r : (a b : ℕ) → lesser a b ≤ b
 unfolding lesser
 lesser-r a b = cond-ind (leb a b) a b (λ r. r ≤ b) (λ t. leb→le a b t) (λ _. omega arith)
 
@@ -212,15 +217,13 @@ list-passes-within s xs =
 -- ---- the budget that is never spent
 
 pub enough-budget : NeverSpent
-unfolding NeverSpent enoughBudget EnoughPasses LargestBudget isSpent
-enough-budget M v = ⊎-elim
-    (λ (e : M .box ≡ emptyBox (M .n)).
-    let z = total-width-empty (M .n) in
-    rw (e, propagate-empty (totalWidth (M .n) (emptyBox (M .n)) + 1) (M .n) (M .m) (M .rows)) (tt, omega arith, omega arith))
-    (λ p. let e = total-width-is (v .some) p in
-    let w = width-limit M v .1 in (
-      propagate-ends (totalWidth (M .n) (M .box) + 1) (M .n) (M .m) (M .rows) (M .box) (v .some) p (omega zarith) .notSpent,
-      omega arith,
-      omega zarith,
-    ))
-    (v .box .shape)
+unfolding NeverSpent enoughBudget EnoughPasses isSpent
+enough-budget M v = (
+  ⊎-elim
+      (λ (e : M .box ≡ emptyBox (M .n)). rw (e, propagate-empty (totalWidth (M .n) (emptyBox (M .n)) + 1) (M .n) (M .m) (M .rows)) tt)
+      (λ p. let e = total-width-is (v .some) p in
+      propagate-ends (totalWidth (M .n) (M .box) + 1) (M .n) (M .m) (M .rows) (M .box) (v .some) p (omega zarith) .notSpent)
+      (v .box .shape),
+  omega arith,
+  omega (arith, total-width-limit (v .some) (v .few) (v .box)),
+)

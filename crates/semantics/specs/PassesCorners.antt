@@ -1,11 +1,11 @@
 -- Corner cases of the passes told beforehand (02, C-17), computed (proved as `passes-corners-hold`): passes made, and their limit.
 use lib.IntN.{negsuc, pos}
 use mathlib.Core.List.{List, [], _∷_}
-use Rattle.semantics.specs.Books.{Line, fresh, is}
+use Rattle.semantics.specs.Books.{Line, is}
 use Rattle.semantics.specs.CallList.{callsMade}
 use Rattle.semantics.specs.Corners.{either, emptied, falling}
 use Rattle.semantics.specs.Passes.{enoughBudget, passLimit, passesMade, totalWidth}
-use Rattle.semantics.specs.WorkedBooks.{binary2, empty2, single}
+use Rattle.semantics.specs.WorkedBooks.{empty2, single}
 
 unfoldable pub passesCorners : List Line
 passesCorners =
