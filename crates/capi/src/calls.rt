@@ -1,22 +1,22 @@
 // The calls on a model in memory. Every call is refused by the model's checks first, 3, 5, 6, 7, 23, 8, 9 and 16, and
 // then by those that its own comment names. Only removing a row, a list and the rounds write kinds.
-use crate::answers::probe_reply;
-use crate::answers::propagate_reply;
-use crate::answers::remove_reply;
-use crate::answers::rest_reply;
-use crate::answers::rounds_reply;
-use crate::answers::row_reply;
-use crate::answers::run_reply;
-use crate::answers::tighten_reply;
-use crate::reply::ANSWER;
-use crate::reply::answer_fault;
-use crate::reply::put;
+use crate::ANSWER;
 use reducer::calls::is_probing_fixpoint;
 use reducer::calls::probe;
 use reducer::calls::propagate;
 use reducer::calls::propagate_row;
 use reducer::calls::remove_redundant_row;
 use reducer::calls::tighten_coefficient;
+use replies::answers::probe_reply;
+use replies::answers::propagate_reply;
+use replies::answers::remove_reply;
+use replies::answers::rest_reply;
+use replies::answers::rounds_reply;
+use replies::answers::row_reply;
+use replies::answers::run_reply;
+use replies::answers::tighten_reply;
+use replies::reply::answer_fault;
+use replies::reply::put;
 ghost use mathlib.Core.List.{[]};
 ghost use mathlib.Core.Path.{_≡_};
 ghost use Rattle.model.specs.Rows.{rowsOf};
@@ -213,7 +213,7 @@ pub extern "C" fn astrolabe_run(
         return answer_fault(n, m);
     }
     put(
-        run_reply(reducer::list::run(n, m, bounds, coefs, rhs, kinds, table, calls)),
+        run_reply(flat_list::run(n, m, bounds, coefs, rhs, kinds, table, calls)),
         answer,
     )
 }

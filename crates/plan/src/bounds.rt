@@ -1,6 +1,6 @@
 // The total width of a box, and a budget that no propagation from it spends.
 use model::box_fault;
-use model::boxes::is_empty;
+use boxes::is_empty;
 use model::is_product;
 use model::size_fault;
 ghost use mathlib.Core.Path.{_≡_};

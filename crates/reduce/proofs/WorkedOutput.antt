@@ -8,13 +8,14 @@ use Rattle.integer.specs.Order.{eqZ, maxZ, minZ}
 use Rattle.model.specs.Box.{boxOf, emptyBox, isEmpty, isFree, sameList}
 use Rattle.model.specs.Checks.{bits, boxChecks, first, inRange, lengthChecks, modelChecks, modelFault, narrow, numberChecks, ordered, sizeChecks, tableByteChecks, tableLengthChecks}
 use Rattle.model.specs.Rows.{isEquality, negated, negatedCoefs, rowOf, setRow, splice}
-use Rattle.row.specs.Kinds.{andThen as bothForms, propagateRowOf, removeRowOf, tightenRowOf}
+use Rattle.row_change.specs.KindChanges.{removeRowOf, tightenRowOf}
+use Rattle.row.specs.Kinds.{andThen as bothForms, propagateRowOf}
 use Rattle.row.specs.Activity.{maxActivity, maxTerm, minActivity, minTerm}
 use Rattle.row.specs.Moved.{differs, movedBounds}
 use Rattle.row.specs.Outcome.{isChanged, isInfeasible}
 use Rattle.row.specs.Propagation.{impliedBox, newLower, newUpper, propagateRow, stays}
-use Rattle.row.specs.Redundancy.{removeRedundantRow, zeroRow}
-use Rattle.row.specs.Tightening.{tightenAt, tightenCoefficient}
+use Rattle.row_change.specs.Redundancy.{removeRedundantRow, zeroRow}
+use Rattle.row_change.specs.Tightening.{tightenAt, tightenCoefficient}
 use Rattle.semantics.specs.CallChecks.{callChecks, callFault, givenModel, isLent, lentTable, recordChecks}
 use Rattle.semantics.specs.Perform.{act, perform}
 use Rattle.semantics.specs.Probe.{byteOf, fix, hull, implies, isFixed, joinSides, literal, probe, put, recordSide, recordTo, sideOf}
@@ -24,12 +25,14 @@ use Rattle.semantics.specs.Call.{callOf, hasBudget, hasRow, hasTable, hasVariab
 use Rattle.model.specs.State.{stateOf, withBox, withRow}
 use Rattle.book.specs.Book.{bookLength, boundsOf, coefsOf, decode, kindsOf, modelIn, rhsOf, rowPlace, trailerOf}
 use Rattle.book.specs.BookChecks.{bookChecks, bookFault, givenLengthChecks, headChecks, layoutChecks, offsetChecks}
-use Rattle.book.specs.Bytes.{integerAt, integersAt, numberAt, numberOf, signedOf}
-use Rattle.book.specs.Pieces.{joined}
-use Rattle.rounds.specs.Rounds.{after, andThen, anyChange, isChange, probeCall, probes, propagateCall, removals, removeCall, round, roundsFault, roundsFrom, runRounds, tightenCall, tightenRow, tightenings, unlessEmpty, upwards}
-use Rattle.report.specs.Report.{byteLine, field, fields, implicationAt, implicationLine, isZeroRow, noneLine, reducedLine, refusedLine, report, rowAt, rowLine, variableAt, variableLine}
-use Rattle.report.specs.Decimal.{decimal, digits, signed}
-use Rattle.report.specs.Text.{texts}
+use Rattle.bytes.specs.Bytes.{integerAt, integersAt, numberAt, numberOf, signedOf}
+use Rattle.bytes.specs.Pieces.{joined}
+use Rattle.round.specs.Round.{andThen, anyChange, isChange, probeCall, probes, propagateCall, removals, removeCall, round, tightenCall, tightenRow, tightenings, unlessEmpty, upwards}
+use Rattle.rounds.specs.Rounds.{after, roundsFault, roundsFrom, runRounds}
+use Rattle.text.specs.Fields.{field, fields}
+use Rattle.report.specs.Report.{byteLine, implicationAt, implicationLine, isZeroRow, noneLine, reducedLine, refusedLine, report, rowAt, rowLine, variableAt, variableLine}
+use Rattle.text.specs.Decimal.{decimal, digits, signed}
+use Rattle.text.specs.Text.{texts}
 use Rattle.reduce.specs.Output.{output, roundsText, stateRead, textOf, zeros}
 
 -- "The book with bounds 0, 1, 0, 1 and the row 4, 3, 2 (trailer 0, 16, 2, 1, 44)"

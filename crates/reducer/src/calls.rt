@@ -6,20 +6,20 @@
 // 6, 7, 23, 8 and 9 (`model_fault`), and then by those that its own comment names.
 use crate::checks::call_fault;
 use crate::checks::probe_fault;
+use call::Call;
+use call::PROPAGATE;
+use call::PROPAGATE_ROW;
+use call::REMOVE_ROW;
+use call::TIGHTEN_COEFFICIENT;
 use probing::sides::Probing;
 use probing::sides::Side;
 use propagation::Propagation;
 use row::propagation::RowPropagation;
-use row::redundancy::RowRemoval;
-use row::tightening::CoefficientTightening;
+use row_change::redundancy::RowRemoval;
+use row_change::tightening::CoefficientTightening;
 use row_view::changes::remove_redundant_row_at;
 use row_view::changes::tighten_coefficient_at;
 use row_view::propagate_row_at;
-use step::call::Call;
-use step::call::PROPAGATE;
-use step::call::PROPAGATE_ROW;
-use step::call::REMOVE_ROW;
-use step::call::TIGHTEN_COEFFICIENT;
 ghost use mathlib.Core.List.{[]};
 ghost use mathlib.Core.Logic.{_↔_};
 ghost use mathlib.Core.Path.{_≡_};
@@ -324,7 +324,7 @@ pub fn is_probing_fixpoint(
     if fault != 0 {
         return RestAnswer::Refused(fault);
     }
-    if probing::rest::is_probing_fixpoint(n, m, bounds, coefs, rhs, kinds) {
+    if rest::is_probing_fixpoint(n, m, bounds, coefs, rhs, kinds) {
         return RestAnswer::Yes;
     }
     RestAnswer::No

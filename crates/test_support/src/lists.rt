@@ -6,9 +6,9 @@ use crate::print::line;
 use crate::print::text;
 use crate::words::fill_naturals;
 use crate::words::number;
+use call::Call;
 use call_list::run_four;
 use reducer::calls::RestAnswer;
-use step::call::Call;
 
 // Runs a list of numbers, four a record.
 pub fn execute(
@@ -27,7 +27,7 @@ pub fn execute(
     fill_naturals(words, len.next, all, &mut calls);
     let list = naturals_part(&calls, all);
     text(b":");
-    ran(reducer::list::run(n, m, bounds, coefs, rhs, kinds, table, list));
+    ran(flat_list::run(n, m, bounds, coefs, rhs, kinds, table, list));
     line();
 }
 

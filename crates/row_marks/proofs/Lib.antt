@@ -1,0 +1,2 @@
+pub mod IndexLoops
+pub mod MarkLaws
