@@ -1,6 +1,6 @@
 // The total width of a box, and a budget that no propagation from it spends.
-use model::box_fault;
 use boxes::is_empty;
+use model::box_fault;
 use model::is_product;
 use model::size_fault;
 ghost use mathlib.Core.Path.{_≡_};

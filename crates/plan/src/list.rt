@@ -1,6 +1,8 @@
 // An upper limit on the passes that a call list makes, whatever the rows are.
 use crate::bounds::bounds_fault;
 use crate::bounds::total_width;
+use call::PROBE;
+use call::PROPAGATE;
 ghost use mathlib.Core.Path.{_≡_};
 ghost use Prim.Native.Nat.{ℕ, _≤_};
 ghost use lib.ListN.{length};
@@ -12,11 +14,6 @@ ghost use Rattle.plan.specs.PlanChecks.{listFits};
 
 // 1,000,000 records.
 const MAX_NUMBERS: usize = 4_000_000;
-
-// The kinds of call that make passes: 01's settle and probe.
-const PROPAGATE: u32 = 2;
-
-const PROBE: u32 = 3;
 
 pub enum PassesAnswer {
     // By the number of the first check that fails.
