@@ -3,11 +3,10 @@
 // `trailer` reads n and m from the trailer alone, `reading::read` a whole book into lent buffers, `writing::write` a
 // model into a lent book. They are all that is open, and they require nothing: a book or a model that fails a check is
 // refused by the check's number, and then nothing is written. Reading a written book returns the same model, and
-// writing a book that was read returns the same bytes. `book_length` is for crates above that know n and m.
+// writing a book that was read returns the same bytes.
 mod layout;
 pub mod reading;
 pub mod writing;
 
 pub use layout::SizesAnswer;
-pub use layout::book_length;
 pub use layout::trailer;

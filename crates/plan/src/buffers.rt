@@ -1,11 +1,13 @@
 // The lengths of the buffers that n and m fix.
 use book::SizesAnswer;
-use book::book_length;
 use book::trailer;
 ghost use mathlib.Core.Path.{_≡_};
 ghost use Prim.Native.Nat.{_≤_};
 ghost use Rattle.plan.specs.Answers.{lengthsAnswer, lengthsCall};
 ghost use Rattle.plan.specs.Lengths.{lengthsFor, lengthsOf};
+
+// The bytes of a book's trailer.
+const TRAILER: usize = 16;
 
 // n and m, and in elements the length of each buffer that they fix; `book` is that of a first-edition book.
 pub struct BufferLengths {
@@ -32,19 +34,19 @@ fn lengths_for(n: usize, m: usize) -> BufferLengths
     requires { ⌜ (n ≤ 128) × (m ≤ 120) ⌝ }
     ensures { λ r. ⌜ lengthsOf r ≡ lengthsFor n m ⌝ }
 {
-    let book = book_length(n, m);
+    let coefs = m * n;
     BufferLengths {
         n,
         m,
         bounds: 2 * n,
-        coefs: m * n,
+        coefs,
         rhs: m,
         kinds: m,
         table: 4 * (n * n),
         ties: n,
         clique_coefs: 2 * n * n,
         clique_rhs: 2 * n,
-        book,
+        book: 8 * n + 4 * m + 4 * coefs + TRAILER,
     }
 }
 
