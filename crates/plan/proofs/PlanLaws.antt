@@ -18,8 +18,10 @@ use Rattle.model.specs.Box.{at}
 use Rattle.model.specs.Checks.{boxChecks, first, lengthChecks, sizeChecks, table, tableLengthChecks}
 use Rattle.model.specs.Limits.{maxBound, maxRows, maxVariables, minBound}
 use Rattle.model.specs.Model.{Model}
+use Rattle.model.specs.Places.{place}
 use Rattle.model.specs.Valid.{ValidBox}
 use Rattle.model.proofs.CheckLaws.{first-none, inRange-all, length-test, narrow-all, shape-test, size-test}
+use Rattle.model.proofs.PlaceLaws.{placedFrom}
 use Rattle.book.specs.Answers as books
 use Rattle.book.specs.Book.{rows, variables}
 use Rattle.book.specs.BookChecks.{layoutChecks, offsetChecks, trailerChecks}
@@ -75,6 +77,11 @@ module _ (n : ℕ) (B : List ℤ) (fits : Bool) (e : first (boundsChecks n B fit
         },
         h .1 .1 .0,
       )
+
+-- they stand in the order of the places, as those of a model do
+pub bounds-placed : (n : ℕ) (B : List ℤ) (fits : Bool) → T (placedFrom 0 (boundsChecks n B fits))
+unfolding boundsChecks sizeChecks boxChecks place
+bounds-placed n B fits = tt
 
 -- a bound in range, as a size
 pub bound-small : {n : ℕ} {B : List ℤ} → ValidBox n B → (i : ℕ) → Within 32_768 (at B i)
