@@ -1,6 +1,6 @@
 -- `plan::buffers::lengths_for`: each length is written as it is defined, the book's with its products by n apart; within the limits
 -- of n and m none overflows. Assumes nothing.
-use Prim.Native.Nat.{_*_, _+_, _≤_}
+use Prim.Native.Nat.{_*_, _+_, _≤_, ℕ}
 use mathlib.Core.Path.{_≡_}
 use native.Mathlib.Nat.{mul-le-mul}
 use native.Mathlib.Omega.{arith}
@@ -53,9 +53,14 @@ add-t14 c = omega (arith, products c)
 add-t15 : tie.Need-add-t15
 add-t15 c = omega (arith, products c)
 
+-- the book's length, with its products by n apart
+book-bytes : (n m : ℕ) → 8 * n + 4 * m + 4 * (m * n) + 16 ≡ bookLength n m
+unfolding bookLength
+book-bytes n m = omega arith
+
 returns : tie.Need-returns
-unfolding lengthsOf lengthsFor bookLength
-returns c = let e : 8 * c .args .n + 4 * c .args .m + 4 * (c .args .m * c .args .n) + 16 ≡ 8 * c .args .n + c .args .m * (4 + 4 * c .args .n) + 16 = omega arith in rw e
+unfolding lengthsOf lengthsFor
+returns c = rw (book-bytes (c .args .n) (c .args .m))
 
 pub lengths-for-spec : {M : Type 1} → statement M
 lengths-for-spec =
