@@ -91,6 +91,8 @@ extern "C" {
 /* Kinds of a row, in `kinds`. */
 #define ASTROLABE_ROW_KIND_AT_MOST 0 /* sum <= right-hand side */
 #define ASTROLABE_ROW_KIND_EQUAL 1   /* sum = right-hand side */
+/* The most records of a list for astrolabe_plan_run; astrolabe_run takes any number. */
+#define ASTROLABE_MAX_PLANNED_RECORDS 1000000
 /* The count of every answer buffer. */
 #define ASTROLABE_ANSWER_LEN 12
 /* The bytes of a book's trailer. */
@@ -355,6 +357,61 @@ uint32_t astrolabe_rounds(size_t n, size_t m,
                           uint8_t *table, size_t table_len,
                           uint32_t limit,
                           uint64_t *answer, size_t answer_len);
+
+/* ---------------------------------------------------------------------------------------------
+ * Size and passes told beforehand. These three read no row and make no pass: a planner calls them before
+ * a book is loaded.
+ */
+
+/*
+ * Tells from the 16 trailer bytes of a book the length of each buffer that its n and m fix, in elements.
+ *
+ *     answer[0]   n
+ *     answer[1]   m
+ *     answer[2]   bounds        2n
+ *     answer[3]   coefs         m*n
+ *     answer[4]   rhs           m
+ *     answer[5]   kinds         m
+ *     answer[6]   table         4n^2
+ *     answer[7]   ties          n: a place of 16 bits for each variable
+ *     answer[8]   clique_coefs  2n*n: the coefficients of 2n clique rows
+ *     answer[9]   clique_rhs    2n: their right-hand sides
+ *     answer[10]  the book's bytes, ASTROLABE_BOOK_LEN(n, m)
+ *
+ * Refused by 1 5 (more than 16 bytes, or a wrong answer_len) 3 4, in this order.
+ */
+uint32_t astrolabe_plan_lengths(const uint8_t *bytes, size_t bytes_len,
+                                uint64_t *answer, size_t answer_len);
+
+/*
+ * Tells the total width of the bounds, and a budget that is never spent: astrolabe_propagate with it, on
+ * any model with these bounds, does not answer BUDGET_SPENT.
+ *
+ *     answer[0]   the total width: the sum of u - l, 0 for the empty box; at most 524,288
+ *     answer[1]   the budget: the width plus 1
+ *
+ * Refused by 3 (n alone) 5 6 7 23, in this order.
+ */
+uint32_t astrolabe_plan_width(size_t n,
+                              const int32_t *bounds, size_t bounds_len,
+                              uint64_t *answer, size_t answer_len);
+
+/*
+ * Tells an upper limit on the passes that astrolabe_run makes with this list, on any model with these
+ * bounds and with any table: each record of kind PROPAGATE, refused or not, counts the lesser of its budget
+ * and the width plus 1, each of kind PROBE twice that. The passes made never exceed it.
+ *
+ *     answer[0]   the total width
+ *     answer[1]   the budget that is never spent
+ *     answer[2]   the passes at most; it may need more than 32 bits
+ *
+ * Refused by 3 (n alone) 5 6 7 23, in this order; a calls_len that is not a multiple of four, or that is
+ * over 4 * ASTROLABE_MAX_PLANNED_RECORDS, is 5.
+ */
+uint32_t astrolabe_plan_run(size_t n,
+                            const int32_t *bounds, size_t bounds_len,
+                            const uint32_t *calls, size_t calls_len,
+                            uint64_t *answer, size_t answer_len);
 
 /* ---------------------------------------------------------------------------------------------
  * Books. A model as a file, little-endian: the bounds, l and u of each variable; then for each row its

@@ -159,6 +159,36 @@ unsafe extern "C" {
         answer_len: usize,
     ) -> u32;
 
+    /// Answer: total width, a budget that is never spent.
+    pub fn astrolabe_plan_width(
+        n: usize,
+        bounds: *const i32,
+        bounds_len: usize,
+        answer: *mut u64,
+        answer_len: usize,
+    ) -> u32;
+
+    /// Answer: total width, a budget that is never spent, the passes at most. `calls_len` counts numbers, four
+    /// a record.
+    pub fn astrolabe_plan_run(
+        n: usize,
+        bounds: *const i32,
+        bounds_len: usize,
+        calls: *const u32,
+        calls_len: usize,
+        answer: *mut u64,
+        answer_len: usize,
+    ) -> u32;
+
+    /// Answer: n, m; the elements of bounds, coefs, rhs, kinds, table, ties, clique_coefs and clique_rhs; the
+    /// bytes of the book.
+    pub fn astrolabe_plan_lengths(
+        bytes: *const u8,
+        bytes_len: usize,
+        answer: *mut u64,
+        answer_len: usize,
+    ) -> u32;
+
     /// Answer: n, m.
     pub fn astrolabe_book_trailer(
         bytes: *const u8,

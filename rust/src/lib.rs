@@ -39,6 +39,7 @@
 mod answer;
 pub mod ffi;
 mod model;
+pub mod plan;
 mod refusal;
 
 pub use answer::{Counts, Outcome, Probe, Propagation, Rest, Rounds, RowPropagation, Side};

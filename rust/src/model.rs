@@ -83,7 +83,9 @@ impl Call {
 }
 
 /// Makes a call with a full answer.
-fn answered<T: From<Places>>(call: impl FnOnce(*mut u64, usize) -> u32) -> Result<T, Refusal> {
+pub(crate) fn answered<T: From<Places>>(
+    call: impl FnOnce(*mut u64, usize) -> u32,
+) -> Result<T, Refusal> {
     let mut answer = Places::default();
     let returned = call(answer.as_mut_ptr(), answer.len());
     Refusal::from_returned(returned)?;

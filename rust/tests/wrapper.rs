@@ -3,7 +3,7 @@
 use astrolabe::ffi::ANSWER_LEN;
 use astrolabe::{
     Call, Model, Outcome, Probe, Propagation, Refusal, Rest, Rounds, Row, RowKind, RowPropagation,
-    Side,
+    Side, plan,
 };
 use compare::lent::{Backend, Lent, Operation, Reference};
 use compare::models::{self, Family};
@@ -73,6 +73,10 @@ fn rest(a: Rest) -> [u64; 3] {
     }
 }
 
+fn width(told: plan::Width) -> [u64; 2] {
+    [told.width.into(), told.budget.into()]
+}
+
 fn call(model: &mut Model, operation: Operation, list: &[Call]) -> Said {
     match operation {
         Operation::PropagateRow { row } => said(model.propagate_row(row), row_propagation),
@@ -87,7 +91,15 @@ fn call(model: &mut Model, operation: Operation, list: &[Call]) -> Said {
             [counts.refused, counts.infeasible, counts.changed, counts.unchanged]
         }),
         Operation::Rounds { limit } => said(model.rounds(limit), rounds),
-        Operation::BookTrailer | Operation::BookRead | Operation::BookWrite => {
+        Operation::PlanWidth => said(plan::width(model.bounds()), width),
+        Operation::PlanRun => said(plan::passes(model.bounds(), list), |told| {
+            let [width, budget] = width(told.width);
+            [width, budget, told.passes]
+        }),
+        Operation::PlanLengths
+        | Operation::BookTrailer
+        | Operation::BookRead
+        | Operation::BookWrite => {
             unreachable!("books have their own test")
         }
     }
@@ -132,7 +144,7 @@ fn methods_say_what_the_calls_say() {
                 Call { kind: 6, row, variable, budget },
             ];
             lent.calls = list.iter().flat_map(|c| [c.kind, c.row, c.variable, c.budget]).collect();
-            let [on_model @ .., _, _, _] = Operation::each(row, variable, budget, budget);
+            let [on_model @ .., _, _, _, _] = Operation::each(row, variable, budget, budget);
             let operation = rng.pick(&on_model);
             assert_eq!(
                 call(&mut model, operation, &list),
@@ -165,6 +177,45 @@ fn bounds_moved_are_told() {
         Model::new(vec![0, 3, 0, 3], vec![1, -1, -999_999, 1_000_000], vec![0, 0]).unwrap();
     assert_eq!(model.propagate(2), Ok(Propagation::BudgetSpent { passes: 2, moved: 3 }));
     assert_eq!(model.propagate(9), Ok(Propagation::Converged { passes: 3, moved: 3 }));
+}
+
+#[test]
+fn lengths_are_those_of_the_buffers() {
+    let mut rng = Rng::new(SEED);
+    for _ in 0..500 {
+        let family = rng.pick(&[Family::Tiny, Family::Mixed, Family::Limits, Family::Empty]);
+        let lent = models::model(&mut rng, family).with_table();
+        let book = reference::book::write(lent.n, lent.m, &lent.bounds, &lent.coefs, &lent.rhs);
+        let lengths = plan::Lengths {
+            n: lent.n,
+            m: lent.m,
+            bounds: lent.bounds.len(),
+            coefs: lent.coefs.len(),
+            rhs: lent.rhs.len(),
+            kinds: lent.kinds.len(),
+            table: lent.table.len(),
+            ties: lent.n,
+            clique_coefs: 2 * lent.n * lent.n,
+            clique_rhs: 2 * lent.n,
+            book: book.len(),
+        };
+        assert_eq!(plan::lengths(&book[book.len() - 16..]), Ok(lengths));
+    }
+}
+
+#[test]
+fn plans_are_refused() {
+    let most = vec![Call::probe(0, u32::MAX); plan::MAX_RECORDS];
+    let widest = [0, 4_096].repeat(128);
+    assert_eq!(plan::passes(&widest, &most).unwrap().passes, 2 * 524_289 * 1_000_000);
+    let more = [most, vec![Call::propagate_row(0)]].concat();
+    assert_eq!(plan::passes(&widest, &more), Err(Refusal::BufferLength));
+    assert_eq!(plan::width(&[]), Err(Refusal::SizeOutOfRange));
+    assert_eq!(plan::width(&[0, 1, 0]), Err(Refusal::BufferLength));
+    assert_eq!(plan::width(&[0, 4_097]), Err(Refusal::VariableTooWide));
+    assert_eq!(plan::lengths(&[0; 15]), Err(Refusal::BookTooShort));
+    assert_eq!(plan::lengths(&[0; 17]), Err(Refusal::BufferLength));
+    assert_eq!(plan::lengths(&[0; 16]), Err(Refusal::SizeOutOfRange));
 }
 
 #[test]

@@ -11,6 +11,7 @@ use Rattle.book.specs.Answers.{readCall, trailerCall}
 use Rattle.book.specs.BookChecks.{headChecks}
 use Rattle.model.specs.Checks.{Check, must, sizeChecks}
 use Rattle.model.specs.Rows.{Rows}
+use Rattle.plan.specs.Answers.{lengthsCall, passesCall, widthCall}
 use Rattle.reducer.specs.OpenCalls.{rest}
 use Rattle.rounds.specs.Rounds.{runRounds}
 use Rattle.semantics.specs.CallList.{runList}
@@ -18,7 +19,7 @@ use Rattle.semantics.specs.Perform.{perform}
 use Rattle.semantics.specs.Run.{run}
 use Rattle.model.specs.State.{State}
 use Rattle.semantics.specs.Call.{callOf}
-use Rattle.replies.specs.Replies.{Reply, answerLength, bookReply, callReply, listReply, restReply, returned, roundsReply, written, wrongLength}
+use Rattle.replies.specs.Replies.{Reply, answerLength, bookReply, callReply, listReply, planReply, restReply, returned, roundsReply, written, wrongLength}
 
 -- ---- calls on a model
 
@@ -51,9 +52,9 @@ listExport A s calls = let p = runList s calls in answered A s (listReply (p .an
 unfoldable pub roundsExport : List ℕ → State → ℕ → Exported
 roundsExport A s limit = let p = runRounds limit s in answered A s (roundsReply (p .answer)) (run s (p .calls))
 
--- ---- books
+-- ---- books and plans
 
--- what a call on a book returns, and the answer that it leaves
+-- what a call on a book, or one that tells size and passes beforehand, returns, and the answer that it leaves
 pub record BookExported : Type 0 where
   pub returned : ℕ
   pub answer : List ℕ
@@ -69,6 +70,17 @@ bookAnswered A before q =
 -- "in `astrolabe_book_trailer` it comes after 1 and before 3"
 unfoldable pub trailerExport : List ℕ → List ℕ → BookExported
 trailerExport A bytes = bookAnswered A (must (leb 16 (length bytes)) 1 ∷ []) (bookReply (trailerCall bytes))
+
+-- "as in `astrolabe_book_trailer`"
+unfoldable pub lengthsExport : List ℕ → List ℕ → BookExported
+lengthsExport A bytes = bookAnswered A (must (leb 16 (length bytes)) 1 ∷ []) (planReply (lengthsCall bytes))
+
+-- "3, of n alone, comes first"
+unfoldable pub widthExport : List ℕ → ℕ → List ℤ → BookExported
+widthExport A n B = bookAnswered A (sizeChecks n 0) (planReply (widthCall n B))
+
+unfoldable pub passesExport : List ℕ → ℕ → List ℤ → List ℕ → BookExported
+passesExport A n B calls = bookAnswered A (sizeChecks n 0) (planReply (passesCall n B calls))
 
 -- "in `astrolabe_book_read` after 1 to 4"
 unfoldable pub readExport : List ℕ → List ℕ → List ℤ → Rows → BookExported

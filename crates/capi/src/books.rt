@@ -7,7 +7,11 @@ use book::writing::WriteAnswer;
 use book::writing::write;
 use replies::answers::sizes_reply;
 use replies::reply::put;
+ghost use mathlib.Core.List.{_∷_, []};
 ghost use mathlib.Core.Path.{_≡_};
+ghost use lib.Dec.{leb};
+ghost use lib.ListN.{length};
+ghost use Rattle.model.specs.Checks.{must};
 ghost use Rattle.book.specs.Answers.{bookWritten, boundsRead, coefsRead, kindsRead, rhsRead, writeAnswer, writeCall};
 ghost use Rattle.model.specs.Model.{modelOf};
 ghost use Rattle.model.specs.Rows.{rowsOf};
@@ -18,16 +22,23 @@ ghost use Rattle.capi.specs.Exports.{bookExported, lentTo, readExport, t
 // The length of a book's trailer.
 const TRAILER: usize = 16;
 
+// The number by which a call on a trailer refuses an answer buffer of a wrong length: 1, else 5.
+pub fn trailer_fault(bytes: &[u8]) -> u32
+    ensures { λ r. ⌜ r ≡ wrongLength (must (leb 16 (length (now (bytes .entry)))) 1 ∷ []) ⌝ }
+{
+    if bytes.len() < TRAILER {
+        return 1;
+    }
+    5
+}
+
 // n and m of the 16 trailer bytes alone: {n, m}. Refused by 1, 5, 3, 4, in this order.
 #[no_mangle]
 pub extern "C" fn astrolabe_book_trailer(bytes: &[u8], answer: &mut [u64]) -> u32
     ensures { λ r. ⌜ bookExported r (now (answer .exit)) ≡ trailerExport (now (answer .entry)) (now (bytes .entry)) ⌝ }
 {
     if answer.len() != ANSWER {
-        if bytes.len() < TRAILER {
-            return 1;
-        }
-        return 5;
+        return trailer_fault(bytes);
     }
     put(sizes_reply(trailer(bytes)), answer)
 }

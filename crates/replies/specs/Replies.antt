@@ -5,6 +5,8 @@ use mathlib.Core.Bool.{Bool, cond, false}
 use mathlib.Core.List.{List, [], _++_, _∷_}
 use Rattle.book.specs.Answers as books
 use Rattle.model.specs.Checks.{Check, first, must}
+use Rattle.plan.specs.Answers as plans
+use Rattle.plan.specs.Lengths.{Lengths}
 use Rattle.probing.specs.Results.{reportOf}
 use Rattle.reducer.specs.OpenCalls.{RestVerdict, refusedRest, tested}
 use Rattle.rounds.specs.Rounds as rounds
@@ -113,6 +115,18 @@ unfoldable pub bookReply : books.Answer → Reply
 bookReply (books.refused number) = refusedBy number
 bookReply (books.sizesAre n m) = says (n ∷ m ∷ [])
 bookReply books.written = says []
+
+-- "{n, m, bounds, coefs, rhs, kinds, table, ties, clique_coefs, clique_rhs, book}"
+unfoldable pub lengthsReply : Lengths → Reply
+lengthsReply l =
+    says (l .n ∷ l .m ∷ l .bounds ∷ l .coefs ∷ l .rhs ∷ l .kinds ∷ l .table ∷ l .ties ∷ l .cliqueCoefs ∷ l .cliqueRhs ∷ l .book ∷ [])
+
+-- those; "{width, budget}"; "{width, budget, passes}"
+unfoldable pub planReply : plans.Answer → Reply
+planReply (plans.refused number) = refusedBy number
+planReply (plans.lengthsAre l) = lengthsReply l
+planReply (plans.widthIs width budget) = says (width ∷ budget ∷ [])
+planReply (plans.passesAre width budget passes) = says (width ∷ budget ∷ passes ∷ [])
 
 -- ---- behind the enum that the code hands on: the first four numbers, or a probe's
 

@@ -1,4 +1,5 @@
 // What the calls of the C interface say: the number that a call returns and the twelve places of its answer (`reply`),
-// and the reply to each answer of the open calls (`answers`).
+// and the reply to each answer of the open calls (`answers`, `plans`).
 pub mod answers;
+pub mod plans;
 pub mod reply;

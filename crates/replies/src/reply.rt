@@ -26,7 +26,7 @@ pub fn answer_fault(n: usize, m: usize) -> u32
 }
 
 // Sets every place to 0.
-fn clear(answer: &mut [u64])
+pub fn clear(answer: &mut [u64])
     ensures { λ r. ⌜ now (answer .exit) ≡ replicate (length (now (answer .entry))) 0 ⌝ }
 {
     let mut i: usize = 0;

@@ -1,5 +1,6 @@
 pub mod WorkedBooks
 pub mod Corners
+pub mod PassesCorners
 pub mod Accepted
 pub mod Demand1
 pub mod RowChange
@@ -17,3 +18,4 @@ pub mod Demand2
 pub mod Demand3
 pub mod ClassLaws
 pub mod CallLists
+pub mod Passes

@@ -15,6 +15,8 @@ pub mod Convergence
 pub mod TwoRuns
 pub mod CallList
 pub mod TwoLists
+pub mod Passes
 pub mod Books
 pub mod WorkedBooks
 pub mod Corners
+pub mod PassesCorners

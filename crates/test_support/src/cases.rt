@@ -10,9 +10,12 @@
 //   CALL KIND ROW VARIABLE BUDGET  one on the model itself: the record and the answer
 //   execute LENGTH X ..            runs the list of as many numbers and writes the four counts
 //   FOUR X ..                      the same of four records, 16 numbers in all
+//   PLAN LENGTH X ..               the total width, a budget that is never spent, and of the list of as many
+//                                  numbers the passes at most
 //   fixpoint                       writes whether the box is at rest, or what shows that it is not
 //   READ                           reads the book into the buffers of the model
 //   TRAILER                        reads the sizes from the bytes, a trailer alone
+//   LENGTHS                        the lengths that the sizes fix, from the bytes, a trailer alone
 //   WRITE                          writes the model into the book
 //   BOTH                           the round trip
 //   SAME LENGTH X ..               whether the book is these bytes
@@ -24,6 +27,7 @@ use crate::copies;
 use crate::lists;
 use crate::parts::bytes_part_mut;
 use crate::parts::part_mut;
+use crate::plans;
 use crate::print;
 use crate::transcript;
 use crate::words;
@@ -91,6 +95,8 @@ fn look(
         b'm' => model_name(line),
         b'h' => transcript::head(name(line), n, bounds, coefs, rhs, kinds),
         b'w' => write(line, n, bounds, coefs, rhs, kinds, table),
+        b'P' => plans::of_list(line, n, bounds),
+        b'L' => plans::of_trailer(table),
         b'f' => lists::rest(is_probing_fixpoint(n, m, bounds, coefs, rhs, kinds)),
         b'a' => copies::all(n, m, bounds, coefs, rhs, kinds, table, record(line)),
         b'1'..=b'6' => copies::one(n, m, bounds, coefs, rhs, kinds, table, record(line)),

@@ -1,6 +1,6 @@
 // What the test programs share. The lines of a program's standard input change a model in lent buffers and make calls
 // on it (`cases` says what a line may be); what the calls give is printed and compared with a stored output. Proved is
-// only that all this is safe and ends. Reading: `words`, `parts`, `buffers`. Calls: `made`, `copies`, `lists`,
+// only that all this is safe and ends. Reading: `words`, `parts`, `buffers`. Calls: `made`, `copies`, `lists`, `plans`,
 // `book_cases`. Printing: `print`, `in_words`, `transcript`.
 mod book_cases;
 mod buffers;
@@ -10,6 +10,7 @@ mod in_words;
 mod lists;
 pub mod made;
 pub mod parts;
+mod plans;
 pub mod print;
 mod transcript;
 mod words;

@@ -76,7 +76,7 @@ fn operation(rng: &mut Rng, lent: &Lent) -> Operation {
     let largest = lent.n * lent.m > 5_000;
     let (row, variable) = (row(rng, lent), variable(rng, lent));
     let budget = if crawls_long { budget(rng).min(1_000) } else { budget(rng) };
-    match rng.between(0, 15) {
+    match rng.between(0, 16) {
         0..3 => Operation::PropagateRow { row },
         3..5 => Operation::Propagate { budget },
         5..9 => Operation::Probe { variable, budget },
@@ -85,6 +85,7 @@ fn operation(rng: &mut Rng, lent: &Lent) -> Operation {
         12 if !crawls_long => Operation::IsProbingFixpoint,
         13 if largest => Operation::Rounds { limit: rng.pick(&[0, 1]) },
         13 => Operation::Rounds { limit: rng.pick(&[0, 1, 2, 3, 8, 100]) },
+        14 => rng.pick(&[Operation::PlanWidth, Operation::PlanRun]),
         _ => Operation::Run,
     }
 }
@@ -151,7 +152,7 @@ fn book(rng: &mut Rng) -> Case {
         }
         _ => {
             trailer_only(&mut lent);
-            single(lent, Operation::BookTrailer)
+            single(lent, rng.pick(&[Operation::BookTrailer, Operation::PlanLengths]))
         }
     }
 }
@@ -174,8 +175,10 @@ fn trailer_only(lent: &mut Lent) {
 fn around_the_widest(rng: &mut Rng) -> Case {
     let mut lent = models::around_the_widest(rng);
     let row = rng.index(lent.m) as u32;
-    let [on_a_model @ .., _, read, write] = Operation::each(row, 0, rng.pick(&[1, MAX_BUDGET]), 1);
-    let operation = rng.pick(&[&on_a_model[..], &[read, write]].concat());
+    let [on_bounds @ .., _, _, read, write] =
+        Operation::each(row, 0, rng.pick(&[1, MAX_BUDGET]), 1);
+    let operation = rng.pick(&[&on_bounds[..], &[read, write]].concat());
+    let reads_rows = !matches!(operation, Operation::PlanWidth | Operation::PlanRun);
     let too_wide = lent.bounds.chunks(2).any(|pair| pair[1] - pair[0] > MAX_WIDTH);
     let fault = rng.pick(&[0, 0, 0, 6, 7, 8]);
     if fault > 0 {
@@ -184,6 +187,7 @@ fn around_the_widest(rng: &mut Rng) -> Case {
     damage::write_book(&mut lent);
     let returns = match fault {
         0 | 8 if too_wide => 23,
+        8 if !reads_rows => 0,
         0 if operation == Operation::BookWrite && lent.kinds.contains(&EQUAL) => 17,
         _ => fault,
     };
@@ -206,7 +210,7 @@ fn damaged(rng: &mut Rng) -> Case {
     let mut operation = rng.pick(&Operation::each(row, variable, budget, 1));
     lent.calls = call_list(rng, &lent);
     match operation {
-        Operation::BookTrailer => trailer_only(&mut lent),
+        Operation::BookTrailer | Operation::PlanLengths => trailer_only(&mut lent),
         _ => damage::write_book(&mut lent),
     }
     let check = rng.pick(damage::checks(operation));

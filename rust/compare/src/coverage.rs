@@ -4,6 +4,7 @@ use std::collections::{BTreeMap, BTreeSet};
 use std::fmt;
 
 use reference::bounds;
+use reference::plan;
 use reference::row::{self, AT_MOST, EQUAL, Outcome, RowPropagation, Rows};
 
 use crate::damage;
@@ -18,7 +19,7 @@ pub struct Coverage {
     pub most_passes: u64,
     /// The most bounds that one propagation moved.
     pub most_moved: u64,
-    /// Which of [`MOVES`], [`EQUALITIES`] and [`UNREST`] were met.
+    /// Which of [`MOVES`], [`EQUALITIES`], [`UNREST`] and [`PLANS`] were met.
     pub met: BTreeSet<&'static str>,
 }
 
@@ -50,7 +51,24 @@ const UNREST: [&str; 4] = [
     "a no by a variable behind free ones that pass",
 ];
 
+/// The same of the limit on a list's passes (02, C-17).
+const PLANS: [&str; 4] = [
+    "a list that made as many passes as its limit, with a probe among them",
+    "a list that made fewer passes than its limit",
+    "a list that made passes on the empty box",
+    "a propagation with just the budget that is never spent",
+];
+
 impl Coverage {
+    /// Notes how many passes a list made that was lent `before`, and their limit.
+    pub fn planned(&mut self, before: &Lent, made: u64, limit: u64) {
+        let [reached, below, on_empty, _] = PLANS;
+        let probes = before.calls.chunks(4).any(|record| record[0] == 3);
+        self.met(reached, made == limit && probes && made > 1);
+        self.met(below, made < limit);
+        self.met(on_empty, made > 0 && bounds::is_empty(&before.bounds));
+    }
+
     /// Notes what a call returned and left, and what it was lent.
     pub fn note(&mut self, operation: Operation, before: &Lent, said: u32, after: &Lent) {
         let (n, answer) = (before.n, &after.answer);
@@ -59,9 +77,12 @@ impl Coverage {
             *self.refused.entry((operation.name(), said)).or_default() += 1;
             return;
         }
-        // A call without cases (a book's) counts as case 0.
+        // A call without cases (a list's, a plan's, a book's) counts as case 0.
         let case = match operation {
             Operation::Run
+            | Operation::PlanWidth
+            | Operation::PlanRun
+            | Operation::PlanLengths
             | Operation::BookTrailer
             | Operation::BookRead
             | Operation::BookWrite => 0,
@@ -81,6 +102,8 @@ impl Coverage {
                 self.propagated(passes, moved);
                 self.met(before_infeasible, case == 0 && moved > 0);
                 self.met(again, case != 0 && moved > 2 * n as u64);
+                let enough = Operation::Propagate { budget: plan::budget(&before.bounds) as u32 };
+                self.met(PLANS[3], operation == enough);
             }
             [case, value, passes0, _, moved0, passes1, _, moved1, ..]
                 if matches!(operation, Operation::Probe { .. }) =>
@@ -164,7 +187,7 @@ impl Coverage {
     }
 
     /// What a long enough run must have met and has not: each check of each call, each case of each
-    /// answer, and each of [`MOVES`], [`EQUALITIES`] and [`UNREST`].
+    /// answer, and each of [`MOVES`], [`EQUALITIES`], [`UNREST`] and [`PLANS`].
     pub fn missing(&self) -> Vec<String> {
         let (row, variable, budget, limit) = (0, 0, 0, 0);
         let all = [
@@ -176,11 +199,14 @@ impl Coverage {
             (Operation::IsProbingFixpoint, 2),
             (Operation::Run, 1),
             (Operation::Rounds { limit }, 3),
+            (Operation::PlanWidth, 1),
+            (Operation::PlanRun, 1),
+            (Operation::PlanLengths, 1),
             (Operation::BookTrailer, 1),
             (Operation::BookRead, 1),
             (Operation::BookWrite, 1),
         ];
-        let mut missing: Vec<String> = [&MOVES[..], &EQUALITIES, &UNREST]
+        let mut missing: Vec<String> = [&MOVES[..], &EQUALITIES, &UNREST, &PLANS]
             .concat()
             .into_iter()
             .filter(|what| !self.met.contains(what))

@@ -19,7 +19,8 @@ pub fn checks(operation: Operation) -> &'static [u32] {
         Operation::IsProbingFixpoint => &[3, 5, 6, 7, 23, 8, 9, 16],
         Operation::BookWrite => &[3, 5, 6, 7, 23, 8, 9, 16, 17],
         Operation::Run | Operation::Rounds { .. } => &[3, 5, 6, 7, 23, 8, 9, 16, 10],
-        Operation::BookTrailer => &[1, 5, 3, 4],
+        Operation::PlanWidth | Operation::PlanRun => &[3, 5, 6, 7, 23],
+        Operation::BookTrailer | Operation::PlanLengths => &[1, 5, 3, 4],
         Operation::BookRead => &[1, 2, 3, 4, 5, 6, 7, 23, 8, 9],
     }
 }
@@ -101,20 +102,22 @@ fn wrong_book_length(rng: &mut Rng, book: &mut Vec<u8>) {
 
 /// Check 3: n is 0 or above 128, or m is above 120. Sometimes the lengths are right for the wrong size.
 fn wrong_size(rng: &mut Rng, operation: Operation, lent: &mut Lent) {
-    let n_is_wrong = rng.chance(50);
+    let in_book =
+        matches!(operation, Operation::BookTrailer | Operation::PlanLengths | Operation::BookRead);
+    let only_n = matches!(operation, Operation::PlanWidth | Operation::PlanRun);
+    let n_is_wrong = only_n || rng.chance(50);
     match operation {
-        Operation::BookTrailer | Operation::BookRead if n_is_wrong => {
+        _ if in_book && n_is_wrong => {
             set_field(&mut lent.book, N, rng.pick(&[0, 129, 256, 65_535]));
         }
-        Operation::BookTrailer | Operation::BookRead => {
+        _ if in_book => {
             set_field(&mut lent.book, M, rng.pick(&[121, 256, 65_535]));
         }
         _ if n_is_wrong => lent.n = rng.pick(&[0, 129, 1 << 31, 1 << 63, usize::MAX]),
         _ => lent.m = rng.pick(&[121, 1 << 32, usize::MAX]),
     }
     let small = lent.n <= 129 && lent.m <= 121;
-    if small && !matches!(operation, Operation::BookTrailer | Operation::BookRead) && rng.chance(50)
-    {
+    if small && !in_book && rng.chance(50) {
         lent.bounds.resize(2 * lent.n, 0);
         lent.coefs.resize(lent.n * lent.m, 0);
         lent.rhs.resize(lent.m, 0);
@@ -132,7 +135,7 @@ fn wrong_layout(rng: &mut Rng, operation: Operation, lent: &mut Lent) {
         1 => set_field(book, ROWS_AT, rng.pick(&[8 * n - 1, 8 * n + 1, 0, u32::MAX])),
         2 => set_field(book, N, if n == 1 { 2 } else { n - 1 }),
         3 => set_field(book, M, if m == 0 { 1 } else { m - 1 }),
-        _ if operation == Operation::BookTrailer => {
+        _ if matches!(operation, Operation::BookTrailer | Operation::PlanLengths) => {
             let length = reference::book::length(lent.n, lent.m) as u32;
             set_field(book, LENGTH, rng.pick(&[length - 1, length + 1, 0, u32::MAX]));
         }
@@ -152,12 +155,15 @@ fn wrong_length(rng: &mut Rng, operation: Operation, lent: &mut Lent) {
     let others: &[&str] = match operation {
         Operation::Probe { .. } | Operation::Rounds { .. } => &["answer", "table"],
         Operation::Run => &["answer", "table", "calls"],
-        Operation::BookTrailer => &["answer", "trailer"],
+        Operation::PlanWidth => &["answer", "bounds"],
+        Operation::PlanRun => &["answer", "bounds", "calls"],
+        Operation::BookTrailer | Operation::PlanLengths => &["answer", "trailer"],
         Operation::BookWrite => &["book"],
         _ => &["answer"],
     };
     let buffers = match operation {
-        Operation::BookTrailer => others.to_vec(),
+        Operation::PlanWidth | Operation::PlanRun => others.to_vec(),
+        Operation::BookTrailer | Operation::PlanLengths => others.to_vec(),
         _ => [&model, others].concat(),
     };
     match rng.pick(&buffers) {
@@ -169,6 +175,9 @@ fn wrong_length(rng: &mut Rng, operation: Operation, lent: &mut Lent) {
         "answer" if rng.chance(20) => lent.answer.truncate(6), // its length before C-11
         "answer" => resize(rng, &mut lent.answer),
         "book" => resize(rng, &mut lent.book),
+        "calls" if operation == Operation::PlanRun && rng.chance(5) => {
+            lent.calls = vec![2; 4 * (reference::plan::MAX_RECORDS + 1)];
+        }
         "calls" => lent.calls.extend(vec![1; rng.pick(&[1, 2, 3])]),
         _ => lent.book.extend(vec![0; rng.pick(&[1, 16, 28])]),
     }

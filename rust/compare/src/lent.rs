@@ -1,4 +1,4 @@
-//! What a call can be lent, the eleven calls, and the trait of an implementation of them.
+//! What a call can be lent, the fourteen calls, and the trait of an implementation of them.
 
 use reference::calls;
 
@@ -63,7 +63,7 @@ impl Lent {
     }
 }
 
-/// One of the eleven calls, with its numbers.
+/// One of the fourteen calls, with its numbers.
 #[derive(Clone, Copy, Debug, PartialEq, Eq)]
 pub enum Operation {
     PropagateRow { row: u32 },
@@ -74,14 +74,18 @@ pub enum Operation {
     IsProbingFixpoint,
     Run,
     Rounds { limit: u32 },
+    PlanWidth,
+    PlanRun,
+    PlanLengths,
     BookTrailer,
     BookRead,
     BookWrite,
 }
 
 impl Operation {
-    /// Each of the eleven with these numbers, where it has them; the three on books come last.
-    pub fn each(row: u32, variable: u32, budget: u32, limit: u32) -> [Operation; 11] {
+    /// Each of the fourteen with these numbers, where it has them: first the eight on a model, then the three
+    /// that tell beforehand, and the three on books.
+    pub fn each(row: u32, variable: u32, budget: u32, limit: u32) -> [Operation; 14] {
         [
             Operation::PropagateRow { row },
             Operation::Propagate { budget },
@@ -91,6 +95,9 @@ impl Operation {
             Operation::IsProbingFixpoint,
             Operation::Run,
             Operation::Rounds { limit },
+            Operation::PlanWidth,
+            Operation::PlanRun,
+            Operation::PlanLengths,
             Operation::BookTrailer,
             Operation::BookRead,
             Operation::BookWrite,
@@ -108,6 +115,9 @@ impl Operation {
             Operation::IsProbingFixpoint => "is_probing_fixpoint",
             Operation::Run => "run",
             Operation::Rounds { .. } => "rounds",
+            Operation::PlanWidth => "plan_width",
+            Operation::PlanRun => "plan_run",
+            Operation::PlanLengths => "plan_lengths",
             Operation::BookTrailer => "book_trailer",
             Operation::BookRead => "book_read",
             Operation::BookWrite => "book_write",
@@ -115,7 +125,7 @@ impl Operation {
     }
 }
 
-/// An implementation of the eleven calls.
+/// An implementation of the fourteen calls.
 pub trait Backend {
     /// Makes the call; 0, or the number of the failed check.
     fn call(&mut self, operation: Operation, loan: Loan) -> u32;
@@ -150,6 +160,9 @@ impl Backend for Reference {
             Operation::Rounds { limit } => {
                 calls::rounds(n, m, bounds, coefs, rhs, kinds, table, limit, answer)
             }
+            Operation::PlanWidth => calls::plan_width(n, bounds, answer),
+            Operation::PlanRun => calls::plan_run(n, bounds, calls, answer),
+            Operation::PlanLengths => calls::plan_lengths(book, answer),
             Operation::BookTrailer => calls::book_trailer(book, answer),
             Operation::BookRead => calls::book_read(book, bounds, coefs, rhs, kinds, answer),
             Operation::BookWrite => calls::book_write(n, m, bounds, coefs, rhs, kinds, book),

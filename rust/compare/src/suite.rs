@@ -3,6 +3,8 @@
 use std::env;
 use std::fmt;
 
+use reference::plan;
+
 use crate::cases::{self, Case, Step};
 use crate::coverage::Coverage;
 use crate::lent::{Backend, Lent, Loan, Operation};
@@ -73,6 +75,11 @@ pub fn play(
         }
         if said == 0 {
             check_moved(operation, &before.bounds, &lent);
+            check_not_spent(operation, &before.bounds, &lent.answer);
+            if operation == Operation::Run {
+                let (made, limit) = check_passes(&before, &lent, expected, actual)?;
+                coverage.planned(&before, made, limit);
+            }
         }
         coverage.note(operation, &before, said, &lent);
     }
@@ -109,6 +116,53 @@ fn check_moved(operation: Operation, before: &[i32], after: &Lent) {
             ends(passes1, moved1);
         }
         _ => {}
+    }
+}
+
+/// A budget above the total width is never spent (02, C-17).
+fn check_not_spent(operation: Operation, before: &[i32], answer: &[u64]) {
+    if let Operation::Propagate { budget } = operation
+        && u64::from(budget) >= plan::budget(before)
+    {
+        assert_ne!(answer[0], 2, "{operation:?} was spent: {before:?}");
+    }
+}
+
+/// A list's passes, counted call by call, never exceed the limit that the bounds and the list give (02,
+/// C-17), and the calls one by one leave what the list left. The passes made and the limit.
+fn check_passes(
+    before: &Lent,
+    after: &Lent,
+    expected: &mut impl Backend,
+    actual: &mut impl Backend,
+) -> Result<(u64, u64), Box<Difference>> {
+    let mut told = before.clone();
+    let said = compare(Operation::PlanRun, &mut told, expected, actual)?;
+    assert_eq!(said, 0, "a list that is run has a limit: {before:?}");
+    let mut lent = before.clone();
+    let made = before.calls.chunks(4).map(|record| call_alone(record, &mut lent, expected)).sum();
+    let limit = told.answer[2];
+    assert!(made <= limit, "{made} passes, told at most {limit}: {before:?}");
+    lent.answer.clone_from(&after.answer);
+    assert!(lent == *after, "a list is its calls: {before:?}");
+    Ok((made, limit))
+}
+
+/// Makes the call of a record by itself; the passes that it made.
+fn call_alone(record: &[u32], lent: &mut Lent, backend: &mut impl Backend) -> u64 {
+    let &[kind, row, variable, budget] = record else { unreachable!("four numbers a record") };
+    let operation = match kind {
+        1 => Operation::PropagateRow { row },
+        2 => Operation::Propagate { budget },
+        3 => Operation::Probe { variable, budget },
+        4 => Operation::TightenCoefficient { row, variable },
+        5 => Operation::RemoveRedundantRow { row },
+        _ => return 0,
+    };
+    match (backend.call(operation, lent.lend()), kind) {
+        (0, 2) => lent.answer[1],
+        (0, 3) => lent.answer[2] + lent.answer[5],
+        _ => 0,
     }
 }
 

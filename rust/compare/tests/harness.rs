@@ -490,6 +490,63 @@ fn catches_refused_records_counted_otherwise() {
 }
 
 #[test]
+fn catches_a_limit_on_passes_counted_otherwise() {
+    let limit = |loan: &Loan, times: u64, more: u64| -> u64 {
+        let enough = reference::plan::width(loan.bounds) + more;
+        let counts = |record: &[u32]| match record[0] {
+            2 => enough.min(record[3].into()),
+            3 => times * enough.min(record[3].into()),
+            _ => 0,
+        };
+        loan.calls.chunks(4).map(counts).sum()
+    };
+    // Probes once; the lesser of the budget and the width.
+    for (times, more) in [(1, 1), (2, 0)] {
+        is_caught(|operation, _, said, loan| {
+            if operation == Operation::PlanRun && said == 0 {
+                loan.answer[2] = limit(loan, times, more);
+            }
+            said
+        });
+    }
+}
+
+#[test]
+#[should_panic(expected = "told at most")]
+fn a_limit_that_both_sides_tell_too_low_is_seen_too() {
+    let low = |operation: Operation, _: &Before, said: u32, loan: &mut Loan| {
+        if operation == Operation::PlanRun && said == 0 {
+            loan.answer[2] /= 2;
+        }
+        said
+    };
+    suite::run(PLAN, &mut Broken(low), &mut Broken(low)).expect("the two agree");
+}
+
+#[test]
+fn catches_a_width_of_the_empty_box() {
+    is_caught(|operation, before, said, loan| {
+        let empty = reference::bounds::is_empty(&before.bounds);
+        if operation == Operation::PlanWidth && said == 0 && empty {
+            loan.answer[0] = loan.n as u64;
+        }
+        said
+    });
+}
+
+#[test]
+fn catches_each_length_told_wrong() {
+    for place in 0..11 {
+        is_caught(|operation, _, said, loan| {
+            if operation == Operation::PlanLengths && said == 0 {
+                loan.answer[place] += 1;
+            }
+            said
+        });
+    }
+}
+
+#[test]
 fn catches_rounds_without_the_last() {
     is_caught(|operation, _, said, loan| {
         if matches!(operation, Operation::Rounds { .. }) && said == 0 && loan.answer[0] == 1 {

@@ -1,4 +1,4 @@
-//! The eleven calls as the C interface has them.
+//! The fourteen calls as the C interface has them.
 //!
 //! Each returns 0 or the number of the failed check, and writes its answer into twelve places, 0 into
 //! those that it does not use. On a refusal nothing is written. The length of `answer` is check 5, with
@@ -7,6 +7,7 @@
 
 use crate::checks::{self, Check};
 use crate::list;
+use crate::plan;
 use crate::probing::{self, Rest, Verdict};
 use crate::propagation::{self, Ending};
 use crate::rounds::{self, Rounds};
@@ -274,6 +275,41 @@ pub fn book_trailer(bytes: &[u8], answer: &mut [u64]) -> u32 {
     reply(answer, |places_lent| {
         let (n, m) = book::trailer(bytes, places_lent == ANSWER)?;
         Ok(places([n as u64, m as u64]))
+    })
+}
+
+/// Checks 3, 5, 6, 7 and 23 of n and the bounds, where neither m nor a row is lent; `others` as in
+/// [`check_model`].
+fn check_bounds(n: usize, bounds: &[i32], others: &[(usize, usize)]) -> Check {
+    checks::size(n, 0)?;
+    checks::lengths(&[(bounds.len(), 2 * n)])?;
+    checks::lengths(others)?;
+    checks::numbers(bounds, &[], &[])
+}
+
+/// The length of each buffer that the n and m of 16 trailer bytes fix (02, C-17).
+pub fn plan_lengths(bytes: &[u8], answer: &mut [u64]) -> u32 {
+    reply(answer, |places_lent| {
+        let (n, m) = book::trailer(bytes, places_lent == ANSWER)?;
+        Ok(places(plan::lengths(n, m).map(|length| length as u64)))
+    })
+}
+
+/// The total width of a box and a budget that is never spent (02, C-17).
+pub fn plan_width(n: usize, bounds: &[i32], answer: &mut [u64]) -> u32 {
+    reply(answer, |places_lent| {
+        check_bounds(n, bounds, &[(places_lent, ANSWER)])?;
+        Ok(places([plan::width(bounds), plan::budget(bounds)]))
+    })
+}
+
+/// The same, and an upper limit on the passes that a list makes (02, C-17); `calls` has four numbers a record.
+pub fn plan_run(n: usize, bounds: &[i32], calls: &[u32], answer: &mut [u64]) -> u32 {
+    reply(answer, |places_lent| {
+        let (records, rest) = calls.as_chunks();
+        let beyond = records.len().saturating_sub(plan::MAX_RECORDS);
+        check_bounds(n, bounds, &[(rest.len(), 0), (beyond, 0), (places_lent, ANSWER)])?;
+        Ok(places([plan::width(bounds), plan::budget(bounds), plan::passes(bounds, records)]))
     })
 }
 

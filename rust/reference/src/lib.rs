@@ -15,7 +15,8 @@
 //! | [`rounds`] | the rounds of the program `reduce` |
 //! | [`book`] | Book |
 //! | [`checks`] | Checks in their order; 02's new numbers in their places |
-//! | [`calls`] | the eleven calls as the C interface has them: a refusal number and twelve places of answer |
+//! | [`plan`] | size and passes told beforehand (02, C-17) |
+//! | [`calls`] | the fourteen calls as the C interface has them: a refusal number and twelve places of answer |
 //! | [`report`] | what `reduce` prints |
 
 pub mod book;
@@ -23,6 +24,7 @@ pub mod bounds;
 pub mod calls;
 pub mod checks;
 pub mod list;
+pub mod plan;
 pub mod probing;
 pub mod propagation;
 pub mod report;

@@ -65,6 +65,15 @@ impl Backend for Native {
                     n, m, bounds, bounds_len, coefs, coefs_len, rhs, rhs_len, kinds, kinds_len,
                     table, table_len, limit, answer, answer_len,
                 ),
+                Operation::PlanWidth => {
+                    ffi::astrolabe_plan_width(n, bounds, bounds_len, answer, answer_len)
+                }
+                Operation::PlanRun => ffi::astrolabe_plan_run(
+                    n, bounds, bounds_len, calls, calls_len, answer, answer_len,
+                ),
+                Operation::PlanLengths => {
+                    ffi::astrolabe_plan_lengths(book, book_len, answer, answer_len)
+                }
                 Operation::BookTrailer => {
                     ffi::astrolabe_book_trailer(book, book_len, answer, answer_len)
                 }

@@ -1,22 +1,18 @@
 -- `capi::books::astrolabe_book_trailer`: a wrong answer length after 1, or the answer of the open call, written. Assumes nothing.
 use borrow.Author.Needs.{needs}
-use borrow.Author.Tests.{le-leb, lt-leb}
-use mathlib.Core.Bool.{false}
-use mathlib.Core.Path.{_∙_, ap, refl}
-use Rattle.model.proofs.CheckLaws.{fails, past}
-use Rattle.replies.specs.Replies.{bookReply, wrongLength}
+use mathlib.Core.Path.{_∙_, ap}
+use Rattle.replies.specs.Replies.{bookReply}
 use Rattle.capi.specs.Exports.{trailerExport}
 use Rattle.capi.proofs.BookLaws.{book-refused, book-replied}
 use Rattle.capi.proofs.books.astrolabe_book_trailer.Statement.{statement}
 use Rattle.capi.proofs.books.astrolabe_book_trailer.Tie as tie
 
-returns : tie.Need-returns
-unfolding trailerExport wrongLength
-returns c = let s = c .before .before .before .before in book-refused (s .args .answer .now) _ _ (c .before .if1 .taken) (fails _ 1 _ (lt-leb _ _ (c .if2 .taken)))
+trailer-fault-requires : tie.Need-trailer-fault-requires
+trailer-fault-requires c κs = search needs
 
-returns-2 : tie.Need-returns-2
-unfolding trailerExport wrongLength
-returns-2 c = let s = c .before .before .before .before in book-refused (s .args .answer .now) _ _ (c .before .if1 .taken) (past _ 1 _ (le-leb _ _ (c .if2 .left)) (fails false 5 _ refl))
+returns : tie.Need-returns
+unfolding trailerExport
+returns c = let s = c .before .before .before .before in book-refused (s .args .answer .now) _ _ (c .before .if1 .taken) (c .trailer-fault .ensures)
 
 trailer-requires : tie.Need-trailer-requires
 trailer-requires c κs = search needs
@@ -30,9 +26,9 @@ put-requires c κs = search needs
 same-length : tie.Need-same-length
 same-length c = search needs
 
-returns-3 : tie.Need-returns-3
+returns-2 : tie.Need-returns-2
 unfolding trailerExport
-returns-3 c =
+returns-2 c =
     let s = c .before .before .before .before .before .before .before .before .before in
     book-replied (s .args .answer .now) _ (c .before .before .before .before .before .before .if1 .left) (c .before .before .put .ensures) (c .before .before .before .before .sizes-reply .ensures ∙ ap bookReply (c .before .before .before .before .before .trailer .ensures))
 
@@ -40,10 +36,10 @@ pub astrolabe-book-trailer-spec : {M : Type 1} → statement M
 astrolabe-book-trailer-spec =
     tie.close
     (tie.spec
+    trailer-fault-requires
     returns
-    returns-2
     trailer-requires
     sizes-reply-requires
     put-requires
     same-length
-    returns-3)
+    returns-2)

@@ -1,0 +1,4 @@
+pub mod Lengths
+pub mod PlanChecks
+pub mod Answers
+pub mod Meaning
