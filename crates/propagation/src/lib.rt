@@ -120,17 +120,7 @@ pub fn propagate_marked(
     if infeasible {
         return Propagation::Infeasible(passes, tally.moved);
     }
-    last_look(
-        n,
-        m,
-        bounds,
-        coefs,
-        rhs,
-        kinds,
-        marks,
-        passes,
-        tally.moved,
-    )
+    last_look(n, m, bounds, coefs, rhs, kinds, marks, passes, tally.moved)
 }
 
 // Propagates the rows, of which nothing is known yet.
