@@ -155,8 +155,8 @@ uint32_t astrolabe_propagate_row(size_t n, size_t m,
 
 /* Cases of astrolabe_propagate, answer[0]. */
 #define ASTROLABE_PROPAGATE_INFEASIBLE 0   /* 01's None: the box is empty now */
-#define ASTROLABE_PROPAGATE_CONVERGED 1    /* 01's Settled: the last pass moved nothing */
-#define ASTROLABE_PROPAGATE_BUDGET_SPENT 2 /* 01's Spent: the budget's passes are made and the last moved a bound */
+#define ASTROLABE_PROPAGATE_CONVERGED 1    /* 01's Settled: no row would change the box */
+#define ASTROLABE_PROPAGATE_BUDGET_SPENT 2 /* 01's Spent: the budget's passes are made, and a row would still change the box */
 
 /*
  * Propagates all rows, upwards, pass after pass, until a pass moves nothing, a row is infeasible, or

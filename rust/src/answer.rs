@@ -36,9 +36,9 @@ pub enum Propagation {
     /// The model has no integer point; the box is empty (01's None). What moved before the infeasible row
     /// is counted.
     Infeasible { passes: u32, moved: u32 },
-    /// The last pass moved nothing (01's Settled).
+    /// No row would change the box (01's Settled).
     Converged { passes: u32, moved: u32 },
-    /// The budget's passes are made and the last one moved a bound (01's Spent).
+    /// The budget's passes are made, and some row would still move a bound or be infeasible (01's Spent).
     BudgetSpent { passes: u32, moved: u32 },
 }
 
@@ -47,7 +47,7 @@ pub enum Propagation {
 pub struct Side {
     /// The passes that its propagation made.
     pub passes: u32,
-    /// Whether its budget was spent; its box was used as it was reached.
+    /// Whether its budget was spent, as in [`Propagation`]; its box was used as it was reached.
     pub spent: bool,
     /// The bounds that its propagation moved, as in [`Propagation`]; the probed variable's own are not
     /// among them.

@@ -372,7 +372,9 @@ impl Model {
         call!(self.astrolabe_propagate_row, as_mut_ptr, as_ptr, as_ptr, row)
     }
 
-    /// Propagates all rows, pass after pass, until nothing moves or the budget is spent (01's settle).
+    /// Propagates all rows, pass after pass, until nothing moves or the budget's passes are made (01's
+    /// settle). Converged exactly where no row would change the box; a budget is spent only where some row
+    /// would still move a bound or be infeasible, so that a larger one gets further.
     ///
     /// ```
     /// use astrolabe::{Model, Propagation};

@@ -321,7 +321,7 @@ fn a_bound_that_is_too_wide_is_retyped() {
     assert_eq!(model.propagate(1), Err(Refusal::VariableTooWide));
     assert_eq!(model.bounds(), [0, 4_097]);
     model.set_bounds(0, 0, 4_096);
-    assert_eq!(model.propagate(1), Ok(Propagation::BudgetSpent { passes: 1, moved: 1 }));
+    assert_eq!(model.propagate(1), Ok(Propagation::Converged { passes: 1, moved: 1 }));
 }
 
 #[test]

@@ -22,9 +22,9 @@ use Rattle.row.specs.declared.propagation.RowPropagation.{RowPropagation}
 use Rattle.row.specs.declared.propagation.RowPropagation.the-variants.{Infeasible, Tightened, Unchanged}
 use Rattle.row_marks.specs.Marks.{Clean}
 use Rattle.semantics.specs.Convergence.{LargestBudget}
-use Rattle.semantics.specs.Propagate.{Propagated, budgetSpent, converged, infeasible, passTo, propagateFrom}
+use Rattle.semantics.specs.Propagate.{Propagated, converged, infeasible, passTo, propagateFrom}
 use Rattle.semantics.proofs.Convergence.{width-limit}
-use Rattle.semantics.proofs.PropagateLaws.{moved-at-most, moved-then, pass-ended, pass-moved-width, pass-next, propagate-again, propagate-converged, propagate-none-now, propagate-spent}
+use Rattle.semantics.proofs.PropagateLaws.{moved-at-most, moved-then, pass-ended, pass-moved-width, pass-next, propagate-again, propagate-converged, propagate-none-now}
 
 -- ---- one row more of the pass over the box B
 
@@ -108,8 +108,8 @@ module _ (budget made before n m : ℕ) (A : Rows) (B : List ℤ) {W : Propagate
       let e : 0 < passTo n m A B .moved = omega (arith, i .moved) in
       sym (sym left-one ∙ propagate-again (budget - (made + 1)) made before n m A B (rw (i .ended) tt) e ∙ rw (i .moved, i .box, add-one made))
 
-pub budget-spent : (budget made sum n m : ℕ) (A : Rows) (B : List ℤ) {W : Propagated} → budget ≤ made
-    → propagateFrom (budget - made) made sum n m A B ≡ W → W ≡ record { ending = budgetSpent; passes = made; moved = sum; box = B }
-budget-spent budget made sum n m A B h w =
+pub passes-made : (budget made sum n m : ℕ) (A : Rows) (B : List ℤ) {W : Propagated} → budget ≤ made
+    → propagateFrom (budget - made) made sum n m A B ≡ W → W ≡ propagateFrom 0 made sum n m A B
+passes-made budget made sum n m A B h w =
     let k : budget - made ≡ 0 = omega arith in
-    sym w ∙ rw (k, propagate-spent made sum n m A B)
+    sym w ∙ rw k

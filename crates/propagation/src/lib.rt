@@ -1,9 +1,10 @@
 // Propagate all rows (01's settle) of a model that passed the checks: passes over the rows until nothing moves, the
-// budget is spent or a row is infeasible. Each row is read in place through its view. What is known of the rows from
+// budget's passes are made or a row is infeasible. Each row is read in place through its view. What is known of the rows from
 // earlier visits is kept beside the box while a call runs: their index and which of them are clean
 // (crate `row_marks`).
 pub mod search;
 
+use crate::search::last_look;
 use boxes::copy_box;
 use marked_row::propagate_row_marked;
 use model::MAX_BOX;
@@ -49,7 +50,8 @@ impl Tally {
 }
 
 // Propagates the rows by what is known of them: their index, and which of them are clean. A pass is left by its label
-// at the first row that is infeasible, and counts as made.
+// at the first row that is infeasible, and counts as made. Where the budget's passes are made, a last look decides
+// whether it is spent.
 pub fn propagate_marked(
     n: usize,
     m: usize,
@@ -118,7 +120,7 @@ pub fn propagate_marked(
     if infeasible {
         return Propagation::Infeasible(passes, tally.moved);
     }
-    Propagation::BudgetSpent(passes, tally.moved)
+    last_look(n, m, bounds, coefs, rhs, kinds, marks, passes, tally.moved)
 }
 
 // Propagates the rows, of which nothing is known yet.

@@ -18,7 +18,7 @@ use Rattle.row.specs.Kinds.{propagateRowOf}
 use Rattle.row.specs.Propagation.{PropagatedRow}
 use Rattle.semantics.specs.CallChecks.{callFault, lentTable, recordChecks}
 use Rattle.semantics.specs.Convergence.{ProbeMoves, RestAnswered, RestMeans}
-use Rattle.semantics.specs.Demand2.{CallMeans, Demand2}
+use Rattle.semantics.specs.Demand2.{CallMeans, Demand2, EndsAs}
 use Rattle.semantics.specs.Perform.{Answer, Performed, act, perform, probed, propagated, propagatedRow, refused}
 use Rattle.semantics.specs.Points.{AtRest}
 use Rattle.semantics.specs.Probe.{Probed, probe}
@@ -133,9 +133,12 @@ module _ (s r : State) (c : Call) (a : Answer) (e : performed a r ≡ perform s 
         accepted-by (λ b. T (answersNone b)) (λ _ z. z) t .noPoint (subst (λ b. T (answersNone b)) (sym answered) t);
   }
 
-  ends-performed : Ends (c .budget) s a
-  unfolding isRefused
+  ends-performed : Ends c s r a
+  unfolding isRefused performed
   ends-performed = record {
+    ending = λ b p k g. subst (λ (q : State). EndsAs (c .budget) (s .model .n) (s .model .m) (s .model .rows) (q .model .box) b p)
+        (sym (ap (λ (q : Performed). q .state) e)) (accepted-by (λ d. T (not (isRefused d))) (λ _ z. z) (rw g tt) .ends b p k (answered ∙ g));
+    sideEndings = λ b s0 s1 g. accepted-by (λ d. T (not (isRefused d))) (λ _ z. z) (rw g tt) .sidesEnd b s0 s1 (answered ∙ g);
     passes = λ b p k g. accepted-by (λ d. T (not (isRefused d))) (λ _ z. z) (rw g tt) .passes b p k (answered ∙ g);
     sides = λ b s0 s1 g. accepted-by (λ d. T (not (isRefused d))) (λ _ z. z) (rw g tt) .sidePasses b s0 s1 (answered ∙ g);
   }
@@ -144,7 +147,7 @@ module _ (s r : State) (c : Call) (a : Answer) (e : performed a r ≡ perform s 
   pub promised : (performed a r ≡ perform s c) × Means s r a
   promised = (e, means-performed)
 
-  pub promised-ends : (performed a r ≡ perform s c) × (Means s r a × Ends (c .budget) s a)
+  pub promised-ends : (performed a r ≡ perform s c) × (Means s r a × Ends c s r a)
   promised-ends = (e, (means-performed, ends-performed))
 
 -- ---- the rest call

@@ -8,8 +8,10 @@ use mathlib.Core.Logic.{_↔_, _≢_}
 use mathlib.Core.Path.{_≡_}
 use Rattle.model.specs.Box.{emptyBox}
 use Rattle.row.specs.Outcome.{changed, infeasible, unchanged}
+use Rattle.semantics.specs.Call.{Call}
 use Rattle.semantics.specs.CallChecks.{maxBudget}
 use Rattle.semantics.specs.Convergence.{MovedByRow, MovedByVariable}
+use Rattle.semantics.specs.Demand2.{EndsAs, SideEnds}
 use Rattle.semantics.specs.Perform.{Answer, Performed, probed, propagated, propagatedRow, refused, removed, tightened}
 use Rattle.semantics.specs.Points.{FractionalPointOf, PointOf}
 use Rattle.semantics.specs.Probe as semantic
@@ -108,8 +110,13 @@ pub record Means (s r : State) (a : Answer) : Type 0 where
   pub fractional : (x : List ℤ) (d : ℕ) → FractionalPointOf r x d → FractionalPointOf s x d
   pub noPoint : T (answersNone a) → (x : List ℤ) → PointOf s x → ⊥
 
--- "every accepted call ends within its pass budget"
-pub record Ends (budget : ℕ) (s : State) (a : Answer) : Type 0 where
-  pub passes : (e : ended.Ending) (p k : ℕ) → a ≡ propagated e p k → (1 ≤ p) × (p ≤ budget)
+-- of the call c: "every accepted call ends within its pass budget"; 02 (C-15): Settled exactly when the box is quiet, Spent exactly when
+-- the budget's passes are made and some visit would still move a bound or answer None; a probe's sides likewise
+pub record Ends (c : Call) (s r : State) (a : Answer) : Type 0 where
+  pub passes : (e : ended.Ending) (p k : ℕ) → a ≡ propagated e p k → (1 ≤ p) × (p ≤ c .budget)
+  pub ending : (e : ended.Ending) (p k : ℕ) → a ≡ propagated e p k
+      → let M = s .model in EndsAs (c .budget) (M .n) (M .m) (M .rows) (r .model .box) e p
+  pub sideEndings : (e : semantic.ProbeEnding) (s0 s1 : semantic.Side) → a ≡ probed e s0 s1 → s .model .box ≢ emptyBox (s .model .n)
+      → SideEnds s c 0 s0 × SideEnds s c 1 s1
   pub sides : (e : semantic.ProbeEnding) (s0 s1 : semantic.Side) → a ≡ probed e s0 s1 → s .model .box ≢ emptyBox (s .model .n)
-      → ((1 ≤ s0 .passes) × (s0 .passes ≤ budget)) × ((1 ≤ s1 .passes) × (s1 .passes ≤ budget))
+      → ((1 ≤ s0 .passes) × (s0 .passes ≤ c .budget)) × ((1 ≤ s1 .passes) × (s1 .passes ≤ c .budget))

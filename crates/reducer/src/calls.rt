@@ -146,7 +146,8 @@ pub fn propagate(
     ensures ending { λ r.
         let A = rowsOf (now (coefs .entry)) (now (rhs .entry)) (now (kinds .entry)) in
         let s = stateOf n m (now (bounds .entry)) A [] in
-        ⌜ Ends budget s (propagateAnswer r) ⌝ }
+        let r' = stateOf n m (now (bounds .exit)) A [] in
+        ⌜ Ends (callOf s 2 0 0 budget) s r' (propagateAnswer r) ⌝ }
 {
     let call = Call {
         kind: PROPAGATE,
@@ -191,7 +192,8 @@ pub fn probe(
     ensures ending { λ r.
         let A = rowsOf (now (coefs .entry)) (now (rhs .entry)) (now (kinds .entry)) in
         let s = stateOf n m (now (bounds .entry)) A (now (table .entry)) in
-        ⌜ Ends budget s (probeAnswer r) ⌝ }
+        let r' = stateOf n m (now (bounds .exit)) A (now (table .exit)) in
+        ⌜ Ends (callOf s 3 0 variable budget) s r' (probeAnswer r) ⌝ }
 {
     let fault = probe_fault(n, m, bounds, coefs, rhs, kinds, table, variable, budget);
     if fault != 0 {

@@ -23,13 +23,14 @@ use Rattle.row.proofs.PointBox.{boxAt, in→Inside, nonEmpty-at}
 use Rattle.row.proofs.PropagationLaws.{changed-feasible}
 use Rattle.semantics.specs.Call.{Call, Kind, hasBudget, hasRow, hasTable, hasVariable, isUnknown, kindOf, probing, propagation, removal, rowPropagation, tightening, unknown}
 use Rattle.semantics.specs.CallChecks.{callFault}
-use Rattle.semantics.specs.Demand2.{AnswersSame, Demand2, Demand2Runs, PassesWithin, RowMoved, SideMoved, SumMoved, Untouched, ones}
+use Rattle.semantics.specs.Demand2.{AnswersSame, Demand2, Demand2Runs, EndsAs, PassesWithin, RowMoved, SideEnds, SideMoved, SumMoved, Untouched, ones}
 use Rattle.semantics.specs.Perform.{Answer, Performed, act, perform, probed, propagated, propagatedRow, refused, removed, tightened}
 use Rattle.semantics.specs.Probe.{ProbeEnding, Probed, bothFeasible, fix, fixed, infeasible, probe, sideOf}
 use Rattle.semantics.specs.Propagate.{isNone, propagate}
 use Rattle.semantics.specs.Run.{answersNone, step}
 use Rattle.semantics.proofs.Accepted.{Accepted, accepted}
 use Rattle.semantics.proofs.CallLaws.{kinded-infeasible-iff, kinded-same, perform-accepted}
+use Rattle.semantics.proofs.Endings.{propagate-ends-as, spent-iff}
 use Rattle.semantics.proofs.ImplicationLaws.{recordTo-added}
 use Rattle.semantics.proofs.Preserved.{run-preserves, step-preserves}
 use Rattle.semantics.proofs.ProbeLaws.{fix-nonEmpty, probe-empty, probe-ind, probe-infeasible-iff, probe-passes0, probe-passes1, probe-side0, probe-side1}
@@ -96,13 +97,16 @@ Added before t (bothFeasible a) = ones t ≡ ones before + a
 abbrev Numbers : State → Call → List ℤ → List ℕ → Answer → Type 0
 Numbers s c P t (refused number) = Unit {0}
 Numbers s c P t (propagatedRow o k) = RowMoved (s .model .n) (rowAt (s .model .n) (s .model .rows) (c .row)) (s .model .box) P o k
-Numbers s c P t (propagated e p k) = PassesWithin (c .budget) p × SumMoved (s .model .n) (s .model .box) P (isNone e) p k
+Numbers s c P t (propagated e p k) =
+    PassesWithin (c .budget) p × SumMoved (s .model .n) (s .model .box) P (isNone e) p k
+    × EndsAs (c .budget) (s .model .n) (s .model .m) (s .model .rows) P e p
 Numbers s c P t (probed e s0 s1) =
     (s .model .box ≢ emptyBox (s .model .n) → PassesWithin (c .budget) (s0 .passes) × PassesWithin (c .budget) (s1 .passes))
     × (s .model .box ≡ emptyBox (s .model .n) → (s0 .passes ≡ 0) × (s1 .passes ≡ 0))
     × Added (s .table) t e
     × (s .model .box ≢ emptyBox (s .model .n) → SideMoved s c 0 s0 × SideMoved s c 1 s1)
     × (s .model .box ≡ emptyBox (s .model .n) → (s0 .moved ≡ 0) × (s1 .moved ≡ 0))
+    × (s .model .box ≢ emptyBox (s .model .n) → SideEnds s c 0 s0 × SideEnds s c 1 s1)
 Numbers s c P t (tightened o) = Unit {0}
 Numbers s c P t (removed o) = Unit {0}
 
@@ -114,6 +118,15 @@ module _ (s : State) (c : Call) (a : Accepted probing s c) where
       → SideMoved s c v (sideOf (propagate (c .budget) (s .model .n) (s .model .m) (s .model .rows) (fix (s .model .n) (s .model .box) (c .variable) v)))
   unfolding SideMoved sideOf
   side-moved p v = (refl, sum-moved (c .budget) (s .model .m) (s .model .rows) (inr (fix-nonEmpty (c .variable) v p)))
+
+  side-ends : NonEmpty (s .model .n) (s .model .box) → (v : ℕ)
+      → SideEnds s c v (sideOf (propagate (c .budget) (s .model .n) (s .model .m) (s .model .rows) (fix (s .model .n) (s .model .box) (c .variable) v)))
+  unfolding SideEnds sideOf
+  side-ends p v =
+      let r = propagate (c .budget) (s .model .n) (s .model .m) (s .model .rows) (fix (s .model .n) (s .model .box) (c .variable) v) in
+      let e = propagate-ends-as (s .model .m) (s .model .rows) (a .model .some) (c .budget) (inr (fix-nonEmpty (c .variable) v p)) in
+      let i = spent-iff (r .ending) in
+      ((λ t. e .spent .0 (i .1 t)), (λ q. i .0 (e .spent .1 q)))
 
   probe-numbers : Numbers s c (result .box) (result .table) (probed (result .ending) (result .side0) (result .side1))
   unfolding hasBudget hasVariable hasTable
@@ -131,6 +144,10 @@ module _ (s : State) (c : Call) (a : Accepted probing s c) where
       subst (SideMoved s c 1) (sym (probe-side1 (c .variable) (c .budget) (s .model .n) (s .model .m) (s .model .rows) (s .model .box) (s .table) t)) (side-moved p 1),
     )),
     (λ e. rw (e, probe-empty (c .variable) (c .budget) (s .model .n) (s .model .m) (s .model .rows) (s .table)) (refl, refl)),
+    (λ ne. let t = found ne in let p = valid-nonEmpty (a .model .box) t in (
+      subst (SideEnds s c 0) (sym (probe-side0 (c .variable) (c .budget) (s .model .n) (s .model .m) (s .model .rows) (s .model .box) (s .table) t)) (side-ends p 0),
+      subst (SideEnds s c 1) (sym (probe-side1 (c .variable) (c .budget) (s .model .n) (s .model .m) (s .model .rows) (s .model .box) (s .table) t)) (side-ends p 1),
+    )),
   )
     where
       found : s .model .box ≢ emptyBox (s .model .n) → T (not (isEmpty (s .model .n) (s .model .box)))
@@ -143,6 +160,7 @@ act-numbers rowPropagation s c a = row-moved (rowAt (s .model .n) (s .model .row
 act-numbers propagation s c a = (
   propagate-passes (s .model .n) (s .model .m) (s .model .rows) (c .budget) (s .model .box) (a .budget tt .0),
   sum-moved (c .budget) (s .model .m) (s .model .rows) (a .model .box .shape),
+  propagate-ends-as (s .model .m) (s .model .rows) (a .model .some) (c .budget) (a .model .box .shape),
 )
 act-numbers probing s c a = probe-numbers s c a
 act-numbers tightening s c a = tt
@@ -200,6 +218,8 @@ demand-2 s c e =
       moved = λ b q k g. with (propagated b q k) g .1;
       sidesMoved = λ b s0 s1 g. with (probed b s0 s1) g .3;
       emptySidesMoved = λ b s0 s1 g. with (probed b s0 s1) g .4;
+      ends = λ b q k g. with (propagated b q k) g .2;
+      sidesEnd = λ b s0 s1 g. with (probed b s0 s1) g .5;
       added = λ b s0 s1 g. with (probed (bothFeasible b) s0 s1) g .2;
       same = of-act s c e (λ r. AnswersSame (r .answer) → r .state ≡ s) (act-same k s c a);
       sizes = p .sizes;

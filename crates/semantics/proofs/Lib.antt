@@ -10,6 +10,7 @@ pub mod LowestLaws
 pub mod PropagateLaws
 pub mod ProbeLaws
 pub mod Convergence
+pub mod Endings
 pub mod CallLaws
 pub mod Preserved
 pub mod RestAnswer

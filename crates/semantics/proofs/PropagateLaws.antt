@@ -4,7 +4,7 @@ use Prim.Native.Nat.{_+_, _<_, _≤_, suc, zero, ℕ}
 use lib.Dec.{T, T-not, lt→ltb, ltb, ltb→lt, nltb→le}
 use lib.IntN.{_+ℤ_, pos, ℤ}
 use lib.Signed.{_≤ℤ_}
-use mathlib.Core.Bool.{_&&_, not}
+use mathlib.Core.Bool.{_&&_, false, not}
 use mathlib.Core.List.{List}
 use mathlib.Core.Logic.{_↔_, _⊎_, inl, inr, ⊎-elim}
 use mathlib.Core.Path.{_∙_, _≡_, ap, refl, sym}
@@ -23,7 +23,9 @@ use Rattle.row.proofs.KindLaws.{kinded-infeasible-box, kinded-infeasible-moved,
 use Rattle.row.proofs.KindMovedLaws.{kinded-moved-none, kinded-moved-width}
 use Rattle.row.proofs.Width.{width-nonneg}
 use Rattle.semantics.specs.Fixpoint.{Fixpoint}
-use Rattle.semantics.specs.Propagate.{Pass, Propagated, budgetSpent, converged, infeasible, isNone, isSpent, passRow, passTo, propagate, propagateFrom}
+use Rattle.semantics.specs.FixpointTest.{firstMoving, isFixpoint, rowLeaves}
+use Rattle.semantics.specs.Propagate.{Ending, Pass, Propagated, budgetSpent, converged, infeasible, isNone, isSpent, lastLook, passRow, passTo, propagate, propagateFrom}
+use Rattle.semantics.proofs.LowestLaws.{lowest-none}
 
 -- ---- a pass, row by row
 
@@ -137,10 +139,30 @@ module _ (left made sum n m : ℕ) (A : Rows) (B : List ℤ) where
       propagateFrom-ind (λ r. r ≡ record { ending = converged; passes = suc made; moved = sum; box = passTo n m A B .box })
       (λ u. absurd (T-not (passTo n m A B .ended) t u)) (λ _ u. absurd (let z : ⊥ = omega arith in z)) (λ _ _. refl)
 
-pub propagate-spent : (made sum n m : ℕ) (A : Rows) (B : List ℤ)
-    → propagateFrom 0 made sum n m A B ≡ record { ending = budgetSpent; passes = made; moved = sum; box = B }
+-- where none is left, a last look decides
+pub propagate-out : (made sum n m : ℕ) (A : Rows) (B : List ℤ)
+    → propagateFrom 0 made sum n m A B ≡ record { ending = lastLook n m A B; passes = made; moved = sum; box = B }
 unfolding propagateFrom
-propagate-spent made sum n m A B = refl
+propagate-out made sum n m A B = refl
+
+module _ (n m : ℕ) (A : Rows) (B : List ℤ) where
+  -- its two cases
+  pub look-ind : (P : Ending → Type 0) → (firstMoving n m A B < m → P budgetSpent) → (T (isFixpoint n m A B) → P converged) → P (lastLook n m A B)
+  unfolding lastLook firstMoving isFixpoint
+  look-ind P f g = cond-ind (ltb (firstMoving n m A B) m) _ _ P
+      (λ t. f (ltb→lt (firstMoving n m A B) m t)) (λ t. g (lowest-none (rowLeaves n A B) m .0 (nltb→le (firstMoving n m A B) m t)))
+
+  pub look-feasible : isNone (lastLook n m A B) ≡ false
+  unfolding isNone
+  look-feasible = look-ind (λ e. isNone e ≡ false) (λ _. refl) (λ _. refl)
+
+  -- the same, where it is known which
+  pub look-spent : firstMoving n m A B < m → lastLook n m A B ≡ budgetSpent
+  unfolding lastLook
+  look-spent h = rw (T→true (ltb (firstMoving n m A B) m) (lt→ltb (firstMoving n m A B) m h))
+
+  pub look-converged : m ≤ firstMoving n m A B → lastLook n m A B ≡ converged
+  look-converged h = look-ind (λ e. e ≡ converged) (λ k. absurd (let z : ⊥ = omega arith in z)) (λ _. refl)
 
 -- the two cases of the call
 pub propagate-ind : (budget n m : ℕ) (A : Rows) (B : List ℤ) (P : Propagated → Type 0)
@@ -219,7 +241,7 @@ module _ (n m : ℕ) (A : Rows) where
   propagateFrom-infeasible-box : (left made sum : ℕ) (B : List ℤ) → T (isNone (propagateFrom left made sum n m A B .ending))
       → propagateFrom left made sum n m A B .box ≡ emptyBox n
   unfolding propagateFrom isNone
-  propagateFrom-infeasible-box zero made sum B = λ z. absurd z
+  propagateFrom-infeasible-box zero made sum B = λ z. absurd (rw (look-feasible n m A B) at z)
   propagateFrom-infeasible-box (suc left) made sum B =
       propagateFrom-ind left made sum n m A B (λ r. T (isNone (r .ending)) → r .box ≡ emptyBox n)
       (λ t _. pass-infeasible-box n A m B t)
@@ -299,15 +321,15 @@ movedInPasses zero n m A B = 0
 movedInPasses (suc j) n m A B = passTo n m A B .moved + movedInPasses j n m A (passTo n m A B .box)
 
 -- r, which began at B with `made` passes made and `sum` bounds moved, ended as its last pass went: None where a row was infeasible, else
--- Spent where a bound moved, else Settled; and the bounds that all its passes moved are counted
+-- Spent where a bound moved and the look at the box says so, else Settled; and the bounds that all its passes moved are counted
 pub record LastPass (made sum n m : ℕ) (A : Rows) (B : List ℤ) (r : Propagated) : Type 0 where
   pub earlier : ℕ
   pub passes : r .passes ≡ suc (made + earlier)
   pub moved : r .moved ≡ sum + movedInPasses (suc earlier) n m A B
   pub box : r .box ≡ passTo n m A (afterPasses earlier n m A B) .box
   pub none : isNone (r .ending) ≡ passTo n m A (afterPasses earlier n m A B) .ended
-  pub spent : isSpent (r .ending)
-      ≡ (not (passTo n m A (afterPasses earlier n m A B) .ended) && ltb 0 (passTo n m A (afterPasses earlier n m A B) .moved))
+  pub spent : let p = passTo n m A (afterPasses earlier n m A B) in
+      isSpent (r .ending) ≡ (not (p .ended) && ltb 0 (p .moved) && isSpent (lastLook n m A (p .box)))
 
 module _ (n m : ℕ) (A : Rows) where
   module _ (made sum : ℕ) (B : List ℤ) where
@@ -317,11 +339,11 @@ module _ (n m : ℕ) (A : Rows) where
     last-infeasible t = let e = T→true (passTo n m A B .ended) t in
         record { earlier = 0; passes = omega arith; moved = omega arith; box = refl; none = sym e; spent = rw e }
 
-    last-spent : T (not (passTo n m A B .ended)) → 0 < passTo n m A B .moved
-        → LastPass made sum n m A B (record { ending = budgetSpent; passes = suc made; moved = sum + passTo n m A B .moved; box = passTo n m A B .box })
+    last-out : T (not (passTo n m A B .ended)) → 0 < passTo n m A B .moved
+        → LastPass made sum n m A B (record { ending = lastLook n m A (passTo n m A B .box); passes = suc made; moved = sum + passTo n m A B .moved; box = passTo n m A B .box })
     unfolding isNone isSpent afterPasses movedInPasses
-    last-spent t u = let e = T→false (passTo n m A B .ended) t in let f = T→true (ltb 0 (passTo n m A B .moved)) (lt→ltb 0 (passTo n m A B .moved) u) in
-        record { earlier = 0; passes = omega arith; moved = omega arith; box = refl; none = sym e; spent = rw (e, f) }
+    last-out t u = let e = T→false (passTo n m A B .ended) t in let f = T→true (ltb 0 (passTo n m A B .moved)) (lt→ltb 0 (passTo n m A B .moved) u) in
+        record { earlier = 0; passes = omega arith; moved = omega arith; box = refl; none = look-feasible n m A (passTo n m A B .box) ∙ sym e; spent = rw (e, f) }
 
     last-converged : T (not (passTo n m A B .ended)) → passTo n m A B .moved ≡ 0
         → LastPass made sum n m A B (record { ending = converged; passes = suc made; moved = sum; box = passTo n m A B .box })
@@ -337,7 +359,7 @@ module _ (n m : ℕ) (A : Rows) where
   propagateFrom-last : (left made sum : ℕ) (B : List ℤ) → LastPass made sum n m A B (propagateFrom (suc left) made sum n m A B)
   propagateFrom-last zero made sum B = propagateFrom-ind zero made sum n m A B (LastPass made sum n m A B)
       (last-infeasible made sum B)
-      (λ t u. rw (propagate-spent (suc made) (sum + passTo n m A B .moved) n m A (passTo n m A B .box)) (last-spent made sum B t u))
+      (λ t u. rw (propagate-out (suc made) (sum + passTo n m A B .moved) n m A (passTo n m A B .box)) (last-out made sum B t u))
       (last-converged made sum B)
   propagateFrom-last (suc left) made sum B = propagateFrom-ind (suc left) made sum n m A B (LastPass made sum n m A B)
       (last-infeasible made sum B)

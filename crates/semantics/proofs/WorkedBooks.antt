@@ -19,14 +19,15 @@ use Rattle.semantics.specs.Books.{AllHold, boxed, callOn, fresh, freshKi
 use Rattle.semantics.specs.Call.{hasBudget, hasRow, hasTable, hasVariable, isUnknown, kindOf, lengthsOf}
 use Rattle.semantics.specs.CallChecks.{callChecks, callFault, givenModel, isLent, lentTable, recordChecks}
 use Rattle.semantics.specs.Demand2.{ones}
-use Rattle.semantics.specs.FixpointTest.{isFixpoint}
+use Rattle.semantics.specs.FixpointTest.{firstMoving, isFixpoint}
+use Rattle.semantics.specs.Lowest.{lowest}
 use Rattle.semantics.specs.Perform.{act, perform}
 use Rattle.semantics.specs.Probe.{byteOf, fix, hull, implies, isFixed, joinSides, literal, probe, put, recordSide, recordTo, sideOf}
-use Rattle.semantics.specs.Propagate.{isNone, isSpent, passRow, passTo, propagate, propagateFrom}
+use Rattle.semantics.specs.Propagate.{isNone, isSpent, lastLook, passRow, passTo, propagate, propagateFrom}
 use Rattle.semantics.specs.RestTest.{isProbingFixpoint, sidesSpan}
 use Rattle.semantics.specs.Run.{run, step}
 use Rattle.semantics.specs.WorkedBooks.{atRest, binary2, boxAfter, chained, clique, crossed, empty2, pair, single, workedBooks}
 
 pub worked-books-hold : AllHold workedBooks
-unfolding workedBooks atRest binary2 boxAfter chained clique crossed empty2 pair single boxed callOn removeCall kept fresh freshKinds probeCall rowed propagateCall tightenCall propagateRowCall callChecks callFault givenModel isLent lentTable recordChecks ones act perform byteOf fix hull implies isFixed joinSides literal probe put recordSide recordTo sideOf isNone isSpent passRow passTo propagate propagateFrom isFixpoint isProbingFixpoint sidesSpan run step hasBudget hasRow hasTable hasVariable isUnknown kindOf lengthsOf stateOf splice setRow withBox withRow isInfeasible impliedBox newLower newUpper propagateRow stays removeRedundantRow zeroRow tightenAt tightenCoefficient maxActivity maxTerm minActivity minTerm rowOf bits first inRange lengthChecks modelChecks boxChecks narrow numberChecks ordered sizeChecks tableByteChecks tableLengthChecks boxOf emptyBox isEmpty isFree sameList eqZ maxZ minZ all sum ceilDiv floorDiv differs movedBounds isEquality negated negatedCoefs andThen propagateRowOf removeRowOf tightenRowOf isChanged
+unfolding workedBooks lastLook firstMoving lowest atRest binary2 boxAfter chained clique crossed empty2 pair single boxed callOn removeCall kept fresh freshKinds probeCall rowed propagateCall tightenCall propagateRowCall callChecks callFault givenModel isLent lentTable recordChecks ones act perform byteOf fix hull implies isFixed joinSides literal probe put recordSide recordTo sideOf isNone isSpent passRow passTo propagate propagateFrom isFixpoint isProbingFixpoint sidesSpan run step hasBudget hasRow hasTable hasVariable isUnknown kindOf lengthsOf stateOf splice setRow withBox withRow isInfeasible impliedBox newLower newUpper propagateRow stays removeRedundantRow zeroRow tightenAt tightenCoefficient maxActivity maxTerm minActivity minTerm rowOf bits first inRange lengthChecks modelChecks boxChecks narrow numberChecks ordered sizeChecks tableByteChecks tableLengthChecks boxOf emptyBox isEmpty isFree sameList eqZ maxZ minZ all sum ceilDiv floorDiv differs movedBounds isEquality negated negatedCoefs andThen propagateRowOf removeRowOf tightenRowOf isChanged
 worked-books-hold = (refl, (refl, (refl, (refl, (refl, (refl, (refl, (refl, (refl, (refl, (refl, (refl, (refl, (refl, (refl, (refl, (refl, (refl, (refl, (refl, (refl, (refl, (refl, (refl, (refl, (refl, tt))))))))))))))))))))))))))

@@ -1,7 +1,7 @@
 -- Corner cases, as a table like that of the worked books (proved as `corners-hold`): what 01 and 02 say in half a sentence, computed.
 use Prim.Native.Nat.{ℕ}
 use lib.IntN.{negsuc, negℤ, pos, ℤ}
-use lib.ListN.{replicate}
+use lib.ListN.{replicate, set}
 use mathlib.Core.Bool.{false, true}
 use mathlib.Core.List.{List, [], _∷_}
 use Rattle.model.specs.Rows.{rowWith}
@@ -45,7 +45,12 @@ twice = fresh 1 2 (pos 0 ∷ pos 5 ∷ []) (pos 2 ∷ pos 1 ∷ []) (pos 9 ∷ p
 unfoldable pub falling : State
 falling = fresh 2 2 (pos 0 ∷ pos 5 ∷ pos 0 ∷ pos 5 ∷ []) (negsuc 0 ∷ pos 1 ∷ pos 2 ∷ pos 0 ∷ []) (pos 0 ∷ pos 5 ∷ [])
 
--- the same with y ≥ 3: the first pass moves x and y, and in the second the first row is infeasible
+-- z − y ≤ 0 and x + y ≤ 1: at x = 1 the second row moves y, and the first z in the next pass
+unfoldable pub behind : State
+behind =
+    fresh 3 2 (pos 0 ∷ pos 1 ∷ pos 0 ∷ pos 1 ∷ pos 0 ∷ pos 1 ∷ []) (pos 0 ∷ negsuc 0 ∷ pos 1 ∷ pos 1 ∷ pos 1 ∷ pos 0 ∷ []) (pos 0 ∷ pos 1 ∷ [])
+
+-- y − x ≤ 0 and 2 x ≤ 5 with y ≥ 3: the first pass moves x and y, and in the second the first row is infeasible
 unfoldable pub laterNone : State
 laterNone =
     fresh 2 3 (pos 0 ∷ pos 5 ∷ pos 0 ∷ pos 5 ∷ []) (negsuc 0 ∷ pos 1 ∷ pos 2 ∷ pos 0 ∷ pos 0 ∷ negsuc 0 ∷ [])
@@ -234,8 +239,13 @@ corners =
     -- a bound that two rows move counts twice; the sum is over all passes, where the budget is spent and where it is not
     ∷ is (perform twice (propagateCall twice 9)) (boxed twice (propagated converged 2 2) (pos 0 ∷ pos 3 ∷ []))
     ∷ is (perform falling (propagateCall falling 1)) (boxed falling (propagated budgetSpent 1 1) (pos 0 ∷ pos 2 ∷ pos 0 ∷ pos 5 ∷ []))
-    ∷ is (perform falling (propagateCall falling 2)) (boxed falling (propagated budgetSpent 2 2) (pos 0 ∷ pos 2 ∷ pos 0 ∷ pos 2 ∷ []))
     ∷ is (perform falling (propagateCall falling 3)) (boxed falling (propagated converged 3 2) (pos 0 ∷ pos 2 ∷ pos 0 ∷ pos 2 ∷ []))
+    -- the budget's passes are made and the last moved a bound (02, C-15): Settled where no row would move another, also at the very last
+    -- pass; Spent where a row would, or would answer None
+    ∷ is (perform falling (propagateCall falling 2)) (boxed falling (propagated converged 2 2) (pos 0 ∷ pos 2 ∷ pos 0 ∷ pos 2 ∷ []))
+    ∷ is (perform laterNone (propagateCall laterNone 1)) (boxed laterNone (propagated budgetSpent 1 2) (pos 0 ∷ pos 2 ∷ pos 3 ∷ pos 5 ∷ []))
+    ∷ (let s = exactPair (negsuc 1) (pos 1) (pos 0) binary2 in
+    is (perform s (propagateCall s 1)) (boxed s (propagated budgetSpent 1 1) (pos 0 ∷ pos 0 ∷ pos 0 ∷ pos 1 ∷ [])))
     -- each side of a probe has its own: y ≤ x moves y at x = 0 only
     ∷ (let s = pair (negsuc 0) (pos 1) (pos 0) in
     is (perform s (probeCall s 0 5)) (record {
@@ -258,16 +268,22 @@ corners =
     -- a variable that was not free before the call is not recorded, though both sides fix it at 1
     ∷ (let s = fresh 2 1 (pos 0 ∷ pos 1 ∷ pos 1 ∷ pos 2 ∷ []) (pos 0 ∷ pos 1 ∷ []) (pos 1 ∷ []) in
     is (perform s (probeCall s 0 5)) (boxed s (probed (bothFeasible 0) (unspent 2 1) (unspent 2 1)) (pos 0 ∷ pos 1 ∷ pos 1 ∷ pos 1 ∷ [])))
-    -- Spent sides are used with the box they reached, and record
+    -- sides that moved a bound in the last pass and are quiet now are not Spent (02, C-15)
     ∷ is (perform either (probeCall either 0 1))
     (record {
-      answer = probed (bothFeasible 4) (spentSide 1 1) (spentSide 1 1);
+      answer = probed (bothFeasible 4) (unspent 1 1) (unspent 1 1);
       state = withBox either binary2 (0 ∷ 0 ∷ 0 ∷ 1 ∷ 0 ∷ 0 ∷ 1 ∷ 0 ∷ 0 ∷ 1 ∷ 0 ∷ 0 ∷ 1 ∷ 0 ∷ 0 ∷ 0 ∷ []);
+    })
+    -- a Spent side is used with the box it reached, and records: x = 1 implies y = 0, and z is not reached
+    ∷ is (perform behind (probeCall behind 0 1))
+    (record {
+      answer = probed (bothFeasible 2) (unspent 1 0) (spentSide 1 1);
+      state = withBox behind (behind .model .box) (set (set (replicate 36 0) 8 1) 18 1);
     })
     -- both sides None: the sides' own passes, not Spent; one side None: its passes are told too, and it is not Spent
     ∷ is (perform neither (probeCall neither 0 1)) (boxed neither (probed bothInfeasible (unspent 1 0) (unspent 1 1)) empty2)
     ∷ (let s = pair (negsuc 0) (negsuc 0) (negsuc 1) in
-    is (perform s (probeCall s 0 1)) (boxed s (probed (fixed 1) (unspent 1 0) (spentSide 1 1)) (pos 1 ∷ pos 1 ∷ pos 1 ∷ pos 1 ∷ [])))
+    is (perform s (probeCall s 0 1)) (boxed s (probed (fixed 1) (unspent 1 0) (unspent 1 1)) (pos 1 ∷ pos 1 ∷ pos 1 ∷ pos 1 ∷ [])))
     -- a new right side of exactly −1,000,000,000 is made; one less is not
     ∷ (let s = deep (pos 0) (negℤ (pos 999_999_999)) in
     is (perform s (tightenCall s 0 0)) (rowed s (tightened changed) (pos 2 ∷ pos 1_000_000 ∷ pos 1 ∷ []) (negℤ (pos 1_000_000_000))))

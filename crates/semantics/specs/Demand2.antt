@@ -9,17 +9,19 @@ use mathlib.Core.List.{List, [], _∷_}
 use mathlib.Core.Logic.{_↔_, _≢_}
 use mathlib.Core.Path.{_≡_}
 use Rattle.model.specs.Box.{NonEmpty, at, emptyBox, width}
-use Rattle.model.specs.Rows.{Row, isEquality, rowAt}
+use Rattle.model.specs.Rows.{Row, Rows, isEquality, rowAt}
 use Rattle.model.specs.State.{State}
 use Rattle.model.specs.Valid.{ValidState}
+use Rattle.row.specs.Kinds.{propagateRowOf}
 use Rattle.row.specs.Moved.{movedBounds}
 use Rattle.row.specs.Outcome.{Outcome, isChanged, isInfeasible, isUnchanged, unchanged}
 use Rattle.semantics.specs.Call.{Call, Kind, kindOf, probing, propagation, removal, rowPropagation, tightening, unknown}
 use Rattle.semantics.specs.CallChecks.{callFault}
+use Rattle.semantics.specs.Fixpoint.{Fixpoint}
 use Rattle.semantics.specs.Perform.{Answer, perform, probed, propagated, propagatedRow, refused, removed, tightened}
 use Rattle.semantics.specs.Points.{FractionalPointOf, PointOf}
 use Rattle.semantics.specs.Probe.{ProbeEnding, Side, bothFeasible, fix}
-use Rattle.semantics.specs.Propagate.{Ending, isNone, propagate}
+use Rattle.semantics.specs.Propagate.{Ending, budgetSpent, converged, isNone, propagate}
 use Rattle.semantics.specs.Run.{answersNone, run}
 
 -- how many bytes of a table are 1
@@ -61,6 +63,26 @@ SideMoved s c v side =
     let B = fix (M .n) (M .box) (c .variable) v in
     let r = propagate (c .budget) (M .n) (M .m) (M .rows) B in
     (side .moved ≡ r .moved) × SumMoved (M .n) B (r .box) (isNone (r .ending)) (side .passes) (side .moved)
+
+-- "some visit would still move a bound or answer None": it answers other than Same
+abbrev pub StillMoves : ℕ → ℕ → Rows → List ℤ → Type 0
+StillMoves n m A B = (r : ℕ) × (r < m) × (propagateRowOf n (rowAt n A r) B .outcome ≢ unchanged)
+
+-- 02 (C-15), of a settle with a budget that made p passes, left the box P and ended as e: "None is given as before. From now on any other
+-- answer is Spent exactly when the budget's passes are made and some visit would still move a bound or answer None; otherwise it is
+-- Settled."
+pub record EndsAs (budget n m : ℕ) (A : Rows) (P : List ℤ) (e : Ending) (p : ℕ) : Type 0 where
+  -- Settled exactly when the box is quiet
+  pub settled : (e ≡ converged) ↔ Fixpoint n m A P
+  -- Spent exactly when it is not, is not void, and the passes are the budget's
+  pub spent : (e ≡ budgetSpent) ↔ (NonEmpty n P × (p ≡ budget) × StillMoves n m A P)
+
+-- of side v of a probe, which is a settle of the box with the variable set to v: it is told to be Spent exactly then
+unfoldable pub SideEnds : State → Call → ℕ → Side → Type 0
+SideEnds s c v side =
+    let M = s .model in
+    let r = propagate (c .budget) (M .n) (M .m) (M .rows) (fix (M .n) (M .box) (c .variable) v) in
+    T (side .spent) ↔ (NonEmpty (M .n) (r .box) × (side .passes ≡ c .budget) × StillMoves (M .n) (M .m) (M .rows) (r .box))
 
 -- Same: a visit, a sharpen or a drop that changed nothing
 unfoldable pub AnswersSame : Answer → Type 0
@@ -116,6 +138,11 @@ pub record CallMeans (s : State) (c : Call) : Type 0 where
       → SideMoved s c 0 s0 × SideMoved s c 1 s1
   pub emptySidesMoved : (e : ProbeEnding) (s0 s1 : Side) → perform s c .answer ≡ probed e s0 s1 → s .model .box ≡ emptyBox (s .model .n)
       → (s0 .moved ≡ 0) × (s1 .moved ≡ 0)
+  -- Settled or Spent (02, C-15): of a settle, of the two sides of a probe
+  pub ends : (e : Ending) (p k : ℕ) → perform s c .answer ≡ propagated e p k
+      → let M = s .model in EndsAs (c .budget) (M .n) (M .m) (M .rows) (perform s c .state .model .box) e p
+  pub sidesEnd : (e : ProbeEnding) (s0 s1 : Side) → perform s c .answer ≡ probed e s0 s1 → s .model .box ≢ emptyBox (s .model .n)
+      → SideEnds s c 0 s0 × SideEnds s c 1 s1
   -- "The answer Both has the number of bytes that went from 0 to 1."
   pub added : (a : ℕ) (s0 s1 : Side) → perform s c .answer ≡ probed (bothFeasible a) s0 s1
       → ones (perform s c .state .table) ≡ ones (s .table) + a

@@ -9,6 +9,7 @@ use Rattle.model.specs.Rows.{Rows, rowAt}
 use Rattle.row.specs.Outcome.{isInfeasible}
 use Rattle.row.specs.Kinds.{propagateRowOf}
 use Rattle.row.specs.Propagation.{PropagatedRow}
+use Rattle.semantics.specs.FixpointTest.{firstMoving}
 
 -- a pass, as far as it has come: whether a row answered None, how many bounds its rows moved, and the box
 pub record Pass : Type 0 where
@@ -38,11 +39,17 @@ pub record Propagated : Type 0 where
   pub moved : ℕ
   pub box : List ℤ
 
+-- how a settle ends whose budget's passes are made, the last of which moved a bound. 02 (C-15): "From now on any other answer [than
+-- None] is Spent exactly when the budget's passes are made and some visit would still move a bound or answer None; otherwise it is
+-- Settled." A look at the rows, which is no pass and moves nothing, decides.
+unfoldable pub lastLook : ℕ → ℕ → Rows → List ℤ → Ending
+lastLook n m A B = cond (ltb (firstMoving n m A B) m) budgetSpent converged
+
 -- `left` passes may still be made, `made` are made and moved `sum` bounds; the last of them moved one, or there was none yet.
--- "None; Settled, when the last pass moved nothing; Spent, exactly when the budget's passes are made and the last moved a bound."
--- A pass that None breaks off counts as made.
+-- 01: "None; Settled, when the last pass moved nothing; Spent, exactly when the budget's passes are made and the last moved a bound."
+-- The last half sentence is 02's now (C-15). A pass that None breaks off counts as made.
 unfoldable pub propagateFrom : (left made sum : ℕ) → ℕ → ℕ → Rows → List ℤ → Propagated
-propagateFrom zero made sum n m A B = record { ending = budgetSpent; passes = made; moved = sum; box = B }
+propagateFrom zero made sum n m A B = record { ending = lastLook n m A B; passes = made; moved = sum; box = B }
 propagateFrom (suc left) made sum n m A B =
     let p = passTo n m A B in
     let again : Propagated = propagateFrom left (suc made) (sum + p .moved) n m A (p .box) in

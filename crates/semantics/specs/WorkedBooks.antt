@@ -1,5 +1,5 @@
 -- The starred worked books of 01, all of them, through `perform` with buffers of the right lengths (proved as `worked-books-hold`),
--- with the number of bounds moved that 02 (C-11) adds.
+-- with the number of bounds moved that 02 (C-11) adds, and with the ending that 02 (C-15) gives to the one for budget 1.
 use Prim.Native.Nat.{ℕ}
 use lib.IntN.{negsuc, pos, ℤ}
 use mathlib.Core.Bool.{Bool, false, true}
@@ -10,7 +10,7 @@ use Rattle.semantics.specs.Books.{Line, boxed, fresh, is, kept, probeCal
 use Rattle.semantics.specs.Demand2.{ones}
 use Rattle.semantics.specs.Perform.{perform, probed, propagated, propagatedRow, removed, tightened}
 use Rattle.semantics.specs.Probe.{fixed}
-use Rattle.semantics.specs.Propagate.{budgetSpent, converged}
+use Rattle.semantics.specs.Propagate.{converged}
 use Rattle.semantics.specs.RestTest.{isProbingFixpoint}
 use Rattle.semantics.specs.Run.{run}
 
@@ -81,9 +81,9 @@ workedBooks =
     -- x+y ≤ 1: both Same
     ∷ (let s = pair (pos 1) (pos 1) (pos 1) in is (perform s (tightenCall s 0 0)) (kept s (tightened unchanged)))
     ∷ (let s = pair (pos 1) (pos 1) (pos 1) in is (perform s (removeCall s 0)) (kept s (removed unchanged)))
-    -- 2x ≤ 5, x 0..5: settle, budget 1, Spent; budget 2, Settled(2)
+    -- 2x ≤ 5, x 0..5: settle, budget 1, Spent; budget 2, Settled(2). 02 (C-15): "The starred line for budget 1 reads Settled(1)."
     ∷ (let s = single (pos 2) (pos 5) (pos 0) (pos 5) in
-    is (perform s (propagateCall s 1)) (boxed s (propagated budgetSpent 1 1) (pos 0 ∷ pos 2 ∷ [])))
+    is (perform s (propagateCall s 1)) (boxed s (propagated converged 1 1) (pos 0 ∷ pos 2 ∷ [])))
     ∷ (let s = single (pos 2) (pos 5) (pos 0) (pos 5) in
     is (perform s (propagateCall s 2)) (boxed s (propagated converged 2 1) (pos 0 ∷ pos 2 ∷ [])))
     -- x−y ≤ 0, x+y ≤ 1: visits Same, rest no, probe of x Fixed 0

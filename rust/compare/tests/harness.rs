@@ -587,6 +587,30 @@ fn catches_a_variable_told_as_a_row() {
 }
 
 #[test]
+fn catches_a_budget_spent_though_the_box_is_quiet() {
+    is_caught(|operation, _, said, loan| {
+        if let Operation::Propagate { budget } = operation
+            && said == 0
+            && loan.answer[..2] == [1, budget.into()]
+            && loan.answer[2] > 0
+        {
+            loan.answer[0] = 2;
+        }
+        said
+    });
+}
+
+#[test]
+fn catches_a_pending_row_called_converged() {
+    is_caught(|operation, _, said, loan| {
+        if matches!(operation, Operation::Propagate { .. }) && said == 0 && loan.answer[0] == 2 {
+            loan.answer[0] = 1;
+        }
+        said
+    });
+}
+
+#[test]
 fn catches_a_byte_of_a_book() {
     is_caught(|operation, _, said, loan| {
         if operation == Operation::BookWrite && said == 0 && loan.m > 0 {

@@ -1,6 +1,7 @@
 //! Propagation of all rows, pass after pass (01's settle).
 
 use crate::bounds;
+use crate::probing;
 use crate::row::{self, RowPropagation, Rows};
 
 /// The largest budget: 128 variables of width 65,535, and one pass that moves nothing. Since C-22 no
@@ -12,9 +13,10 @@ pub const MAX_BUDGET: u32 = 8_388_481;
 pub enum Ending {
     /// 01's None.
     Infeasible,
-    /// 01's Settled: the last pass moved nothing.
+    /// 01's Settled: no row would change the box.
     Converged,
-    /// 01's Spent: the budget's passes are made and the last one moved a bound.
+    /// 01's Spent: the budget's passes are made, and some row would still move a bound or be infeasible
+    /// (02, C-15).
     BudgetSpent,
 }
 
@@ -29,7 +31,8 @@ pub struct Propagation {
     pub moved: u32,
 }
 
-/// Makes passes until one moves nothing, a row is infeasible or the budget is spent.
+/// Makes passes until one moves nothing, a row is infeasible or the budget's passes are made. Then a look at
+/// the rows, which moves nothing, decides whether the budget is spent.
 pub fn propagate(bounds: &mut [i32], rows: Rows, budget: u32) -> Propagation {
     if bounds::is_empty(bounds) {
         return Propagation { ending: Ending::Infeasible, passes: 1, moved: 0 };
@@ -45,7 +48,11 @@ pub fn propagate(bounds: &mut [i32], rows: Rows, budget: u32) -> Propagation {
             return Propagation { ending: Ending::Converged, passes, moved };
         }
     }
-    Propagation { ending: Ending::BudgetSpent, passes: budget, moved }
+    let ending = match probing::first_moving(bounds, rows) {
+        Some(_) => Ending::BudgetSpent,
+        None => Ending::Converged,
+    };
+    Propagation { ending, passes: budget, moved }
 }
 
 /// What one pass comes to.

@@ -210,12 +210,16 @@ fn moved_bounds_are_those_that_differ() {
             }
         }
         assert_eq!((moved, &all.bounds), (sum, &one.bounds), "{model:?}");
+        // C-15: Settled exactly where the box is quiet; Spent where it is not, after the budget's passes.
+        let quiet = !all.is_empty() && is_quiet(&all, &all.bounds);
+        assert_eq!(case == 1, quiet, "{model:?}");
+        assert!(case != 2 || passes == u64::from(budget));
         // Each pass but the last moved a bound, and each bound moved is a step of the total width.
         assert!(passes - 1 <= moved);
         assert!(case == 0 || moved <= width(&model.bounds) - width(&all.bounds));
         seen[case as usize] += u64::from(moved > 0);
     }
-    assert!(seen.iter().all(|&cases| cases > 100), "{seen:?}");
+    assert!(seen.iter().all(|&cases| cases > 10), "{seen:?}");
 }
 
 #[test]

@@ -245,13 +245,17 @@ fn both_sides_are_propagated_and_reported() {
 
 #[test]
 fn a_spent_side_is_used_and_told() {
-    // Side 1 is spent at budget 1: it fixes nothing yet it narrows.
+    // z ≤ y before x + y ≤ 1. Side 1 is spent at budget 1: it puts y at 0, and z is not reached.
+    let mut model = Model::binary(3, &[(&[0, -1, 1], 0), (&[1, 1, 0], 1)]);
+    assert_eq!(model.probe(0, 1), ok(&[2, 2, 1, 0, 0, 1, 1, 1]));
+    assert_eq!(model.bounds, [0, 1, 0, 1, 0, 1]);
+    // C-15: a side that moved a bound in its last pass and is quiet now is not spent.
     let mut model = Model::new(&[(0, 1), (0, 5)], &[(&[5, 2], 10)]);
-    assert_eq!(model.probe(0, 1), ok(&[2, 0, 1, 0, 0, 1, 1, 1]));
+    assert_eq!(model.probe(0, 1), ok(&[2, 0, 1, 0, 0, 1, 0, 1]));
     assert_eq!(model.bounds, [0, 1, 0, 5]);
-    // Both sides spent, and both narrow: the hull does too.
+    // Both sides narrow: the hull does too.
     let mut model = Model::new(&[(0, 1), (0, 5)], &[(&[1, 2], 5)]);
-    assert_eq!(model.probe(0, 1), ok(&[2, 0, 1, 1, 1, 1, 1, 1]));
+    assert_eq!(model.probe(0, 1), ok(&[2, 0, 1, 0, 1, 1, 0, 1]));
     assert_eq!(model.bounds, [0, 1, 0, 2]);
 }
 

@@ -80,9 +80,17 @@ fn a_redundant_row_is_removed_and_not_tightened() {
 
 #[test]
 fn passes_and_budget() {
+    // 02 (C-15): "The starred line for budget 1 reads Settled(1)."
     let model = Model::new(&[(0, 5)], &[(&[2], 5)]);
-    assert_eq!(model.clone().propagate(1), ok(&[SPENT, 1, 1]));
+    assert_eq!(model.clone().propagate(1), ok(&[SETTLED, 1, 1]));
     assert_eq!(model.clone().propagate(2), ok(&[SETTLED, 2, 1]));
+    // y ≤ x before 2x ≤ 5: a row would still move y; then none would.
+    let model = Model::new(&[(0, 5), (0, 5)], &[(&[-1, 1], 0), (&[2, 0], 5)]);
+    assert_eq!(model.clone().propagate(1), ok(&[SPENT, 1, 1]));
+    assert_eq!(model.clone().propagate(2), ok(&[SETTLED, 2, 2]));
+    // The same with y ≥ 3: the first row would be infeasible.
+    let rows: &[(&[i32], i32)] = &[(&[-1, 1], 0), (&[2, 0], 5), (&[0, -1], -3)];
+    assert_eq!(Model::new(&[(0, 5), (0, 5)], rows).propagate(1), ok(&[SPENT, 1, 2]));
 }
 
 #[test]

@@ -6,16 +6,17 @@ use lib.Dec.{T}
 use lib.IntN.{_+ℤ_, pos, ℤ}
 use lib.ListN.{length}
 use lib.Signed.{_≤ℤ_}
-use mathlib.Core.Bool.{Bool, cond, false, not}
+use mathlib.Core.Bool.{Bool, cond, false, not, true}
 use mathlib.Core.List.{List}
 use mathlib.Core.Logic.{_⊎_, inl, inr, ⊎-elim}
-use mathlib.Core.Path.{_∙_, _≡_, ap, refl, sym}
+use mathlib.Core.Path.{_∙_, _≡_, ap, refl, subst, sym}
 use native.Mathlib.Nat.{sub-zero}
 use native.Mathlib.Omega.{arith}
 use Rattle.integer.proofs.Parts.{zarith, zify}
 use Rattle.integer.proofs.Tests.{false→T}
-use Rattle.model.specs.Box.{isEmpty, width}
+use Rattle.model.specs.Box.{NonEmpty, isEmpty, width}
 use Rattle.model.specs.Rows.{Row, Rows, rowAt, rowsOf}
+use Rattle.model.specs.Valid.{ValidBox}
 use Rattle.row.specs.Answers.{propagatedRowOf}
 use Rattle.row.specs.Outcome.{isInfeasible}
 use Rattle.row.specs.Kinds.{propagateRowOf}
@@ -23,7 +24,7 @@ use Rattle.row.specs.declared.propagation.RowPropagation.the-variants.{Tightene
 use Rattle.semantics.specs.Propagate.{Propagated, propagate, propagateFrom}
 use Rattle.propagation.specs.Results.{propagationOf}
 use Rattle.propagation.specs.declared.Propagation.the-variants as code
-use Rattle.propagation.proofs.PropagationLoops.{PassIs, budget-spent, pass-begins, pass-converged, pass-infeasible, pass-moved, pass-over, pass-width, row-feasible, row-infeasible, sum-fits}
+use Rattle.propagation.proofs.PropagationLoops.{PassIs, pass-begins, pass-converged, pass-infeasible, pass-moved, pass-over, pass-width, passes-made, row-feasible, row-infeasible, sum-fits}
 use Rattle.row.proofs.ImpliedBoxLaws.{valid-nonEmpty}
 use Rattle.row_marks.specs.Marks.{Watched}
 use Rattle.marked_row.proofs.MarkedRowLaws.{Ready, left-by, model-at, ready, ready-trans, ready-visit, tightened, unmoved}
@@ -288,37 +289,45 @@ passes-again c =
     )
 
 -- where the two ways out of the passes meet
-abbrev after : Bool → ℕ → ℕ → List ℤ → Propagated
-after i p k B = propagationOf (cond i (code.Infeasible p k) (code.BudgetSpent p k)) B
+abbrev after : ℕ → ℕ → Rows → Bool → ℕ → ℕ → List ℤ → Propagated
+after n m A i p k B = cond i (propagationOf (code.Infeasible p k) B) (propagateFrom 0 p k n m A B)
 
-after-is : {i j : Bool} {p q k l : ℕ} {B P : List ℤ} → i ≡ j → p ≡ q → k ≡ l → B ≡ P → after i p k B ≡ after j q l P
-after-is d e t f = rw (d, e, t, f)
+after-is : (n m : ℕ) (A : Rows) {i j : Bool} {p q k l : ℕ} {B P : List ℤ} → i ≡ j → p ≡ q → k ≡ l → B ≡ P → after n m A i p k B ≡ after n m A j q l P
+after-is n m A d e t f = rw (d, e, t, f)
+
+-- of a box that is equal to one
+valid-is : {n : ℕ} {B P : List ℤ} → B ≡ P → ValidBox n P × NonEmpty n P → ValidBox n B × NonEmpty n B
+valid-is e v = rw e v
 
 watched-is : {n m : ℕ} {A : Rows} {B P : List ℤ} {a a′ s s′ : List ℕ} {e e′ : List ℤ} {k k′ : List ℕ} → B ≡ P → a ≡ a′ → s ≡ s′ → e ≡ e′ → k ≡ k′
     → Watched n m A P a′ s′ e′ k′ → Watched n m A B a s e k
 watched-is b a s e k w = rw (b, a, s, e, k) w
 
--- the lengths of what is lent, and what is known of the rows
-record Left (q : tie.At-passes Inv-rows μ-rows Inv-passes μ-passes) (bounds : List ℤ) (across signs : List ℕ) (seen : List ℤ) (marks : List ℕ) : Type 0 where
+true-not-false : true ≡ false → ⊥
+true-not-false e = subst (λ (b : Bool). T b) e tt
+
+-- the lengths of what is lent, what is known of the rows, and the box where no row was infeasible
+record Left (q : tie.At-passes Inv-rows μ-rows Inv-passes μ-passes) (infeasible : Bool) (bounds : List ℤ) (across signs : List ℕ) (seen : List ℤ) (marks : List ℕ) : Type 0 where
   boxLen : length bounds ≡ length (B₀ q)
   acrossLen : length across ≡ length (s q .args .across .now)
   signsLen : length signs ≡ length (s q .args .signs .now)
   seenLen : length seen ≡ length (s q .args .seen .now)
   marksLen : length marks ≡ length (s q .args .marks .now)
   watched : Watched (n q) (m q) (A q) bounds across signs seen marks
+  valid : infeasible ≡ false → ValidBox (n q) bounds × NonEmpty (n q) bounds
 
 met : (c : tie.Left-passes Inv-rows μ-rows Inv-passes μ-passes) →
     let q = c .before in
     let o = c .passes-test in
-    (after (o .infeasible) (o .passes) (o .tally .moved) (o .bounds) ≡ propagate (budget q) (n q) (m q) (A q) (B₀ q)) × Left q (o .bounds) (o .across) (o .signs) (o .seen) (o .marks)
+    (after (n q) (m q) (A q) (o .infeasible) (o .passes) (o .tally .moved) (o .bounds) ≡ propagate (budget q) (n q) (m q) (A q) (B₀ q)) × Left q (o .infeasible) (o .bounds) (o .across) (o .signs) (o .seen) (o .marks)
 unfolding propagationOf
 met c =
     let q = c .before in
     let y = q .passes .inv .2 in
     ⊎-elim
     (λ w. (
-      after-is (w .8 ∙ q .passes .inv .3) (w .6) (ap (λ t. t .moved) (w .7)) (w .1)
-          ∙ sym (whole q ∙ budget-spent (budget q) (made q) (before q) (n q) (m q) (A q) (B q) (w .0 .left) (q .passes .inv .1)),
+      after-is (n q) (m q) (A q) (w .8 ∙ q .passes .inv .3) (w .6) (ap (λ t. t .moved) (w .7)) (w .1)
+          ∙ sym (whole q ∙ passes-made (budget q) (made q) (before q) (n q) (m q) (A q) (B q) (w .0 .left) (q .passes .inv .1)),
       record {
         boxLen = ap length (w .1) ∙ y .boxLen;
         acrossLen = ap length (w .2) ∙ y .acrossLen;
@@ -326,6 +335,7 @@ met c =
         seenLen = ap length (w .4) ∙ y .seenLen;
         marksLen = ap length (w .5) ∙ y .marksLen;
         watched = watched-is (w .1) (w .2) (w .3) (w .4) (w .5) (y .watched);
+        valid = λ _. valid-is (w .1) (y .box, y .nonEmpty);
       },
     ))
     (λ w.
@@ -343,7 +353,7 @@ met c =
     let z = ready-trans y (w .3 .inv .2) in
     let k = w .10 .kept in
     let e = row-infeasible (n q) (r (row d)) (A q) (B q) (before q) _ (Q d) (w .3 .inv .1) (heard d) (m q) (w .4 .taken) (w .20 .given .1) in (
-      after-is (w .28) (w .26) (ap (λ t. t .moved) (w .27)) (w .21)
+      after-is (n q) (m q) (A q) (w .28) (w .26) (ap (λ t. t .moved) (w .27)) (w .21)
           ∙ sym (whole q ∙ pass-infeasible (budget q) (made q) (before q) (n q) (m q) (A q) (B q) (w .0 .taken) (q .passes .inv .1) e),
       record {
         boxLen = ap length (w .21) ∙ k .1 .1 .0 ∙ z .boxLen;
@@ -352,6 +362,7 @@ met c =
         seenLen = ap length (w .24) ∙ k .1 .1 .1 .1 .1 .1 .1 .1 .1 .0 ∙ z .seenLen;
         marksLen = ap length (w .25) ∙ k .1 .1 .1 .1 .1 .1 .1 .1 .1 .1 .0 ∙ z .marksLen;
         watched = watched-is (w .21) (w .22) (w .23) (w .24) (w .25) (w .10 .ensures .1);
+        valid = λ f. absurd (true-not-false (sym (w .28) ∙ f));
       },
     ))
     (c .passes-test .came)
@@ -374,23 +385,34 @@ same-length-11 c = met (c .before) .1 .marksLen
 returns-3 : tie.Need-returns-3 Inv-rows μ-rows Inv-passes μ-passes
 returns-3 c = let k = met (c .before) in (rw (c .if3 .taken) at (k .0), k .1 .watched)
 
+last-look-requires : tie.Need-last-look-requires Inv-rows μ-rows Inv-passes μ-passes
+last-look-requires c κs =
+    let e = c .before .before in
+    let q = e .before .before in
+    let k = met (e .before) .1 in
+    let v = k .valid (e .if3 .left) in
+    (model-at (s q .pre .0) (v .0), (v .1, k .watched .clean, omega (arith, s q .pre .1 .1, k .marksLen)))
+
 same-length-12 : tie.Need-same-length-12 Inv-rows μ-rows Inv-passes μ-passes
-same-length-12 c = met (c .before) .1 .boxLen
+same-length-12 c = met (c .before .before .before .before) .1 .boxLen
 
 same-length-13 : tie.Need-same-length-13 Inv-rows μ-rows Inv-passes μ-passes
-same-length-13 c = met (c .before) .1 .acrossLen
+same-length-13 c = met (c .before .before .before .before) .1 .acrossLen
 
 same-length-14 : tie.Need-same-length-14 Inv-rows μ-rows Inv-passes μ-passes
-same-length-14 c = met (c .before) .1 .signsLen
+same-length-14 c = met (c .before .before .before .before) .1 .signsLen
 
 same-length-15 : tie.Need-same-length-15 Inv-rows μ-rows Inv-passes μ-passes
-same-length-15 c = met (c .before) .1 .seenLen
+same-length-15 c = met (c .before .before .before .before) .1 .seenLen
 
 same-length-16 : tie.Need-same-length-16 Inv-rows μ-rows Inv-passes μ-passes
-same-length-16 c = met (c .before) .1 .marksLen
+same-length-16 c = met (c .before .before .before .before) .1 .marksLen
 
 returns-4 : tie.Need-returns-4 Inv-rows μ-rows Inv-passes μ-passes
-returns-4 c = let k = met (c .before) in (rw (c .if3 .left) at (k .0), k .1 .watched)
+returns-4 c =
+    let e = c .before .before .before in
+    let k = met (e .before) in
+    (c .last-look .ensures ∙ rw (e .if3 .left) at (k .0), k .1 .watched)
 
 pub propagate-marked-spec : {M : Type 1} → statement M
 propagate-marked-spec =
@@ -430,6 +452,7 @@ propagate-marked-spec =
     same-length-10
     same-length-11
     returns-3
+    last-look-requires
     same-length-12
     same-length-13
     same-length-14
