@@ -39,8 +39,9 @@ fn list_fault(
 }
 
 // Runs a flat list of call records, four numbers each: kind, row, variable, budget. It goes on after a refused call. A
-// list writes bounds and table only: kinds 4 and 5 are retired, and the rows are lent read-only. `meaning`: what the whole list means for the points and the table. `demand3` and `sum` hold of any lists, so that a
-// caller can take them from here.
+// list writes bounds and table only: kinds 4 and 5 are retired, and the rows are lent read-only. `meaning`: what the
+// whole list means for the points and the table. `demand3` and `sum` hold of any lists, so that a caller can take them
+// from here.
 pub fn run(
     n: usize,
     m: usize,
