@@ -121,6 +121,7 @@ extern "C" {
 #define ASTROLABE_REFUSED_BUDGET 15              /* the budget is not 1 to 8,388,481 */
 #define ASTROLABE_REFUSED_ROW_KIND 16            /* a kind byte is above 1; made after 9 */
 #define ASTROLABE_REFUSED_EQUALITY_ROW 17        /* an = row is to be written into a book; made straight after 16 */
+#define ASTROLABE_REFUSED_RETIRED_KIND 18        /* kind 4 or 5 of a record of astrolabe_run; made straight after 11 */
 #define ASTROLABE_REFUSED_VARIABLE_TOO_WIDE 23   /* u - l of a variable is over 4,096; made straight after 7 */
 
 /* ---------------------------------------------------------------------------------------------
@@ -305,18 +306,21 @@ uint32_t astrolabe_remove_redundant_row(size_t n, size_t m,
 #define ASTROLABE_KIND_PROPAGATE_ROW 1        /* 01's visit: row */
 #define ASTROLABE_KIND_PROPAGATE 2            /* 01's settle: budget */
 #define ASTROLABE_KIND_PROBE 3                /* 01's probe: variable, budget */
-#define ASTROLABE_KIND_TIGHTEN_COEFFICIENT 4  /* 01's sharpen: row, variable */
-#define ASTROLABE_KIND_REMOVE_REDUNDANT_ROW 5 /* 01's drop: row */
+#define ASTROLABE_KIND_TIGHTEN_COEFFICIENT 4  /* 01's sharpen: retired from lists, refused by 18 */
+#define ASTROLABE_KIND_REMOVE_REDUNDANT_ROW 5 /* 01's drop: retired from lists, refused by 18 */
 
 /*
  * Makes the calls of a list one after another (01's run sheet), each on what the one before it left. A
  * record is four numbers: kind, row, variable, budget; `calls_len` counts numbers, four a record. A
- * record that one of the checks 11 to 15 refuses changes nothing, and the run goes on.
+ * record that one of the checks 11 18 12 13 14 15, in this order, refuses changes nothing, and the run
+ * goes on. Kinds 4 and 5 are retired from lists: a row tightened or removed for one branch's box can be
+ * wrong in the next. Make those calls directly, by astrolabe_tighten_coefficient and
+ * astrolabe_remove_redundant_row, before the branches part. So a list writes no row.
  *
- *     bounds, coefs, rhs, kinds, table   written   as the calls do
+ *     bounds, table   written   as the calls do
  *     answer[0]   calls refused
  *     answer[1]   calls that answered infeasible (01's None)
- *     answer[2]   other calls that changed a bound, a row (its kind too) or a table byte
+ *     answer[2]   other calls that changed a bound or a table byte
  *     answer[3]   other calls that changed nothing
  *
  * The four add up to calls_len / 4. An empty list is accepted.
@@ -325,9 +329,9 @@ uint32_t astrolabe_remove_redundant_row(size_t n, size_t m,
  */
 uint32_t astrolabe_run(size_t n, size_t m,
                        int32_t *bounds, size_t bounds_len,
-                       int32_t *coefs, size_t coefs_len,
-                       int32_t *rhs, size_t rhs_len,
-                       uint8_t *kinds, size_t kinds_len,
+                       const int32_t *coefs, size_t coefs_len,
+                       const int32_t *rhs, size_t rhs_len,
+                       const uint8_t *kinds, size_t kinds_len,
                        uint8_t *table, size_t table_len,
                        const uint32_t *calls, size_t calls_len,
                        uint64_t *answer, size_t answer_len);

@@ -469,7 +469,8 @@ impl Model {
     }
 
     /// Makes the calls of a list one after another (01's run sheet). A refused one changes nothing, and
-    /// the run goes on.
+    /// the run goes on. A list changes bounds and implications only: a call of kind 4 or 5 is refused
+    /// ([`Refusal::RetiredKind`]), so tighten and remove by direct calls before two branches part.
     ///
     /// ```
     /// use astrolabe::{Call, Counts, Model};
@@ -485,8 +486,8 @@ impl Model {
         call!(
             self.astrolabe_run,
             as_mut_ptr,
-            as_mut_ptr,
-            as_mut_ptr,
+            as_ptr,
+            as_ptr,
             self.table.as_mut_ptr(),
             self.table.len(),
             calls.as_ptr().cast(),

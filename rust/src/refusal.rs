@@ -6,8 +6,9 @@ use std::fmt;
 /// The first check that failed. A refused call changes nothing.
 ///
 /// The discriminants are the check numbers of the specification and of its requests. The checks are made
-/// in the order of the numbers but for [`Refusal::VariableTooWide`], 23, which comes straight after 7, and
-/// [`Refusal::RowKind`] and [`Refusal::EqualityRow`], 16 and 17, which come after 9 and before 10:
+/// in the order of the numbers but for [`Refusal::VariableTooWide`], 23, which comes straight after 7,
+/// [`Refusal::RowKind`] and [`Refusal::EqualityRow`], 16 and 17, which come after 9 and before 10, and
+/// [`Refusal::RetiredKind`], 18, which comes straight after 11:
 ///
 /// ```
 /// use astrolabe::{Model, Refusal};
@@ -55,13 +56,17 @@ pub enum Refusal {
     RowKind = 16,
     /// An = row was to be written into a book of the first edition, which has no place for its kind.
     EqualityRow = 17,
+    /// A call of a list has kind 4 or 5, which change a row. It counts as refused; make such calls directly,
+    /// by [`Model::tighten_coefficient`](crate::Model::tighten_coefficient) and
+    /// [`Model::remove_redundant_row`](crate::Model::remove_redundant_row).
+    RetiredKind = 18,
     /// A variable's upper bound is more than 4,096 above its lower. A stored book that is refused by it
     /// has to be retyped: see `docs/INTEGRATION.md`.
     VariableTooWide = 23,
 }
 
 impl Refusal {
-    const ALL: [Refusal; 18] = [
+    const ALL: [Refusal; 19] = [
         Refusal::BookTooShort,
         Refusal::BookLengthMismatch,
         Refusal::SizeOutOfRange,
@@ -79,6 +84,7 @@ impl Refusal {
         Refusal::BudgetOutOfRange,
         Refusal::RowKind,
         Refusal::EqualityRow,
+        Refusal::RetiredKind,
         Refusal::VariableTooWide,
     ];
 
@@ -119,6 +125,7 @@ impl Refusal {
             Refusal::BudgetOutOfRange => "the budget is not 1 to 8388481",
             Refusal::RowKind => "a kind byte is above 1",
             Refusal::EqualityRow => "a book of the first edition holds no = row",
+            Refusal::RetiredKind => "the kind is retired from call lists",
             Refusal::VariableTooWide => "a variable is over 4096 wide",
         }
     }

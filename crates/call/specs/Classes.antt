@@ -10,7 +10,7 @@ use Rattle.call.specs.declared.CallClass.{CallClass}
 use Rattle.call.specs.declared.CallClass.the-variants.{Refused, Infeasible, Changed, Unchanged}
 
 unfoldable pub classIs : CallClass → runs.CallClass
-classIs Refused = runs.refusedCall
+classIs (Refused number) = runs.refusedCall number
 classIs Infeasible = runs.infeasibleCall
 classIs Changed = runs.changedCall
 classIs Unchanged = runs.unchangedCall

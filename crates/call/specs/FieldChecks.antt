@@ -3,7 +3,7 @@ use Prim.Native.Nat.{ℕ}
 use lib.Dec.{leb, ltb}
 use lib.IntN.{ℤ}
 use mathlib.Core.Bool.{_&&_, _||_}
-use mathlib.Core.List.{List, [], _∷_}
+use mathlib.Core.List.{List, [], _++_, _∷_}
 use Rattle.model.specs.Box.{isEmpty, isFree}
 use Rattle.model.specs.Checks.{Check, must}
 use Rattle.semantics.specs.CallChecks.{maxBudget}
@@ -16,3 +16,7 @@ variableChecks n B variable = must (ltb variable n) 13 ∷ must (isEmpty n B || 
 
 unfoldable pub budgetChecks : ℕ → List Check
 budgetChecks budget = must (leb 1 budget && leb budget maxBudget) 15 ∷ []
+
+-- of a probe: its variable, then its budget
+unfoldable pub probeChecks : ℕ → List ℤ → ℕ → ℕ → List Check
+probeChecks n B variable budget = variableChecks n B variable ++ budgetChecks budget

@@ -1,4 +1,5 @@
-// The checks of a call's own fields, on a model that passed its checks (11 to 15).
+// The checks of a call's own fields, on a model that passed its checks: 12 to 15 by field, and 11 to 15 of a direct
+// call by its kind.
 use crate::Call;
 use crate::PROBE;
 use crate::PROPAGATE;
@@ -17,10 +18,10 @@ ghost use Rattle.semantics.specs.Call.{kindOf};
 ghost use Rattle.model.specs.Rows.{rowsOf};
 ghost use Rattle.model.specs.State.{stateOf};
 ghost use Rattle.call.specs.Calls.{callOn};
-ghost use Rattle.call.specs.FieldChecks.{budgetChecks, rowChecks, variableChecks};
+ghost use Rattle.call.specs.FieldChecks.{budgetChecks, probeChecks, rowChecks, variableChecks};
 
 // 12: the row is not below m.
-fn row_fault(m: usize, row: u32) -> u32
+pub fn row_fault(m: usize, row: u32) -> u32
     ensures { λ r. ⌜ r ≡ first (rowChecks m row) ⌝ }
 {
     if m <= row as usize {
@@ -48,7 +49,7 @@ fn variable_fault(n: usize, bounds: &[i32], variable: u32) -> u32
 }
 
 // 15: the budget is not 1 to 8,388,481.
-fn budget_fault(budget: u32) -> u32
+pub fn budget_fault(budget: u32) -> u32
     ensures { λ r. ⌜ r ≡ first (budgetChecks budget) ⌝ }
 {
     if budget < 1 {
@@ -60,7 +61,21 @@ fn budget_fault(budget: u32) -> u32
     0
 }
 
-// The call's own checks by its kind; 11 for a number that is no kind. A field that the kind lacks is not looked at.
+// Of a probe: 13 and 14 of its variable, then 15 of its budget.
+pub fn probe_fields_fault(n: usize, bounds: &[i32], variable: u32, budget: u32) -> u32
+    requires { ⌜ ValidBox n (now bounds) ⌝ }
+    requires { ⌜ 0 < n ⌝ }
+    ensures { λ r. ⌜ r ≡ first (probeChecks n (now (bounds .entry)) variable budget) ⌝ }
+{
+    let fault = variable_fault(n, bounds, variable);
+    if fault != 0 {
+        return fault;
+    }
+    budget_fault(budget)
+}
+
+// A direct call's own checks by its kind; 11 for a number that is no kind. A field that the kind lacks is not looked
+// at.
 pub fn record_fault(n: usize, m: usize, bounds: &[i32], call: Call) -> u32
     requires { ⌜ ValidBox n (now bounds) ⌝ }
     requires { ⌜ 0 < n ⌝ }
@@ -72,13 +87,7 @@ pub fn record_fault(n: usize, m: usize, bounds: &[i32], call: Call) -> u32
     match kind {
         PROPAGATE_ROW | REMOVE_ROW => row_fault(m, call.row),
         PROPAGATE => budget_fault(call.budget),
-        PROBE => {
-            let fault = variable_fault(n, bounds, call.variable);
-            if fault != 0 {
-                return fault;
-            }
-            budget_fault(call.budget)
-        }
+        PROBE => probe_fields_fault(n, bounds, call.variable, call.budget),
         TIGHTEN_COEFFICIENT => {
             let fault = row_fault(m, call.row);
             if fault != 0 {

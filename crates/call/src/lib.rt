@@ -33,9 +33,9 @@ pub const TIGHTEN_COEFFICIENT: u32 = 4;
 // 01's drop.
 pub const REMOVE_ROW: u32 = 5;
 
-// How a call counts: 01's refused, None, changed (a bound, row or table byte), unchanged.
+// How a call counts: 01's refused, with the number of the check, None, changed (a bound, row or table byte), unchanged.
 pub enum CallClass {
-    Refused,
+    Refused(u32),
     Infeasible,
     Changed,
     Unchanged,
@@ -102,7 +102,7 @@ pub fn count(counts: Counts, class: CallClass) -> Counts
 {
     let mut next = counts;
     match class {
-        CallClass::Refused => next.refused += 1,
+        CallClass::Refused(_) => next.refused += 1,
         CallClass::Infeasible => next.infeasible += 1,
         CallClass::Changed => next.changed += 1,
         CallClass::Unchanged => next.unchanged += 1,

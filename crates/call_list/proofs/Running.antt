@@ -5,7 +5,7 @@ use mathlib.Core.List.{List, [], _∷_}
 use mathlib.Core.Path.{_∙_, _≡_, refl, sym}
 use native.Mathlib.Omega.{arith}
 use Rattle.semantics.specs.CallList.{ListAnswer, ListRun, listChecks, listFault, ran, recordAt, recordsFrom, recordsOf, refusedList, runList}
-use Rattle.semantics.specs.Run.{run, tally}
+use Rattle.semantics.specs.Run.{runListed, tally}
 use Rattle.model.specs.State.{State}
 use Rattle.semantics.specs.Call.{callOf}
 use Rattle.semantics.proofs.CallLists.{Along, along-end, along-more, along-start, list-accepted, list-ind, list-refused}
@@ -63,7 +63,7 @@ module _ (s₀ : State) (ys : List Call) where
 
   -- the empty list is refused where the whole is, and makes no call
   pub running-start : Running s₀ ys (runList s₀ []) 0
-  unfolding Running RunningAt recordsOf recordsFrom run tally
+  unfolding Running RunningAt recordsOf recordsFrom runListed tally
   running-start = list-ind s₀ [] (λ r. RunningAt s₀ (numbersOf ys) (r .answer) (r .state) 0)
       (λ e. along-start s₀ (numbersOf ys) (list-accepted s₀ [] .0 e .0))
       (λ n. sym (list-refused s₀ (numbersOf ys) (λ e. n (sym same-fault ∙ e)) ∙ rw same-fault))

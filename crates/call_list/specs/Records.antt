@@ -3,7 +3,7 @@ use Prim.Native.Nat.{_+_, _<_, _^_, ℕ}
 use mathlib.Core.List.{List, [], _∷_}
 use Rattle.semantics.specs.CallList.{ListAnswer, ListRun, ran, refusedList}
 use Rattle.model.specs.Valid.{ValidState}
-use Rattle.semantics.specs.Run.{Counts, classOf, countCall, step}
+use Rattle.semantics.specs.Run.{Counts, classListed, countCall, stepListed}
 use Rattle.model.specs.State.{State}
 use Rattle.call.specs.Calls.{callOn}
 use Rattle.call.specs.declared.Call.{Call}
@@ -18,7 +18,7 @@ numbersOf (c ∷ cs) = c .kind ∷ c .row ∷ c .variable ∷ c .budget ∷ numb
 
 unfoldable pub nextOf : ListAnswer → State → Call → ListRun
 nextOf (refusedList number) s c = record { answer = refusedList number; state = s }
-nextOf (ran k) s c = record { answer = ran (countCall (classOf s (callOn s c)) k); state = step s (callOn s c) }
+nextOf (ran k) s c = record { answer = ran (countCall (classListed s (callOn s c)) k); state = stepListed s (callOn s c) }
 
 -- a list that is refused as a whole makes no call; else "The run goes on after a refused call."
 unfoldable pub runNext : ListRun → Call → ListRun

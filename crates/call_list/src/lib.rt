@@ -30,16 +30,15 @@ fn run_none<'a>(
     n: usize,
     m: usize,
     bounds: &'a mut [i32],
-    coefs: &'a mut [i32],
-    rhs: &'a mut [i32],
-    kinds: &'a mut [u8],
+    coefs: &[i32],
+    rhs: &[i32],
+    kinds: &[u8],
     table: &'a mut [u8],
 ) -> RunAnswer
     ensures { λ r.
         let A = rowsOf (now (coefs .entry)) (now (rhs .entry)) (now (kinds .entry)) in
-        let A' = rowsOf (now (coefs .exit)) (now (rhs .exit)) (now (kinds .exit)) in
         let s = stateOf n m (now (bounds .entry)) A (now (table .entry)) in
-        let r' = stateOf n m (now (bounds .exit)) A' (now (table .exit)) in
+        let r' = stateOf n m (now (bounds .exit)) A (now (table .exit)) in
         ⌜ listRun r r' ≡ runList s [] ⌝ }
 {
     let none: [u32; 0] = [];
@@ -51,9 +50,9 @@ fn run_next<'a>(
     n: usize,
     m: usize,
     bounds: &'a mut [i32],
-    coefs: &'a mut [i32],
-    rhs: &'a mut [i32],
-    kinds: &'a mut [u8],
+    coefs: &[i32],
+    rhs: &[i32],
+    kinds: &[u8],
     table: &'a mut [u8],
     answer: RunAnswer,
     call: Call,
@@ -62,9 +61,8 @@ fn run_next<'a>(
         ⌜ Runs (listRun answer s) ⌝ }
     ensures { λ r.
         let A = rowsOf (now (coefs .entry)) (now (rhs .entry)) (now (kinds .entry)) in
-        let A' = rowsOf (now (coefs .exit)) (now (rhs .exit)) (now (kinds .exit)) in
         let s = stateOf n m (now (bounds .entry)) A (now (table .entry)) in
-        let r' = stateOf n m (now (bounds .exit)) A' (now (table .exit)) in
+        let r' = stateOf n m (now (bounds .exit)) A (now (table .exit)) in
         ⌜ listRun r r' ≡ runNext (listRun answer s) call ⌝ }
 {
     let RunAnswer::Ran(counts) = answer else {
@@ -74,28 +72,26 @@ fn run_next<'a>(
     RunAnswer::Ran(count(counts, class))
 }
 
-// Runs a list of call records in their order. It goes on after a refused call.
+// Runs a list of call records in their order. It goes on after a refused call, and writes bounds and table only.
 pub fn run(
     n: usize,
     m: usize,
     bounds: &mut [i32],
-    coefs: &mut [i32],
-    rhs: &mut [i32],
-    kinds: &mut [u8],
+    coefs: &[i32],
+    rhs: &[i32],
+    kinds: &[u8],
     table: &mut [u8],
     calls: &[Call],
 ) -> RunAnswer
     ensures defined { λ r.
         let A = rowsOf (now (coefs .entry)) (now (rhs .entry)) (now (kinds .entry)) in
-        let A' = rowsOf (now (coefs .exit)) (now (rhs .exit)) (now (kinds .exit)) in
         let s = stateOf n m (now (bounds .entry)) A (now (table .entry)) in
-        let r' = stateOf n m (now (bounds .exit)) A' (now (table .exit)) in
+        let r' = stateOf n m (now (bounds .exit)) A (now (table .exit)) in
         ⌜ listRun r r' ≡ runList s (numbersOf (now (calls .entry))) ⌝ }
     ensures meaning { λ r.
         let A = rowsOf (now (coefs .entry)) (now (rhs .entry)) (now (kinds .entry)) in
-        let A' = rowsOf (now (coefs .exit)) (now (rhs .exit)) (now (kinds .exit)) in
         let s = stateOf n m (now (bounds .entry)) A (now (table .entry)) in
-        let r' = stateOf n m (now (bounds .exit)) A' (now (table .exit)) in
+        let r' = stateOf n m (now (bounds .exit)) A (now (table .exit)) in
         ⌜ ListMeans s (listRun r r') ⌝ }
     ensures demand3 { λ r. ⌜ EveryModelHandedIn × Demand3Lists ⌝ }
     ensures sum { λ r. ⌜ CountsAddUp ⌝ }
@@ -116,17 +112,16 @@ pub fn run_four(
     n: usize,
     m: usize,
     bounds: &mut [i32],
-    coefs: &mut [i32],
-    rhs: &mut [i32],
-    kinds: &mut [u8],
+    coefs: &[i32],
+    rhs: &[i32],
+    kinds: &[u8],
     table: &mut [u8],
     calls: [Call; 4],
 ) -> RunAnswer
     ensures defined { λ r.
         let A = rowsOf (now (coefs .entry)) (now (rhs .entry)) (now (kinds .entry)) in
-        let A' = rowsOf (now (coefs .exit)) (now (rhs .exit)) (now (kinds .exit)) in
         let s = stateOf n m (now (bounds .entry)) A (now (table .entry)) in
-        let r' = stateOf n m (now (bounds .exit)) A' (now (table .exit)) in
+        let r' = stateOf n m (now (bounds .exit)) A (now (table .exit)) in
         ⌜ listRun r r' ≡ runList s (numbersOf calls) ⌝ }
 {
     run(n, m, bounds, coefs, rhs, kinds, table, &calls)

@@ -189,24 +189,24 @@ pub extern "C" fn astrolabe_is_probing_fixpoint(
     )
 }
 
-// 01's run sheet, four numbers to a record: {refused, none, changed, unchanged}. Refused as a whole by 10.
+// 01's run sheet, four numbers to a record: {refused, none, changed, unchanged}. Refused as a whole by 10. It writes
+// bounds and table only: a record of kind 4 or 5 is refused by 18.
 #[no_mangle]
 pub extern "C" fn astrolabe_run(
     n: usize,
     m: usize,
     bounds: &mut [i32],
-    coefs: &mut [i32],
-    rhs: &mut [i32],
-    kinds: &mut [u8],
+    coefs: &[i32],
+    rhs: &[i32],
+    kinds: &[u8],
     table: &mut [u8],
     calls: &[u32],
     answer: &mut [u64],
 ) -> u32
     ensures { λ r.
         let A = rowsOf (now (coefs .entry)) (now (rhs .entry)) (now (kinds .entry)) in
-        let A' = rowsOf (now (coefs .exit)) (now (rhs .exit)) (now (kinds .exit)) in
         let s = stateOf n m (now (bounds .entry)) A (now (table .entry)) in
-        let r' = stateOf n m (now (bounds .exit)) A' (now (table .exit)) in
+        let r' = stateOf n m (now (bounds .exit)) A (now (table .exit)) in
         ⌜ exported r (now (answer .exit)) r' ≡ listExport (now (answer .entry)) s (now (calls .entry)) ⌝ }
 {
     if answer.len() != ANSWER {

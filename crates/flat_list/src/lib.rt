@@ -38,30 +38,29 @@ fn list_fault(
     model::model_table_fault(n, m, bounds, coefs, rhs, kinds, table, calls.len() % 4 == 0)
 }
 
-// Runs a flat list of call records, four numbers each: kind, row, variable, budget. It goes on after a refused call.
-// `meaning`: what the whole list means for the points and the table. `demand3` and `sum` hold of any lists, so that a
-// caller can take them from here.
+// Runs a flat list of call records, four numbers each: kind, row, variable, budget. It goes on after a refused call. A
+// list writes bounds and table only: kinds 4 and 5 are retired, and the rows are lent read-only. `meaning`: what the
+// whole list means for the points and the table. `demand3` and `sum` hold of any lists, so that a caller can take them
+// from here.
 pub fn run(
     n: usize,
     m: usize,
     bounds: &mut [i32],
-    coefs: &mut [i32],
-    rhs: &mut [i32],
-    kinds: &mut [u8],
+    coefs: &[i32],
+    rhs: &[i32],
+    kinds: &[u8],
     table: &mut [u8],
     calls: &[u32],
 ) -> RunAnswer
     ensures defined { λ r.
         let A = rowsOf (now (coefs .entry)) (now (rhs .entry)) (now (kinds .entry)) in
-        let A' = rowsOf (now (coefs .exit)) (now (rhs .exit)) (now (kinds .exit)) in
         let s = stateOf n m (now (bounds .entry)) A (now (table .entry)) in
-        let r' = stateOf n m (now (bounds .exit)) A' (now (table .exit)) in
+        let r' = stateOf n m (now (bounds .exit)) A (now (table .exit)) in
         ⌜ listRun r r' ≡ runList s (now (calls .entry)) ⌝ }
     ensures meaning { λ r.
         let A = rowsOf (now (coefs .entry)) (now (rhs .entry)) (now (kinds .entry)) in
-        let A' = rowsOf (now (coefs .exit)) (now (rhs .exit)) (now (kinds .exit)) in
         let s = stateOf n m (now (bounds .entry)) A (now (table .entry)) in
-        let r' = stateOf n m (now (bounds .exit)) A' (now (table .exit)) in
+        let r' = stateOf n m (now (bounds .exit)) A (now (table .exit)) in
         ⌜ ListMeans s (listRun r r') ⌝ }
     ensures demand3 { λ r. ⌜ EveryModelHandedIn × Demand3Lists ⌝ }
     ensures sum { λ r. ⌜ CountsAddUp ⌝ }

@@ -1,7 +1,7 @@
 // Propagate all rows (01's settle) of a model that passed the checks: passes over the rows until nothing moves, the
-// budget's passes are made or a row is infeasible. Each row is read in place through its view. What is known of the rows from
-// earlier visits is kept beside the box while a call runs: their index and which of them are clean
-// (crate `row_marks`).
+// budget's passes are made or a row is infeasible. Each row is read in place through its view. What is known of the
+// rows from earlier visits is kept beside the box while a call runs: their index and which of them are clean (crate
+// `row_marks`).
 pub mod search;
 
 use crate::search::last_look;

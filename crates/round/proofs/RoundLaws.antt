@@ -9,7 +9,7 @@ use mathlib.Core.Logic.{⊎-elim}
 use mathlib.Core.Path.{_∙_, _≡_, ap, ap₂, refl, subst, sym}
 use native.Mathlib.Numerals.{add-one}
 use native.Mathlib.Omega.{arith}
-use Rattle.integer.proofs.Tests.{cond-ind, T→false, decide}
+use Rattle.integer.proofs.Tests.{cond-ind, T→false, decide, true→T}
 use Rattle.model.specs.Box.{isEmpty, at, isFree}
 use Rattle.semantics.specs.Perform.{act, perform}
 use Rattle.model.specs.Valid.{ValidState}
@@ -25,8 +25,9 @@ use Rattle.row.proofs.RowLoops.{coefs-small, max-activity-small}
 use Rattle.row_change.proofs.KindChangeLaws.{tighten-kinded-ind, tighten-kinded-unchanged}
 use Rattle.row_change.proofs.TighteningLaws.{tighten-fails}
 use Rattle.semantics.specs.CallChecks.{callFault}
-use Rattle.semantics.specs.Call.{Call, callOf, kindOf}
+use Rattle.semantics.specs.Call.{Call, callOf, hasBudget, hasRow, hasTable, hasVariable, isUnknown, kindOf}
 use Rattle.model.specs.State.{State, withRow}
+use Rattle.semantics.proofs.Accepted.{accepts, lent-own}
 use Rattle.semantics.proofs.CallLaws.{step-ind}
 use Rattle.semantics.proofs.Preserved.{Preserves, run-preserves}
 use Rattle.round.specs.Round.{andThen, anyChange, isChange, probes, propagateCall, removals, removeCall, round, tightenCall, tightenings, unlessEmpty, upwards}
@@ -35,6 +36,65 @@ use Rattle.semantics.proofs.RowChange.{row-valid, withRow-same}
 use Rattle.model.proofs.RowsLaws.{at-rowOf}
 use Rattle.row_view.proofs.RowInLaws.{row-fits}
 use Rattle.round.specs.TightenedAt.{TightenedAt}
+
+-- ---- the calls of a round are direct ones, and accepted
+
+module _ {s : State} (v : ValidState s) where
+  pub accepts-propagation : callFault s (callOf s 2 0 0 1000) ≡ 0
+  unfolding callOf kindOf hasRow hasVariable hasBudget hasTable isUnknown
+  accepts-propagation = accepts s (callOf s 2 0 0 1000) (record {
+    lent = lent-own refl refl refl;
+    model = v .model;
+    table = λ _. v .table;
+    kind = tt;
+    row = λ z. absurd z;
+    variable = λ z. absurd z;
+    free = λ z. absurd z;
+    budget = λ _. (omega arith, omega arith);
+  })
+
+  pub accepts-removal : {r : ℕ} → r < s .model .m → callFault s (callOf s 5 r 0 0) ≡ 0
+  unfolding callOf kindOf hasRow hasVariable hasBudget hasTable isUnknown
+  accepts-removal {r} h = accepts s (callOf s 5 r 0 0) (record {
+    lent = lent-own refl refl refl;
+    model = v .model;
+    table = λ _. v .table;
+    kind = tt;
+    row = λ _. h;
+    variable = λ z. absurd z;
+    free = λ z. absurd z;
+    budget = λ z. absurd z;
+  })
+
+  module _ {k : ℕ} (h : k < s .model .n) (f : isFree (s .model .box) k ≡ true) where
+    free-binary : T (isEmpty (s .model .n) (s .model .box) || isFree (s .model .box) k)
+    free-binary = rw f (true→T (isEmpty (s .model .n) (s .model .box) || true) (or-true (isEmpty (s .model .n) (s .model .box))))
+
+    pub accepts-probe : callFault s (callOf s 3 0 k 1000) ≡ 0
+    unfolding callOf kindOf hasRow hasVariable hasBudget hasTable isUnknown
+    accepts-probe = accepts s (callOf s 3 0 k 1000) (record {
+      lent = lent-own refl refl refl;
+      model = v .model;
+      table = λ _. v .table;
+      kind = tt;
+      row = λ z. absurd z;
+      variable = λ _. h;
+      free = λ _. free-binary;
+      budget = λ _. (omega arith, omega arith);
+    })
+
+    pub accepts-tightening : {r : ℕ} → r < s .model .m → callFault s (callOf s 4 r k 0) ≡ 0
+    unfolding callOf kindOf hasRow hasVariable hasBudget hasTable isUnknown
+    accepts-tightening {r} g = accepts s (callOf s 4 r k 0) (record {
+      lent = lent-own refl refl refl;
+      model = v .model;
+      table = λ _. v .table;
+      kind = tt;
+      row = λ _. g;
+      variable = λ _. h;
+      free = λ _. free-binary;
+      budget = λ z. absurd z;
+    })
 
 -- ---- where calls lead
 

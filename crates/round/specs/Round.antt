@@ -56,7 +56,7 @@ round s = andThen propagateCall (andThen removals (andThen tightenings probes)) 
 -- ---- what it changed
 
 unfoldable pub isChange : CallClass → Bool
-isChange refusedCall = false
+isChange (refusedCall number) = false
 isChange infeasibleCall = false
 isChange changedCall = true
 isChange unchangedCall = false

@@ -1,17 +1,19 @@
 // One round of `reduce`: propagate, remove redundant rows, tighten coefficients and probe. The model and the table are
-// valid before it, and each call leaves them valid.
-use call::Call;
+// valid before it, and each call leaves them valid. Its calls are direct ones, made by the step of their kind, and pass
+// their checks: a list would refuse those that change a row.
 use call::CallClass;
-use call::PROPAGATE;
-use call::REMOVE_ROW;
-use call::TIGHTEN_COEFFICIENT;
+use call::class_of_propagation;
+use call::class_of_removal;
+use call::class_of_tightening;
 use model::MAX_ROWS;
 use model::MAX_VARIABLES;
 use probing::is_free;
+use propagation::propagate;
 use row_change::tightening::may_tighten;
 use row_view::changes::maximum_activity_at;
-use step::run_probe_record;
-use step::run_record;
+use row_view::changes::remove_redundant_row_at;
+use row_view::changes::tighten_coefficient_at;
+use step::run_probe_marked;
 ghost use mathlib.Core.Path.{_≡_};
 ghost use mathlib.Core.Bool.{_&&_};
 ghost use Prim.Native.Nat.{_*_, _+_, _<_};
@@ -44,18 +46,18 @@ fn is_changed(class: CallClass) -> bool
 fn remove_rows(
     n: usize,
     m: usize,
-    bounds: &mut [i32],
+    bounds: &[i32],
     coefs: &mut [i32],
     rhs: &mut [i32],
     kinds: &mut [u8],
-    table: &mut [u8],
+    table: &[u8],
 ) -> bool
     requires { ⌜ ValidState (stateOf n m (now bounds) (rowsOf (now coefs) (now rhs) (now kinds)) (now table)) ⌝ }
     ensures left { λ r.
         let A = rowsOf (now (coefs .entry)) (now (rhs .entry)) (now (kinds .entry)) in
         let A' = rowsOf (now (coefs .exit)) (now (rhs .exit)) (now (kinds .exit)) in
         let s = stateOf n m (now (bounds .entry)) A (now (table .entry)) in
-        let r' = stateOf n m (now (bounds .exit)) A' (now (table .exit)) in
+        let r' = stateOf n m (now (bounds .entry)) A' (now (table .entry)) in
         ⌜ r' ≡ ran s (removals s) ⌝ }
     ensures changed { λ r.
         let A = rowsOf (now (coefs .entry)) (now (rhs .entry)) (now (kinds .entry)) in
@@ -68,13 +70,8 @@ fn remove_rows(
     let mut changed = false;
     let mut r: u32 = 0;
     while (r as usize) < m {
-        let call = Call {
-            kind: REMOVE_ROW,
-            row: r,
-            variable: 0,
-            budget: 0,
-        };
-        if is_changed(run_record(n, m, bounds, coefs, rhs, kinds, table, call)) {
+        let removal = remove_redundant_row_at(n, coefs, rhs, kinds, r as usize, bounds);
+        if is_changed(class_of_removal(removal)) {
             changed = true;
         }
         r += 1;
@@ -110,20 +107,20 @@ fn may_tighten_at(
 fn tighten_row(
     n: usize,
     m: usize,
-    bounds: &mut [i32],
+    bounds: &[i32],
     coefs: &mut [i32],
     rhs: &mut [i32],
-    kinds: &mut [u8],
-    table: &mut [u8],
+    kinds: &[u8],
+    table: &[u8],
     row: u32,
 ) -> bool
     requires { ⌜ row < m ⌝ }
     requires { ⌜ ValidState (stateOf n m (now bounds) (rowsOf (now coefs) (now rhs) (now kinds)) (now table)) ⌝ }
     ensures left { λ r.
         let A = rowsOf (now (coefs .entry)) (now (rhs .entry)) (now (kinds .entry)) in
-        let A' = rowsOf (now (coefs .exit)) (now (rhs .exit)) (now (kinds .exit)) in
+        let A' = rowsOf (now (coefs .exit)) (now (rhs .exit)) (now (kinds .entry)) in
         let s = stateOf n m (now (bounds .entry)) A (now (table .entry)) in
-        let r' = stateOf n m (now (bounds .exit)) A' (now (table .exit)) in
+        let r' = stateOf n m (now (bounds .entry)) A' (now (table .entry)) in
         ⌜ r' ≡ ran s (tightenRow row s) ⌝ }
     ensures changed { λ r.
         let A = rowsOf (now (coefs .entry)) (now (rhs .entry)) (now (kinds .entry)) in
@@ -135,13 +132,16 @@ fn tighten_row(
     let mut k: u32 = 0;
     while (k as usize) < n {
         if may_tighten_at(n, bounds, coefs, rhs, row as usize, k as usize, most) {
-            let call = Call {
-                kind: TIGHTEN_COEFFICIENT,
-                row,
-                variable: k,
-                budget: 0,
-            };
-            if is_changed(run_record(n, m, bounds, coefs, rhs, kinds, table, call)) {
+            let tightening = tighten_coefficient_at(
+                n,
+                coefs,
+                rhs,
+                kinds,
+                row as usize,
+                bounds,
+                k as usize,
+            );
+            if is_changed(class_of_tightening(tightening)) {
                 changed = true;
             }
             most = maximum_activity_at(n, coefs, row as usize, bounds);
@@ -155,18 +155,18 @@ fn tighten_row(
 fn tighten_rows(
     n: usize,
     m: usize,
-    bounds: &mut [i32],
+    bounds: &[i32],
     coefs: &mut [i32],
     rhs: &mut [i32],
-    kinds: &mut [u8],
-    table: &mut [u8],
+    kinds: &[u8],
+    table: &[u8],
 ) -> bool
     requires { ⌜ ValidState (stateOf n m (now bounds) (rowsOf (now coefs) (now rhs) (now kinds)) (now table)) ⌝ }
     ensures left { λ r.
         let A = rowsOf (now (coefs .entry)) (now (rhs .entry)) (now (kinds .entry)) in
-        let A' = rowsOf (now (coefs .exit)) (now (rhs .exit)) (now (kinds .exit)) in
+        let A' = rowsOf (now (coefs .exit)) (now (rhs .exit)) (now (kinds .entry)) in
         let s = stateOf n m (now (bounds .entry)) A (now (table .entry)) in
-        let r' = stateOf n m (now (bounds .exit)) A' (now (table .exit)) in
+        let r' = stateOf n m (now (bounds .entry)) A' (now (table .entry)) in
         ⌜ r' ≡ ran s (tightenings s) ⌝ }
     ensures changed { λ r.
         let A = rowsOf (now (coefs .entry)) (now (rhs .entry)) (now (kinds .entry)) in
@@ -215,7 +215,7 @@ fn probe_variables_marked(
     let mut k: u32 = 0;
     while (k as usize) < n {
         if is_free(bounds, k as usize) {
-            if is_changed(run_probe_record(
+            if is_changed(run_probe_marked(
                 n,
                 m,
                 bounds,
@@ -243,17 +243,16 @@ fn probe_variables(
     n: usize,
     m: usize,
     bounds: &mut [i32],
-    coefs: &mut [i32],
-    rhs: &mut [i32],
-    kinds: &mut [u8],
+    coefs: &[i32],
+    rhs: &[i32],
+    kinds: &[u8],
     table: &mut [u8],
 ) -> bool
     requires { ⌜ ValidState (stateOf n m (now bounds) (rowsOf (now coefs) (now rhs) (now kinds)) (now table)) ⌝ }
     ensures left { λ r.
         let A = rowsOf (now (coefs .entry)) (now (rhs .entry)) (now (kinds .entry)) in
-        let A' = rowsOf (now (coefs .exit)) (now (rhs .exit)) (now (kinds .exit)) in
         let s = stateOf n m (now (bounds .entry)) A (now (table .entry)) in
-        let r' = stateOf n m (now (bounds .exit)) A' (now (table .exit)) in
+        let r' = stateOf n m (now (bounds .exit)) A (now (table .exit)) in
         ⌜ r' ≡ ran s (probes s) ⌝ }
     ensures changed { λ r.
         let A = rowsOf (now (coefs .entry)) (now (rhs .entry)) (now (kinds .entry)) in
@@ -299,13 +298,8 @@ pub fn round(
         let s = stateOf n m (now (bounds .entry)) A (now (table .entry)) in
         ⌜ r ≡ anyChange s (roundOf s) ⌝ }
 {
-    let call = Call {
-        kind: PROPAGATE,
-        row: 0,
-        variable: 0,
-        budget: PASSES,
-    };
-    let mut changed = is_changed(run_record(n, m, bounds, coefs, rhs, kinds, table, call));
+    let propagation = propagate(n, m, bounds, coefs, rhs, kinds, PASSES);
+    let mut changed = is_changed(class_of_propagation(propagation));
     if remove_rows(n, m, bounds, coefs, rhs, kinds, table) {
         changed = true;
     }

@@ -14,7 +14,7 @@ use Rattle.model.specs.State.{State}
 use Rattle.model.specs.Valid.{ValidModel, ValidState, ValidTable}
 use Rattle.model.proofs.CheckLaws.{first-append, first-none, first-zero-append, fits-fault-none, fits-table-fault-none, numbered, table-fault-none}
 use Rattle.semantics.specs.Call.{Call, Kind, Lengths, hasBudget, hasRow, hasTable, hasVariable, isUnknown, kindOf, lengthsOf}
-use Rattle.semantics.specs.CallChecks.{callChecks, callFault, givenModel, isLent, lentTable, maxBudget, recordChecks}
+use Rattle.semantics.specs.CallChecks.{callChecks, callFault, givenModel, isLent, lentTable, listedChecks, listedFault, maxBudget, recordChecks}
 use Rattle.semantics.specs.TwoRuns.{HandedIn}
 
 -- ---- the buffers that a call is lent are the state's
@@ -154,6 +154,17 @@ accepted-split s c =
 given-own : (k : Kind) (s : State) (c : Call) → Lent k s c → givenModel s c ≡ s .model
 unfolding givenModel
 given-own k s c l = rw (l .variables, l .rows)
+
+-- and then only the own checks of a call that a list makes can refuse it
+pub fault-listed-own : (s : State) (c : Call) → ValidState s → c .n ≡ s .model .n → c .m ≡ s .model .m → c .lengths ≡ lengthsOf s
+    → listedFault s c ≡ first (listedChecks (kindOf (c .kind)) s c)
+unfolding listedFault lentTable modelFault
+fault-listed-own s c v n m l =
+    let k = kindOf (c .kind) in
+    let o = lent-own n m l in
+    rw (given-own k s c o, T→true (isLent k s c) (lent-test k s c .1 o))
+    (first-append (modelChecks (s .model) (lentTable k s) true) (listedChecks k s c) (numbered-model (s .model) (lentTable k s) true)
+    ∙ rw (table-test (s .model) (s .table) (hasTable k) true .1 (v .model, (λ _. v .table), tt)))
 
 pub accepted : (s : State) (c : Call) → callFault s c ≡ 0 → Accepted (kindOf (c .kind)) s c
 unfolding lentTable

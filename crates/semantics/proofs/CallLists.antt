@@ -1,5 +1,5 @@
 -- Call lists: a list is run exactly where the state is valid and its numbers are four to a record; then it is a run over its
--- records, else a run over none, so that demand 3 and all that runs keep hold over lists too. Assumes nothing.
+-- records that are not retired, else a run over none, so that demand 3 and all that runs keep hold over lists too. Assumes nothing.
 use Prim.Native.Nat.{_*_, _+_, _-_, _/_, _%_, _<_, _≤_, suc, zero, ℕ}
 use lib.Dec.{T, eqb, eqb→eq}
 use lib.IntN.{ℤ}
@@ -14,19 +14,20 @@ use Rattle.model.specs.Checks.{modelFault, table}
 use Rattle.model.specs.State.{State}
 use Rattle.model.specs.Valid.{ValidState}
 use Rattle.model.proofs.CheckLaws.{fits-table-fault-none}
-use Rattle.semantics.specs.Call.{Call, lengthsOf}
+use Rattle.semantics.specs.Call.{Call, isRetired, kindOf, lengthsOf}
 use Rattle.semantics.specs.CallChecks.{callFault}
-use Rattle.semantics.specs.CallList.{ListAnswer, ListRun, callsMade, listChecks, listFault, ran, recordAt, recordsFrom, recordsOf, refusedList, runList}
+use Rattle.semantics.specs.CallList.{ListAnswer, ListRun, callsMade, listChecks, listFault, ran, recordAt, recordsFrom, recordsOf, refusedList, runList, unretired}
 use Rattle.semantics.specs.Demand2.{Demand2}
 use Rattle.semantics.specs.Perform.{perform}
 use Rattle.semantics.specs.Points.{PointOf, TableHolds}
-use Rattle.semantics.specs.Run.{CallClass, Counts, answersNone, changedCall, classOf, countCall, infeasibleCall, isRefused, noCounts, refusedCall, run, sameState, step, tally, unchangedCall}
-use Rattle.semantics.specs.TwoLists.{CountsAddUp, Demand3Lists, ListMeans, TwoLists}
-use Rattle.semantics.specs.TwoRuns.{Demand3, HandedIn, Narrows}
+use Rattle.semantics.specs.Run.{CallClass, Counts, answersNone, changedCall, classListed, classOf, countCall, infeasibleCall, isRefused, noCounts, refusalOf, refusedCall, run, runListed, sameState, stepListed, tally, unchangedCall}
+use Rattle.semantics.specs.TwoLists.{CountsAddUp, Demand3Lists, ListMeans}
+use Rattle.semantics.specs.TwoRuns.{Demand3, Narrows}
 use Rattle.semantics.proofs.Demand2.{demand-2}
 use Rattle.semantics.proofs.Demand3.{demand-3}
 use Rattle.semantics.proofs.ImplicationLaws.{zeros-hold}
-use Rattle.semantics.proofs.Preserved.{Preserves, run-preserves, step-preserves}
+use Rattle.semantics.proofs.ListedLaws.{class-direct, class-listed-refused, listed-ind, retired-refused, run-rows, run-unretired, unretired-narrows}
+use Rattle.semantics.proofs.Preserved.{Preserves, preserves-refl, run-preserves, step-preserves}
 use Rattle.semantics.proofs.Tally.{count-total, tally-length, total}
 
 -- ---- which lists are run
@@ -45,7 +46,7 @@ list-accepted s xs =
 
 -- the two cases
 pub list-ind : (s : State) (xs : List ℕ) (P : ListRun → Type 0)
-    → (listFault s xs ≡ 0 → P (record { answer = ran (tally noCounts s (recordsOf s xs)); state = run s (recordsOf s xs) }))
+    → (listFault s xs ≡ 0 → P (record { answer = ran (tally noCounts s (recordsOf s xs)); state = runListed s (recordsOf s xs) }))
     → ((listFault s xs ≡ 0 → ⊥) → P (record { answer = refusedList (listFault s xs); state = s }))
     → P (runList s xs)
 unfolding runList
@@ -53,7 +54,7 @@ list-ind s xs P f g =
     cond-ind (eqb (listFault s xs) 0) _ _ P (λ t. f (eqb-test (listFault s xs) 0 .0 t)) (λ t. g (neqb→ne (listFault s xs) 0 t))
 
 pub list-runs : (s : State) (xs : List ℕ) → listFault s xs ≡ 0
-    → runList s xs ≡ record { answer = ran (tally noCounts s (recordsOf s xs)); state = run s (recordsOf s xs) }
+    → runList s xs ≡ record { answer = ran (tally noCounts s (recordsOf s xs)); state = runListed s (recordsOf s xs) }
 unfolding runList
 list-runs s xs e = rw e
 
@@ -64,8 +65,17 @@ list-refused s xs n = rw (test-false (eqb (listFault s xs) 0) (eqb-test (listFau
 -- it is a run over the calls that it makes
 pub list-made : (s : State) (xs : List ℕ) → runList s xs .state ≡ run s (callsMade s xs)
 unfolding callsMade run
-list-made s xs = list-ind s xs (λ r. r .state ≡ run s (callsMade s xs)) (λ e. rw e)
+list-made s xs = list-ind s xs (λ r. r .state ≡ run s (callsMade s xs)) (λ e. rw e (run-unretired s (recordsOf s xs)))
     (λ n. rw (test-false (eqb (listFault s xs) 0) (eqb-test (listFault s xs) 0) n))
+
+-- of which each accepted one narrows, so that no row changes
+pub list-narrows : (s : State) (xs : List ℕ) → Narrows s (callsMade s xs)
+unfolding callsMade Narrows
+list-narrows s xs =
+    cond-ind (eqb (listFault s xs) 0) (unretired (recordsOf s xs)) [] (Narrows s) (λ _. unretired-narrows s (recordsOf s xs)) (λ _. tt)
+
+pub list-rows : (s : State) (xs : List ℕ) → runList s xs .state .model .rows ≡ s .model .rows
+list-rows s xs = rw (list-made s xs) (run-rows s (callsMade s xs) (list-narrows s xs))
 
 -- ---- what every list keeps, refused or not: a valid state among it, so no later list is refused for its model
 
@@ -79,15 +89,11 @@ list-again s xs ys v e = list-accepted (runList s xs .state) ys .1 (list-preserv
 
 pub demand-3-lists : Demand3Lists
 unfolding Demand3Lists Demand3
-demand-3-lists s before one two g p1 p2 =
-    let r = runList s before .state in
-    let c = callsMade s before in
-    let c1 = callsMade r one in
-    let c2 = callsMade r two in
-    let e = list-made s before in
-    let e1 = list-made r one ∙ ap (λ (z : State). run z c1) e in
-    let e2 = list-made r two ∙ ap (λ (z : State). run z c2) e in
-    let t = demand-3 s c c1 c2 g (subst (λ (z : State). Narrows z c1) e p1) (subst (λ (z : State). Narrows z c2) e p2) in
+demand-3-lists s before one two g =
+    let r = run s before in
+    let e1 = list-made r one in
+    let e2 = list-made r two in
+    let t = demand-3 s before (callsMade r one) (callsMade r two) g (list-narrows r one) (list-narrows r two) in
     record {
       sameEnd = rw (e1, e2) (t .sameEnd);
       points1 = rw e1 (t .points1);
@@ -95,17 +101,6 @@ demand-3-lists s before one two g p1 p2 =
       implied1 = rw e1 (t .implied1);
       implied2 = rw e2 (t .implied2);
     }
-
--- nothing is asked of the records of lists that are refused as a whole
-no-call : (s : State) (xs : List ℕ) → (listFault s xs ≡ 0 → ⊥) → Narrows s (callsMade s xs)
-unfolding callsMade Narrows
-no-call s xs n = rw (test-false (eqb (listFault s xs) 0) (eqb-test (listFault s xs) 0) n) tt
-
-pub demand-3-refused : (s : State) (before one two : List ℕ) → HandedIn s
-    → (listFault (runList s before .state) one ≡ 0 → ⊥) → (listFault (runList s before .state) two ≡ 0 → ⊥) → TwoLists s before one two
-unfolding Demand3Lists
-demand-3-refused s before one two g n1 n2 =
-    let r = runList s before .state in demand-3-lists s before one two g (no-call r one n1) (no-call r two n2)
 
 -- ---- the four counts
 
@@ -128,28 +123,38 @@ counts-add-up s xs k = list-ind s xs (λ r. r .answer ≡ ran k → 4 * total k 
 
 -- a class other than None
 abbrev NotNone : CallClass → Type 0
-NotNone refusedCall = Unit {0}
+NotNone (refusedCall number) = Unit {0}
 NotNone infeasibleCall = ⊥
 NotNone changedCall = Unit {0}
 NotNone unchangedCall = Unit {0}
 
-is-none : (r a u : Bool) → cond r refusedCall (cond a infeasibleCall (cond u unchangedCall changedCall)) ≡ infeasibleCall → T a
-is-none true a u e = absurd (subst NotNone e tt)
-is-none false true u e = tt
-is-none false false true e = absurd (subst NotNone e tt)
-is-none false false false e = absurd (subst NotNone e tt)
+is-none : (r a u : Bool) (N : ℕ) → cond r (refusedCall N) (cond a infeasibleCall (cond u unchangedCall changedCall)) ≡ infeasibleCall → T a
+is-none true a u N e = absurd (subst NotNone e tt)
+is-none false true u N e = tt
+is-none false false true N e = absurd (subst NotNone e tt)
+is-none false false false N e = absurd (subst NotNone e tt)
 
 -- a call that counts as None is accepted, and answers None
 none-no-point : (s : State) (c : Call) → classOf s c ≡ infeasibleCall → (x : List ℤ) → PointOf s x → ⊥
 unfolding classOf perform answersNone Demand2
 none-no-point s c e x p =
-    let t = is-none (isRefused (perform s c .answer)) (answersNone (perform s c .answer)) (sameState s (step s c)) e in
+    let a = perform s c .answer in
+    let t = is-none (isRefused a) (answersNone a) (sameState s (perform s c .state)) (refusalOf a) e in
     ⊎-elim (λ h. demand-2 s c (eqb→eq (callFault s c) 0 h) .noPoint t x p) (λ h. absurd (rw (T→false (eqb (callFault s c) 0) h) at t))
     (decide (eqb (callFault s c) 0))
 
+listed-no-point : (s : State) (c : Call) → classListed s c ≡ infeasibleCall → (x : List ℤ) → PointOf s x → ⊥
+listed-no-point s c e x p = ⊎-elim
+    (λ t. subst NotNone (class-listed-refused s c (retired-refused s c t) .0 ∙ e) tt) (λ t. none-no-point s c (sym (class-direct s c t) ∙ e) x p)
+    (decide (isRetired (kindOf (c .kind))))
+
+-- a call that a list makes keeps what direct calls keep
+listed-preserves : (s : State) (c : Call) → Preserves s (stepListed s c)
+listed-preserves s c = listed-ind s c (Preserves s) (preserves-refl s) (step-preserves s c)
+
 counted-none : (q : CallClass) (k : Counts) → 0 < countCall q k .infeasibles → (q ≡ infeasibleCall) ⊎ (0 < k .infeasibles)
 unfolding countCall
-counted-none refusedCall k h = inr h
+counted-none (refusedCall number) k h = inr h
 counted-none infeasibleCall k h = inl refl
 counted-none changedCall k h = inr h
 counted-none unchangedCall k h = inr h
@@ -159,9 +164,9 @@ tally-none : (k : Counts) (s : State) (cs : List Call) → (0 < k .infeasibles �
 unfolding tally
 tally-none k s [] g h x p = g h x p
 tally-none k s (c ∷ cs) g h x p =
-    let o = step-preserves s c .points in
-    tally-none (countCall (classOf s c) k) (step s c) cs
-    (λ z y q. ⊎-elim (λ e. none-no-point s c e y (o y .0 q)) (λ w. g w y (o y .0 q)) (counted-none (classOf s c) k z)) h x (o x .1 p)
+    let o = listed-preserves s c .points in
+    tally-none (countCall (classListed s c) k) (stepListed s c) cs
+    (λ z y q. ⊎-elim (λ e. listed-no-point s c e y (o y .0 q)) (λ w. g w y (o y .0 q)) (counted-none (classListed s c) k z)) h x (o x .1 p)
 
 abbrev Ran : ListAnswer → Type 0
 Ran (refusedList number) = ⊥
@@ -181,6 +186,7 @@ list-means s xs =
           (λ _ e. absurd (subst Ran (sym e) tt));
       holds = holds;
       implied = λ e x o. holds x o (rw e (zeros-hold (s .model .n) (4 * (s .model .n * s .model .n)) x));
+      rows = list-rows s xs;
     }
 
 -- ---- a run record by record: before record i, the state is s and k are counted
@@ -192,7 +198,7 @@ pub record Along (s₀ : State) (xs : List ℕ) (s : State) (k : Counts) (i : �
   pub valid : ValidState s
   pub sizes : (s .model .n ≡ s₀ .model .n) × (s .model .m ≡ s₀ .model .m)
   -- what is left from here gives the whole
-  pub runs : run s (recordsFrom (length xs / 4 - i) s₀ xs i) ≡ run s₀ (recordsOf s₀ xs)
+  pub runs : runListed s (recordsFrom (length xs / 4 - i) s₀ xs i) ≡ runListed s₀ (recordsOf s₀ xs)
   pub tallies : tally k s (recordsFrom (length xs / 4 - i) s₀ xs i) ≡ tally noCounts s₀ (recordsOf s₀ xs)
 
 pub along-start : (s : State) (xs : List ℕ) → ValidState s → Along s xs s noCounts 0
@@ -212,16 +218,16 @@ same-record {s} {r} xs i v w e = rw (valid-lengths s v, valid-lengths r w, e .0,
 module _ (s₀ : State) (xs : List ℕ) (s : State) (k : Counts) (i : ℕ) (a : Along s₀ xs s k i) where
   -- record i counts as q and leaves r
   pub along-more : {r : State} {q : CallClass} {j : Counts} → i < length xs / 4
-      → (q ≡ classOf s (recordAt s xs i)) × (r ≡ step s (recordAt s xs i)) → j ≡ countCall q k → Along s₀ xs r j (i + 1)
-  unfolding recordsFrom run tally
+      → (q ≡ classListed s (recordAt s xs i)) × (r ≡ stepListed s (recordAt s xs i)) → j ≡ countCall q k → Along s₀ xs r j (i + 1)
+  unfolding recordsFrom runListed tally
   along-more h d g =
       let c = recordAt s xs i in
-      let p = step-preserves s c in
+      let p = listed-preserves s c in
       let e : length xs / 4 - i ≡ suc (length xs / 4 - (i + 1)) = omega arith in
       let f = same-record xs i (a .valid) (a .start) (a .sizes) in
       rw (g, d .0, d .1) (record {
         bound = omega arith;
-        counted = omega (arith, count-total (classOf s c) k, a .counted);
+        counted = omega (arith, count-total (classListed s c) k, a .counted);
         start = a .start;
         valid = p .valid (a .valid);
         sizes = (p .sizes .0 ∙ a .sizes .0, p .sizes .1 ∙ a .sizes .1);
@@ -230,7 +236,7 @@ module _ (s₀ : State) (xs : List ℕ) (s : State) (k : Counts) (i : ℕ) (a : 
       })
 
   pub along-end : length xs / 4 ≤ i → length xs % 4 ≡ 0 → record { answer = ran k; state = s } ≡ runList s₀ xs
-  unfolding recordsFrom run tally
+  unfolding recordsFrom runListed tally
   along-end h d =
       let e : length xs / 4 - i ≡ 0 = omega arith in
       sym (list-runs s₀ xs (list-accepted s₀ xs .1 (a .start, d)) ∙ rw (sym (a .runs), sym (a .tallies), e))

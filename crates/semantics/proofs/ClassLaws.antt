@@ -29,9 +29,9 @@ use Rattle.semantics.specs.Demand2.{ones}
 use Rattle.semantics.specs.Perform.{act, perform}
 use Rattle.semantics.specs.Probe.{ProbeEnding, bothFeasible, fix, fixed, infeasible, probe, recordTo}
 use Rattle.semantics.specs.Propagate.{isNone, propagate}
-use Rattle.semantics.specs.Run.{CallClass, answersNone, changedCall, classOf, infeasibleCall, isRefused, probeInfeasible, refusedCall, sameBytes, sameState, step, unchangedCall}
+use Rattle.semantics.specs.Run.{CallClass, answersNone, changedCall, classOf, infeasibleCall, isRefused, probeInfeasible, refusalOf, refusedCall, sameBytes, sameState, step, unchangedCall}
 use Rattle.semantics.proofs.Accepted.{Accepted, accepted}
-use Rattle.semantics.proofs.CallLaws.{perform-accepted, step-accepted, step-ind}
+use Rattle.semantics.proofs.CallLaws.{perform-accepted, step-ind}
 use Rattle.semantics.proofs.ImplicationLaws.{recordTo-added, recordTo-same}
 use Rattle.semantics.proofs.ProbeLaws.{at-fix, probe-ind}
 use Rattle.semantics.proofs.PropagateLaws.{propagate-ind, propagate-moved-iff, propagate-shrinks}
@@ -180,7 +180,7 @@ module _ (s : State) (c : Call) (e : callFault s c ≡ 0) where
   class-of : (k : Kind) → kindOf (c .kind) ≡ k → T (not (isRefused (act k s c .answer)))
       → classOf s c ≡ classBy (answersNone (act k s c .answer)) (sameState s (act k s c .state))
   unfolding classOf
-  class-of k q t = rw (step-accepted s c e, perform-accepted s c e, q, T→false (isRefused (act k s c .answer)) t)
+  class-of k q t = rw (perform-accepted s c e, q, T→false (isRefused (act k s c .answer)) t)
 
   accepted-kind : (k : Kind) → kindOf (c .kind) ≡ k → Accepted k s c
   accepted-kind k q = subst (λ (z : Kind). Accepted z s c) q (accepted s c e)
@@ -247,7 +247,7 @@ module _ (s : State) (c : Call) (e : callFault s c ≡ 0) where
 
 -- ---- a refused call
 
-pub class-refused : (s : State) (c : Call) → (callFault s c ≡ 0 → ⊥) → (refusedCall ≡ classOf s c) × (s ≡ step s c)
-unfolding classOf perform isRefused
+pub class-refused : (s : State) (c : Call) → (callFault s c ≡ 0 → ⊥) → (refusedCall (callFault s c) ≡ classOf s c) × (s ≡ step s c)
+unfolding classOf perform isRefused refusalOf
 class-refused s c n =
     (rw (test-false (eqb (callFault s c) 0) (eqb-test (callFault s c) 0) n), step-ind s c (λ (r : State). s ≡ r) (λ e. absurd (n e)) refl)

@@ -1,12 +1,12 @@
 -- Demand 1: the checks of a call stand in the order of their places, so the first that fails is the one with the least place.
 use Prim.Native.Nat.{_*_, _+_, _/_, _<_, _≤_, ℕ}
-use lib.Dec.{T, eqb, eqb→eq, leb, ltb}
+use lib.Dec.{T, eqb, eqb→eq, leb}
 use lib.IntN.{ℤ}
 use lib.ListN.{length}
 use lib.Signed.{_≤ℤ_, leZ}
-use mathlib.Core.Bool.{_&&_, _||_, not, true}
-use mathlib.Core.List.{List, [], _∷_}
-use mathlib.Core.Logic.{Iff·trans, _↔_}
+use mathlib.Core.Bool.{_&&_, _||_, cond, false, not, true}
+use mathlib.Core.List.{List, _++_, _∷_}
+use mathlib.Core.Logic.{Iff·trans, _↔_, _≢_, _⊎_, inl, inr, ⊎-elim}
 use mathlib.Core.Path.{_∙_, _≡_, ap, refl, subst, sym}
 use native.Mathlib.Decide.{decLt, ℕ-discrete}
 use native.Mathlib.Omega.{arith}
@@ -18,20 +18,20 @@ use Rattle.model.specs.Limits.{maxBound, maxCoef, maxRhs, maxRows, maxVariables
 use Rattle.model.specs.Places.{place}
 use Rattle.model.specs.State.{State}
 use Rattle.model.proofs.BoxLaws.{isEmpty-test}
-use Rattle.model.proofs.CheckLaws.{bits-test, first-none, inRange-test, length-test, narrow-test, size-test}
-use Rattle.model.proofs.PlaceLaws.{AllPass, first-before, first-fails, hold-pass, place-injective}
-use Rattle.semantics.specs.Call.{Call, Kind, hasBudget, hasRow, hasTable, hasVariable, isUnknown, kindOf, probing, propagation, removal, rowPropagation, tightening, unknown}
-use Rattle.semantics.specs.CallChecks.{callChecks, callFault, givenModel, isLent, lentTable, maxBudget, recordChecks}
-use Rattle.semantics.specs.Demand1.{Demand1, LengthsFit, Passes}
-use Rattle.semantics.specs.Perform.{Answer, Performed, act, perform, refused}
+use Rattle.model.proofs.CheckLaws.{bits-test, first-none, inRange-test, length-test, narrow-test, numbered, size-test}
+use Rattle.model.proofs.PlaceLaws.{AllPass, first-before, first-fails, hold-pass, place-injective, placedFrom}
+use Rattle.semantics.specs.Call.{Call, Kind, hasBudget, hasRow, hasTable, hasVariable, isRetired, isUnknown, kindOf, probing, propagation, removal, rowPropagation, tightening, unknown}
+use Rattle.semantics.specs.CallChecks.{callChecks, callFault, fieldChecks, givenModel, isLent, kindCheck, lentTable, listedChecks, listedFault, maxBudget, recordChecks}
+use Rattle.semantics.specs.Demand1.{Demand1, Demand1Lists, LengthsFit, Passes, PassesListed, Refusals}
+use Rattle.semantics.specs.Perform.{Answer, Performed, act, perform, performListed, refused}
 use Rattle.semantics.specs.Run.{isRefused}
 use Rattle.semantics.proofs.Accepted.{accepted, lent-test}
 
 -- ---- what the tests of a call say
 
 -- the checks of a call, with those of the table in every call: they pass where it is lent none
-abbrev flatChecks : Kind → State → Call → List Check
-flatChecks k s c =
+abbrev flatFrom : List Check → Kind → State → Call → List Check
+flatFrom own k s c =
     must (leb 1 (c .n) && leb (c .n) maxVariables && leb (c .m) maxRows) 3
     ∷ must (eqb (length (s .model .box)) (2 * c .n) && eqb (length (s .model .rows .coefs)) (c .m * c .n) && eqb (length (s .model .rows .rhs)) (c .m)
     && eqb (length (s .model .rows .kinds)) (c .m)) 5
@@ -44,12 +44,14 @@ flatChecks k s c =
     ∷ must (inRange minRhs maxRhs (s .model .rows .rhs)) 9
     ∷ must (bits (s .model .rows .kinds)) 16
     ∷ must (not (hasTable k) || bits (s .table)) 10
-    ∷ must (not (isUnknown k)) 11
-    ∷ must (not (hasRow k) || ltb (c .row) (s .model .m)) 12
-    ∷ must (not (hasVariable k) || ltb (c .variable) (s .model .n)) 13
-    ∷ must (not (hasVariable k) || (isEmpty (s .model .n) (s .model .box) || isFree (s .model .box) (c .variable))) 14
-    ∷ must (not (hasBudget k) || (leb 1 (c .budget) && leb (c .budget) maxBudget)) 15
-    ∷ []
+    ∷ own
+
+-- of a direct call, and of a call that a list makes
+abbrev flatChecks : Kind → State → Call → List Check
+flatChecks k s c = flatFrom (kindCheck k ∷ fieldChecks k s c) k s c
+
+abbrev flatListed : Kind → State → Call → List Check
+flatListed k s c = flatFrom (kindCheck k ∷ must (not (isRetired k)) 18 ∷ fieldChecks k s c) k s c
 
 flat : (k : Kind) (s : State) (c : Call) → first (callChecks k s c) ≡ first (flatChecks k s c)
 unfolding first callChecks givenModel recordChecks modelChecks sizeChecks lengthChecks tableLengthChecks boxChecks numberChecks tableByteChecks lentTable hasTable
@@ -59,6 +61,16 @@ flat probing s c = refl
 flat tightening s c = refl
 flat removal s c = refl
 flat unknown s c = refl
+
+flat-listed : (k : Kind) (s : State) (c : Call)
+    → first (modelChecks (givenModel s c) (lentTable k s) (isLent k s c) ++ listedChecks k s c) ≡ first (flatListed k s c)
+unfolding first givenModel listedChecks modelChecks sizeChecks lengthChecks tableLengthChecks boxChecks numberChecks tableByteChecks lentTable hasTable
+flat-listed rowPropagation s c = refl
+flat-listed propagation s c = refl
+flat-listed probing s c = refl
+flat-listed tightening s c = refl
+flat-listed removal s c = refl
+flat-listed unknown s c = refl
 
 lengths-test : (s : State) (c : Call)
     → (T (eqb (length (s .model .box)) (2 * c .n) && eqb (length (s .model .rows .coefs)) (c .m * c .n) && eqb (length (s .model .rows .rhs)) (c .m)
@@ -117,6 +129,23 @@ kind-test k =
     let m1 = neqb→ne k 1 n1 in let m2 = neqb→ne k 2 n2 in let m3 = neqb→ne k 3 n3 in let m4 = neqb→ne k 4 n4 in let m5 = neqb→ne k 5 n5 in
     ((λ z. absurd z), (λ h. absurd (let z : ⊥ = omega arith in z))))))))
 
+-- 4 and 5 alone are retired
+is-retired : (k i : ℕ) → (i ≡ 4) ⊎ (i ≡ 5) → T (eqb k i) → T false ↔ ((k ≢ 4) × (k ≢ 5))
+is-retired k i d e = let q = eqb→eq k i e in ((λ z. absurd z), (λ h. ⊎-elim (λ f. absurd (h .0 (q ∙ f))) (λ f. absurd (h .1 (q ∙ f))) d))
+
+is-other : (k i : ℕ) → i ≢ 4 → i ≢ 5 → T (eqb k i) → T true ↔ ((k ≢ 4) × (k ≢ 5))
+is-other k i a b e = let q = eqb→eq k i e in ((λ _. ((λ f. a (sym q ∙ f)), (λ f. b (sym q ∙ f)))), (λ _. tt))
+
+retired-test : (k : ℕ) → T (not (isRetired (kindOf k))) ↔ ((k ≢ 4) × (k ≢ 5))
+unfolding kindOf isRetired
+retired-test k =
+    let P : Kind → Type 0 = λ q. T (not (isRetired q)) ↔ ((k ≢ 4) × (k ≢ 5)) in
+    cond-ind (eqb k 1) _ _ P (is-other k 1 (λ e. omega arith) (λ e. omega arith)) (λ _.
+    cond-ind (eqb k 2) _ _ P (is-other k 2 (λ e. omega arith) (λ e. omega arith)) (λ _.
+    cond-ind (eqb k 3) _ _ P (is-other k 3 (λ e. omega arith) (λ e. omega arith)) (λ _.
+    cond-ind (eqb k 4) _ _ P (is-retired k 4 (inl refl)) (λ n4.
+    cond-ind (eqb k 5) _ _ P (is-retired k 5 (inr refl)) (λ n5. ((λ _. (neqb→ne k 4 n4, neqb→ne k 5 n5)), (λ _. tt)))))))
+
 -- ---- number by number
 
 also : {A B : Type 0} → A → B → A × B
@@ -163,46 +192,54 @@ passes-test N s c =
           (also (λ e. t14 .1 (q .check14 e)) (also (λ e. t15 .1 (q .check15 e)) tt)))))))))))))))),
     )
 
+-- 18 stands between 11 and 12
+listed-test : (N : ℕ) (s : State) (c : Call) → AllPass N (flatListed (kindOf (c .kind)) s c) ↔ PassesListed N s c
+listed-test N s c =
+    let d = passes-test N s c in
+    let t18 = retired-test (c .kind) in (
+      (λ (p3, (p5, (p5′, (p5″, (p6, (p7, (p23, (p8, (p9, (p16, (p10, (p11, (p18, own))))))))))))). record {
+        others = d .0 (also p3 (also p5 (also p5′ (also p5″ (also p6 (also p7 (also p23 (also p8 (also p9 (also p16 (also p10 (also p11 own))))))))))));
+        check18 = λ e. t18 .0 (p18 e);
+      }),
+      (λ q. with-18 (λ e. t18 .1 (q .check18 e)) (d .1 (q .others))),
+    )
+  where
+    with-18 : (N ≡ 18 → T (not (isRetired (kindOf (c .kind))))) → AllPass N (flatChecks (kindOf (c .kind)) s c) → AllPass N (flatListed (kindOf (c .kind)) s c)
+    with-18 p18 (p3, (p5, (p5′, (p5″, (p6, (p7, (p23, (p8, (p9, (p16, (p10, (p11, own)))))))))))) =
+        also p3 (also p5 (also p5′ (also p5″ (also p6 (also p7 (also p23 (also p8 (also p9 (also p16 (also p10 (also p11 (also p18 own))))))))))))
+
 -- ---- the number of the first check that fails
 
-module _ (s : State) (c : Call) where
-  checks : List Check
-  checks = flatChecks (kindOf (c .kind)) s c
+-- of checks that stand in their places, of which number N passes exactly where Pass N
+module _ (checks : List Check) (Pass : ℕ → Type 0) (test : (N : ℕ) → AllPass N checks ↔ Pass N)
+    (some : T (numbered checks)) (placed : T (placedFrom 0 checks)) where
+  none-passes : first checks ≡ 0 → (N : ℕ) → Pass N
+  none-passes e N = test N .0 (hold-pass N checks (first-none checks some .0 e))
 
-  fault : callFault s c ≡ first checks
-  unfolding callFault checks
-  fault = flat (kindOf (c .kind)) s c
+  before-passes : (N : ℕ) → place N < place (first checks) → Pass N
+  before-passes N h = test N .0 (first-before N 0 checks placed h)
 
-  none-passes : callFault s c ≡ 0 → (N : ℕ) → Passes N s c
-  unfolding checks
-  none-passes e N = passes-test N s c .0 (hold-pass N checks (first-none checks tt .0 (sym fault ∙ e)))
+  fault-fails : (first checks ≡ 0 → ⊥) → Pass (first checks) → ⊥
+  fault-fails n p = first-fails checks n (test (first checks) .1 p)
 
-  before-passes : (N : ℕ) → place N < place (callFault s c) → Passes N s c
-  unfolding checks place
-  before-passes N h = passes-test N s c .0 (first-before N 0 checks tt (rw fault at h))
-
-  fault-fails : (callFault s c ≡ 0 → ⊥) → Passes (callFault s c) s c → ⊥
-  unfolding checks
-  fault-fails n p = first-fails checks (λ e. n (fault ∙ e)) (rw fault at (passes-test (callFault s c) s c .1 p))
-
-  all-pass : ((N : ℕ) → Passes N s c) → callFault s c ≡ 0
-  all-pass f = decided (ℕ-discrete (callFault s c) 0)
+  all-pass : ((N : ℕ) → Pass N) → first checks ≡ 0
+  all-pass f = decided (ℕ-discrete (first checks) 0)
     where
-      decided : Dec (callFault s c ≡ 0) → callFault s c ≡ 0
+      decided : Dec (first checks ≡ 0) → first checks ≡ 0
       decided (yes e) = e
-      decided (no n) = absurd (fault-fails n (f (callFault s c)))
+      decided (no n) = absurd (fault-fails n (f (first checks)))
 
-  number-iff : (N : ℕ) → ((callFault s c ≡ N) × (callFault s c ≡ 0 → ⊥)) ↔ ((Passes N s c → ⊥) × ((M : ℕ) → place M < place N → Passes M s c))
+  number-iff : (N : ℕ) → ((first checks ≡ N) × (first checks ≡ 0 → ⊥)) ↔ ((Pass N → ⊥) × ((M : ℕ) → place M < place N → Pass M))
   number-iff N = (
     (λ h. ((λ p. fault-fails (h .1) (rw (h .0) p)), (λ M l. before-passes M (omega (arith, ap place (h .0)))))),
-    (λ h. let n : callFault s c ≡ 0 → ⊥ = (λ e. h .0 (none-passes e N)) in (least h n (decLt (place (callFault s c)) (place N)) (decLt (place N) (place (callFault s c))), n)),
+    (λ h. let n : first checks ≡ 0 → ⊥ = (λ e. h .0 (none-passes e N)) in (least h n (decLt (place (first checks)) (place N)) (decLt (place N) (place (first checks))), n)),
   )
     where
-      least : (Passes N s c → ⊥) × ((M : ℕ) → place M < place N → Passes M s c) → (callFault s c ≡ 0 → ⊥)
-          → Dec (place (callFault s c) < place N) → Dec (place N < place (callFault s c)) → callFault s c ≡ N
-      least h n (yes l) d = absurd (fault-fails n (h .1 (callFault s c) l))
+      least : (Pass N → ⊥) × ((M : ℕ) → place M < place N → Pass M) → (first checks ≡ 0 → ⊥)
+          → Dec (place (first checks) < place N) → Dec (place N < place (first checks)) → first checks ≡ N
+      least h n (yes l) d = absurd (fault-fails n (h .1 (first checks) l))
       least h n (no l) (yes g) = absurd (h .0 (before-passes N g))
-      least h n (no l) (no g) = place-injective (callFault s c) N (omega arith)
+      least h n (no l) (no g) = place-injective (first checks) N (omega arith)
 
 -- ---- the answer
 
@@ -215,38 +252,58 @@ act-answers tightening s c o t = t
 act-answers removal s c o t = t
 act-answers unknown s c o t = o
 
-module _ (s : State) (c : Call) where
-  accepted-answers : callFault s c ≡ 0 → T (isRefused (act (kindOf (c .kind)) s c .answer)) → ⊥
-  accepted-answers e = act-answers (kindOf (c .kind)) s c (accepted s c e .kind)
+-- what a call on s does that fault refuses, and that otherwise does q
+abbrev unlessRefused : State → ℕ → Performed → Performed
+unlessRefused s fault q = cond (eqb fault 0) q (record { answer = refused fault; state = s })
 
-  refused-iff : (N : ℕ) → (perform s c .answer ≡ refused N) ↔ ((callFault s c ≡ N) × (callFault s c ≡ 0 → ⊥))
-  unfolding perform isRefused
+module _ (s : State) (fault : ℕ) (q : Performed) (answers : fault ≡ 0 → T (isRefused (q .answer)) → ⊥) where
+  refused-iff : (N : ℕ) → (unlessRefused s fault q .answer ≡ refused N) ↔ ((fault ≡ N) × (fault ≡ 0 → ⊥))
+  unfolding isRefused
   refused-iff N =
-      cond-ind (eqb (callFault s c) 0) _ _ (λ (r : Performed). (r .answer ≡ refused N) ↔ ((callFault s c ≡ N) × (callFault s c ≡ 0 → ⊥)))
-      (λ z. let e = eqb→eq (callFault s c) 0 z in (
-        (λ a. absurd (accepted-answers e (subst (λ (b : Answer). T (isRefused b)) (sym a) tt))),
+      cond-ind (eqb fault 0) _ _ (λ (r : Performed). (r .answer ≡ refused N) ↔ ((fault ≡ N) × (fault ≡ 0 → ⊥)))
+      (λ z. let e = eqb→eq fault 0 z in (
+        (λ a. absurd (answers e (subst (λ (b : Answer). T (isRefused b)) (sym a) tt))),
         (λ h. absurd (h .1 e)),
       ))
-      (λ z. ((λ a. (cc, neqb→ne (callFault s c) 0 z)), (λ h. ap refused (h .0))))
+      (λ z. ((λ a. (cc, neqb→ne fault 0 z)), (λ h. ap refused (h .0))))
 
-  answered-iff : (callFault s c ≡ 0) ↔ (T (isRefused (perform s c .answer)) → ⊥)
-  unfolding perform isRefused
+  answered-iff : (fault ≡ 0) ↔ (T (isRefused (unlessRefused s fault q .answer)) → ⊥)
+  unfolding isRefused
   answered-iff =
-      cond-ind (eqb (callFault s c) 0) _ _ (λ (r : Performed). (callFault s c ≡ 0) ↔ (T (isRefused (r .answer)) → ⊥))
-      (λ z. (accepted-answers, (λ _. eqb→eq (callFault s c) 0 z)))
-      (λ z. ((λ e _. neqb→ne (callFault s c) 0 z e), (λ f. absurd (f tt))))
+      cond-ind (eqb fault 0) _ _ (λ (r : Performed). (fault ≡ 0) ↔ (T (isRefused (r .answer)) → ⊥))
+      (λ z. (answers, (λ _. eqb→eq fault 0 z)))
+      (λ z. ((λ e _. neqb→ne fault 0 z e), (λ f. absurd (f tt))))
 
-  refused-keeps : T (isRefused (perform s c .answer)) → perform s c .state ≡ s
-  unfolding perform
+  refused-keeps : T (isRefused (unlessRefused s fault q .answer)) → unlessRefused s fault q .state ≡ s
   refused-keeps =
-      cond-ind (eqb (callFault s c) 0) _ _ (λ (r : Performed). T (isRefused (r .answer)) → r .state ≡ s)
-      (λ z t. absurd (accepted-answers (eqb→eq (callFault s c) 0 z) t)) (λ _ _. refl)
+      cond-ind (eqb fault 0) _ _ (λ (r : Performed). T (isRefused (r .answer)) → r .state ≡ s)
+      (λ z t. absurd (answers (eqb→eq fault 0 z) t)) (λ _ _. refl)
+
+-- both together
+refusals : (s : State) (checks : List Check) (Pass : ℕ → Type 0) → ((N : ℕ) → AllPass N checks ↔ Pass N) → T (numbered checks)
+    → T (placedFrom 0 checks) → (q : Performed) → (first checks ≡ 0 → T (isRefused (q .answer)) → ⊥)
+    → Refusals s Pass (first checks) (unlessRefused s (first checks) q)
+refusals s checks Pass test some placed q answers = record {
+  first = λ N. Iff·trans (refused-iff s (first checks) q answers N) (number-iff checks Pass test some placed N);
+  accepted = (none-passes checks Pass test some placed, all-pass checks Pass test some placed);
+  answered = answered-iff s (first checks) q answers;
+  kept = refused-keeps s (first checks) q answers;
+}
+
+callFault-is : (s : State) (c : Call) → callFault s c ≡ first (flatChecks (kindOf (c .kind)) s c)
+unfolding callFault
+callFault-is s c = flat (kindOf (c .kind)) s c
 
 pub demand-1 : Demand1
-unfolding Demand1
-demand-1 s c = record {
-  first = λ N. Iff·trans (refused-iff s c N) (number-iff s c N);
-  accepted = (none-passes s c, all-pass s c);
-  answered = answered-iff s c;
-  kept = refused-keeps s c;
-}
+unfolding Demand1 perform callFault place
+demand-1 s c =
+    let k = kindOf (c .kind) in
+    rw (flat k s c) (refusals s (flatChecks k s c) (λ N. Passes N s c) (λ N. passes-test N s c) tt tt (act k s c)
+    (λ e. act-answers k s c (accepted s c (callFault-is s c ∙ e) .kind)))
+
+pub demand-1-lists : Demand1Lists
+unfolding Demand1Lists performListed listedFault place
+demand-1-lists s c =
+    let k = kindOf (c .kind) in
+    rw (flat-listed k s c) (refusals s (flatListed k s c) (λ N. PassesListed N s c) (λ N. listed-test N s c) tt tt (act k s c)
+    (λ e. act-answers k s c (kind-test (c .kind) .1 (none-passes (flatListed k s c) (λ N. PassesListed N s c) (λ N. listed-test N s c) tt tt e 11 .others .check11 refl))))

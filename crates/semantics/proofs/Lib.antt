@@ -12,6 +12,7 @@ pub mod ProbeLaws
 pub mod Convergence
 pub mod Endings
 pub mod CallLaws
+pub mod ListedLaws
 pub mod Preserved
 pub mod RestAnswer
 pub mod Reachability

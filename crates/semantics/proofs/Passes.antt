@@ -21,9 +21,9 @@ use Rattle.model.specs.Valid.{ValidBox}
 use Rattle.model.proofs.BoxLaws.{isEmpty-empty, isEmpty→eq, nonEmpty-isn't, not-in-empty}
 use Rattle.model.proofs.CheckLaws.{valid-width}
 use Rattle.row.proofs.Width.{width-mono, width-nonneg}
-use Rattle.semantics.specs.Call.{Call, Kind, hasBudget, hasVariable, isUnknown, kindOf, probing, propagation, removal, rowPropagation, tightening, unknown}
+use Rattle.semantics.specs.Call.{Call, Kind, hasBudget, hasVariable, isRetired, isUnknown, kindOf, probing, propagation, removal, rowPropagation, tightening, unknown}
 use Rattle.semantics.specs.CallChecks.{callFault}
-use Rattle.semantics.specs.CallList.{callsMade, listFault, recordAt, recordsFrom, recordsOf}
+use Rattle.semantics.specs.CallList.{callsMade, listFault, recordAt, recordsFrom, recordsOf, unretired}
 use Rattle.semantics.specs.Convergence.{EnoughPasses}
 use Rattle.semantics.specs.Passes.{ListPassesWithin, NeverSpent, RunPassesWithin, callLimit, callsLimit, enoughBudget, lesser, limitTo, passLimit, passesMade, passesOf, totalWidth}
 use Rattle.semantics.specs.Perform.{Performed, act, perform}
@@ -204,14 +204,24 @@ records-limit w s xs (suc count) i =
     let r = records-limit w s xs count (i + 1) in
     rw (← e) (omega arith)
 
+-- a record of a retired kind makes no pass, and none is counted for it
+unretired-limit : (w : ℕ) (cs : List Call) → callsLimit w (unretired cs) ≤ callsLimit w cs
+unfolding callsLimit unretired
+unretired-limit w [] = omega arith
+unretired-limit w (c ∷ cs) =
+    cond-ind (isRetired (kindOf (c .kind))) (unretired cs) (c ∷ unretired cs)
+    (λ ds. callsLimit w ds ≤ callLimit w (kindOf (c .kind)) (c .budget) + callsLimit w cs)
+    (λ _. omega (arith, unretired-limit w cs))
+    (λ _. omega (arith, unretired-limit w cs))
+
 pub list-passes-within : ListPassesWithin
 unfolding ListPassesWithin passLimit callsMade recordsOf passesMade limitTo
 list-passes-within s xs =
     let w = totalWidth (s .model .n) (s .model .box) in
     let R : List Call = recordsFrom (length xs / 4) s xs 0 in
-    cond-ind (eqb (listFault s xs) 0) R [] (λ cs. passesMade s cs ≤ limitTo w (length xs / 4) xs)
+    cond-ind (eqb (listFault s xs) 0) (unretired R) [] (λ cs. passesMade s cs ≤ limitTo w (length xs / 4) xs)
     (λ _. let z : 0 + length xs / 4 ≡ length xs / 4 = omega arith in
-    omega (arith, run-within w s R (omega arith), rw z at (records-limit w s xs (length xs / 4) 0)))
+    omega (arith, run-within w s (unretired R) (omega arith), unretired-limit w R, rw z at (records-limit w s xs (length xs / 4) 0)))
     (λ _. omega arith)
 
 -- ---- the budget that is never spent

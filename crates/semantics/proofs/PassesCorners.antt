@@ -13,9 +13,9 @@ use Rattle.row.specs.Moved.{differs, movedBounds}
 use Rattle.row.specs.Outcome.{isChanged, isInfeasible}
 use Rattle.row.specs.Propagation.{impliedBox, newLower, newUpper, propagateRow, stays}
 use Rattle.semantics.specs.Books.{AllHold, fresh, freshKinds}
-use Rattle.semantics.specs.Call.{hasBudget, hasRow, hasTable, hasVariable, isUnknown, kindOf, lengthsOf}
+use Rattle.semantics.specs.Call.{hasBudget, hasRow, hasTable, hasVariable, isRetired, isUnknown, kindOf, lengthsOf}
 use Rattle.semantics.specs.CallChecks.{callChecks, callFault, givenModel, isLent, lentTable, recordChecks}
-use Rattle.semantics.specs.CallList.{callsMade, listChecks, listFault, recordAt, recordsFrom, recordsOf}
+use Rattle.semantics.specs.CallList.{callsMade, listChecks, listFault, recordAt, recordsFrom, recordsOf, unretired}
 use Rattle.semantics.specs.Corners.{either, emptied, falling}
 use Rattle.semantics.specs.Passes.{callLimit, enoughBudget, lesser, limitTo, passLimit, passesMade, passesOf, totalWidth}
 use Rattle.semantics.specs.PassesCorners.{passesCorners}
@@ -26,5 +26,5 @@ use Rattle.semantics.specs.Run.{step}
 use Rattle.semantics.specs.WorkedBooks.{binary2, empty2, single}
 
 pub passes-corners-hold : AllHold passesCorners
-unfolding either emptied callsMade listChecks listFault recordAt recordsFrom recordsOf modelChecks modelFault binary2 empty2 single fresh freshKinds callChecks callFault givenModel isLent lentTable recordChecks act perform byteOf fix hull implies isFixed joinSides literal probe put recordSide recordTo sideOf isNone isSpent passRow passTo propagate propagateFrom step hasBudget hasRow hasTable hasVariable isUnknown kindOf lengthsOf stateOf withBox isInfeasible impliedBox newLower newUpper propagateRow stays minActivity minTerm rowOf bits first inRange lengthChecks boxChecks narrow numberChecks ordered sizeChecks tableByteChecks tableLengthChecks boxOf emptyBox isEmpty isFree sameList eqZ maxZ minZ all sum ceilDiv floorDiv falling differs movedBounds isEquality propagateRowOf isChanged passesCorners callLimit enoughBudget lesser limitTo passLimit passesMade passesOf totalWidth width
+unfolding either emptied callsMade unretired isRetired listChecks listFault recordAt recordsFrom recordsOf modelChecks modelFault binary2 empty2 single fresh freshKinds callChecks callFault givenModel isLent lentTable recordChecks act perform byteOf fix hull implies isFixed joinSides literal probe put recordSide recordTo sideOf isNone isSpent passRow passTo propagate propagateFrom step hasBudget hasRow hasTable hasVariable isUnknown kindOf lengthsOf stateOf withBox isInfeasible impliedBox newLower newUpper propagateRow stays minActivity minTerm rowOf bits first inRange lengthChecks boxChecks narrow numberChecks ordered sizeChecks tableByteChecks tableLengthChecks boxOf emptyBox isEmpty isFree sameList eqZ maxZ minZ all sum ceilDiv floorDiv falling differs movedBounds isEquality propagateRowOf isChanged passesCorners callLimit enoughBudget lesser limitTo passLimit passesMade passesOf totalWidth width
 passes-corners-hold = (refl, (refl, (refl, (refl, (refl, (refl, (refl, (refl, (refl, (refl, (refl, (refl, (refl, (refl, (refl, (refl, (refl, (refl, (refl, (refl, (refl, (refl, (refl, (refl, tt))))))))))))))))))))))))

@@ -35,7 +35,7 @@ pub record Preserves (s r : State) : Type 0 where
   pub holds : (x : List ℤ) → PointOf s x → TableHolds (s .model .n) (s .table) x → TableHolds (r .model .n) (r .table) x
   pub valid : ValidState s → ValidState r
 
-preserves-refl : (s : State) → Preserves s s
+pub preserves-refl : (s : State) → Preserves s s
 preserves-refl s =
     record { sizes = (refl, refl); points = λ x. ((λ p. p), (λ p. p)); fractional = λ x d p. p; holds = λ x p i. i; valid = λ v. v }
 

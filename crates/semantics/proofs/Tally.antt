@@ -6,14 +6,14 @@ use mathlib.Core.Path.{_≡_}
 use native.Mathlib.Omega.{arith}
 use Rattle.model.specs.State.{State}
 use Rattle.semantics.specs.Call.{Call}
-use Rattle.semantics.specs.Run.{CallClass, Counts, changedCall, classOf, countCall, infeasibleCall, noCounts, refusedCall, step, tally, unchangedCall}
+use Rattle.semantics.specs.Run.{CallClass, Counts, changedCall, classListed, countCall, infeasibleCall, noCounts, refusedCall, stepListed, tally, unchangedCall}
 
 abbrev pub total : Counts → ℕ
 total k = k .refusals + k .infeasibles + k .changes + k .unchanges
 
 pub count-total : (q : CallClass) (k : Counts) → total (countCall q k) ≡ total k + 1
 unfolding countCall
-count-total refusedCall k = omega arith
+count-total (refusedCall number) k = omega arith
 count-total infeasibleCall k = omega arith
 count-total changedCall k = omega arith
 count-total unchangedCall k = omega arith
@@ -21,7 +21,7 @@ count-total unchangedCall k = omega arith
 pub tally-total : (k : Counts) (s : State) (cs : List Call) → total (tally k s cs) ≡ total k + length cs
 unfolding tally
 tally-total k s [] = omega arith
-tally-total k s (c ∷ cs) = omega (arith, tally-total (countCall (classOf s c) k) (step s c) cs, count-total (classOf s c) k)
+tally-total k s (c ∷ cs) = omega (arith, tally-total (countCall (classListed s c) k) (stepListed s c) cs, count-total (classListed s c) k)
 
 pub tally-length : (s : State) (cs : List Call) → total (tally noCounts s cs) ≡ length cs
 unfolding noCounts

@@ -83,6 +83,15 @@ isUnknown tightening = false
 isUnknown removal = false
 isUnknown unknown = true
 
+-- "Kinds 4 and 5 are retired from run sheets." (02, C-16): a record of a list is of one of the others, or refused
+unfoldable pub isRetired : Kind → Bool
+isRetired rowPropagation = false
+isRetired propagation = false
+isRetired probing = false
+isRetired tightening = true
+isRetired removal = true
+isRetired unknown = false
+
 -- a call with the very n, m and buffer lengths of s; a field that the kind lacks is 0
 unfoldable pub callOf : State → ℕ → ℕ → ℕ → ℕ → Call
 callOf s kind row variable budget =

@@ -7,7 +7,7 @@ use Rattle.model.specs.Box.{isEmpty, isFree}
 use Rattle.model.specs.Checks.{Check, LentTable, first, modelChecks, must, none, table}
 use Rattle.model.specs.Model.{Model}
 use Rattle.model.specs.State.{State}
-use Rattle.semantics.specs.Call.{Call, Kind, hasBudget, hasRow, hasTable, hasVariable, isUnknown, kindOf, lengthsOf}
+use Rattle.semantics.specs.Call.{Call, Kind, hasBudget, hasRow, hasTable, hasVariable, isRetired, isUnknown, kindOf, lengthsOf}
 
 -- the largest budget, 01's: one more than 128 × 65,535, the most that bounds in range can be apart in all. "The largest budget
 -- remains" (02, C-22), though an accepted model is at most 128 × 4,096 wide (`LargestBudget`).
@@ -31,16 +31,27 @@ isLent k s c =
 unfoldable pub givenModel : State → Call → Model
 givenModel s c = record { n = c .n; m = c .m; box = s .model .box; rows = s .model .rows }
 
--- 11. The kind is not 1 to 5. 12. The row is not below m. 13. The variable is not below n. 14. In a box not void, the variable to
--- probe or sharpen is not free 0-1. 15. The budget is not 1 to 8,388,481. Each applies where the kind has the field.
-unfoldable pub recordChecks : Kind → State → Call → List Check
-recordChecks k s c =
-    must (not (isUnknown k)) 11
-    ∷ must (not (hasRow k) || ltb (c .row) (s .model .m)) 12
+-- 11. The kind is not 1 to 5.
+abbrev pub kindCheck : Kind → Check
+kindCheck k = must (not (isUnknown k)) 11
+
+-- 12. The row is not below m. 13. The variable is not below n. 14. In a box not void, the variable to probe or sharpen is not free
+-- 0-1. 15. The budget is not 1 to 8,388,481. Each applies where the kind has the field.
+abbrev pub fieldChecks : Kind → State → Call → List Check
+fieldChecks k s c =
+    must (not (hasRow k) || ltb (c .row) (s .model .m)) 12
     ∷ must (not (hasVariable k) || ltb (c .variable) (s .model .n)) 13
     ∷ must (not (hasVariable k) || (isEmpty (s .model .n) (s .model .box) || isFree (s .model .box) (c .variable))) 14
     ∷ must (not (hasBudget k) || (leb 1 (c .budget) && leb (c .budget) maxBudget)) 15
     ∷ []
+
+-- the own checks of a direct call
+unfoldable pub recordChecks : Kind → State → Call → List Check
+recordChecks k s c = kindCheck k ∷ fieldChecks k s c
+
+-- of a call that a list makes: "18, a retired kind in a sheet, straight after check 11" (02, C-16), whatever its fields and the box
+unfoldable pub listedChecks : Kind → State → Call → List Check
+listedChecks k s c = kindCheck k ∷ must (not (isRetired k)) 18 ∷ fieldChecks k s c
 
 -- those of the model, 10 where a table is lent, and then the call's own
 unfoldable pub callChecks : Kind → State → Call → List Check
@@ -49,3 +60,7 @@ callChecks k s c = modelChecks (givenModel s c) (lentTable k s) (isLent k s c) +
 -- the number by which the call is refused, 0 where it is accepted
 unfoldable pub callFault : State → Call → ℕ
 callFault s c = first (callChecks (kindOf (c .kind)) s c)
+
+-- the number by which a call of a list is refused, 0 where it is accepted
+unfoldable pub listedFault : State → Call → ℕ
+listedFault s c = let k = kindOf (c .kind) in first (modelChecks (givenModel s c) (lentTable k s) (isLent k s c) ++ listedChecks k s c)

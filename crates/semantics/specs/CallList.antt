@@ -6,8 +6,8 @@ use mathlib.Core.Bool.{cond}
 use mathlib.Core.List.{List, [], _∷_}
 use Rattle.model.specs.Checks.{Check, first, modelChecks, table}
 use Rattle.model.specs.State.{State}
-use Rattle.semantics.specs.Call.{Call, lengthsOf}
-use Rattle.semantics.specs.Run.{Counts, noCounts, run, tally}
+use Rattle.semantics.specs.Call.{Call, isRetired, kindOf, lengthsOf}
+use Rattle.semantics.specs.Run.{Counts, noCounts, runListed, tally}
 
 -- "kind, ..; row; variable; budget; each an unsigned number of 32 bits": record i of a flat list of numbers, four to a record, as a
 -- call on s
@@ -39,9 +39,15 @@ listChecks s xs = modelChecks (s .model) (table (s .table)) (eqb (length xs % 4)
 unfoldable pub listFault : State → List ℕ → ℕ
 listFault s xs = first (listChecks s xs)
 
--- the calls that a list makes: one for each record, none where it is refused as a whole
+-- the calls whose kind is not retired
+unfoldable pub unretired : List Call → List Call
+unretired [] = []
+unretired (c ∷ cs) = cond (isRetired (kindOf (c .kind))) (unretired cs) (c ∷ unretired cs)
+
+-- the calls that a list makes as direct calls are: one for each record that is not of a retired kind, none where it is refused as a
+-- whole (that its run is a run over them is proved as `list-made`)
 unfoldable pub callsMade : State → List ℕ → List Call
-callsMade s xs = cond (eqb (listFault s xs) 0) (recordsOf s xs) []
+callsMade s xs = cond (eqb (listFault s xs) 0) (unretired (recordsOf s xs)) []
 
 -- "if they fail, the sheet as a whole is refused"; else "four counts whose sum is the list's length"
 pub data ListAnswer : Type 0 where
@@ -56,5 +62,5 @@ pub record ListRun : Type 0 where
 unfoldable pub runList : State → List ℕ → ListRun
 runList s xs =
     cond (eqb (listFault s xs) 0)
-    (record { answer = ran (tally noCounts s (recordsOf s xs)); state = run s (recordsOf s xs) })
+    (record { answer = ran (tally noCounts s (recordsOf s xs)); state = runListed s (recordsOf s xs) })
     (record { answer = refusedList (listFault s xs); state = s })

@@ -4,17 +4,16 @@ use lib.IntN.{negsuc, negℤ, pos, ℤ}
 use lib.ListN.{replicate, set}
 use mathlib.Core.Bool.{false, true}
 use mathlib.Core.List.{List, [], _∷_}
-use Rattle.model.specs.Rows.{rowWith}
-use Rattle.model.specs.State.{State, withBox, withRow}
+use Rattle.model.specs.State.{State, withBox}
 use Rattle.row.specs.Outcome.{changed, infeasible, unchanged}
 use Rattle.semantics.specs.Books.{Line, boxed, callOn, fresh, freshKinds, is, kept, probeCall, propagateCall, propagateRowCall, removeCall, rowed, tightenCall}
-use Rattle.semantics.specs.Call.{Call, Lengths}
+use Rattle.semantics.specs.Call.{Call, Lengths, callOf}
 use Rattle.semantics.specs.CallList.{callsMade, ran, refusedList, runList}
 use Rattle.semantics.specs.Perform.{perform, probed, propagated, propagatedRow, refused, removed, tightened}
 use Rattle.semantics.specs.Probe.{Side, bothFeasible, fixed, infeasible as bothInfeasible}
 use Rattle.semantics.specs.Propagate.{budgetSpent, converged, infeasible as none}
 use Rattle.semantics.specs.RestTest.{Rest, atRest, byRow, byVariable, isProbingFixpoint, restFault, restOf}
-use Rattle.semantics.specs.Run.{noCounts, tally}
+use Rattle.semantics.specs.Run.{changedCall, classListed, classOf, infeasibleCall, noCounts, refusedCall, step, tally, unchangedCall}
 use Rattle.semantics.specs.WorkedBooks.{binary2, chained, crossed, empty2, pair, single}
 
 -- x + y ≤ 1 on the empty box
@@ -294,18 +293,30 @@ corners =
     -- the four counts: a refused call, a None (that empties the box), a change, an unchanged call
     ∷ (let s = single (pos 2) (pos 5) (pos 0) (pos 5) in
     is (tally noCounts s (propagateRowCall s 1 ∷ propagateRowCall s 0 ∷ propagateRowCall s 0 ∷ removeCall s 0 ∷ []))
-    (record { refusals = 1; infeasibles = 0; changes = 2; unchanges = 1 }))
+    (record { refusals = 2; infeasibles = 0; changes = 1; unchanges = 1 }))
     ∷ (let s = single (pos 2) (negsuc 0) (pos 0) (pos 5) in
     is (tally noCounts s (propagateRowCall s 0 ∷ propagateRowCall s 0 ∷ removeCall s 0 ∷ propagateCall s 0 ∷ []))
-    (record { refusals = 1; infeasibles = 3; changes = 0; unchanges = 0 }))
-    -- a list of numbers, "kind, ..; row; variable; budget": a visit, two sharpens of row 0, three refused calls, a probe that
-    -- empties the box, and three calls more
+    (record { refusals = 2; infeasibles = 2; changes = 0; unchanges = 0 }))
+    -- a list of numbers, "kind, ..; row; variable; budget": a visit, two sharpens of row 0, which are refused, three refused calls
+    -- more, a probe that empties the box, a settle and a visit there, and a drop, refused
     ∷ is (runList listed
     (1 ∷ 0 ∷ 999 ∷ 0 ∷ 4 ∷ 0 ∷ 0 ∷ 0 ∷ 4 ∷ 0 ∷ 1 ∷ 0 ∷ 9 ∷ 0 ∷ 0 ∷ 1 ∷ 1 ∷ 2 ∷ 0 ∷ 1 ∷ 2 ∷ 1 ∷ 1 ∷ 0 ∷ 3 ∷ 999 ∷ 1 ∷ 1 ∷ 2 ∷ 0 ∷ 0 ∷ 5 ∷ 1 ∷ 1 ∷ 999 ∷ 0 ∷ 5 ∷ 1 ∷ 999 ∷ 0 ∷ []))
     (record {
-      answer = ran (record { refusals = 3; infeasibles = 4; changes = 2; unchanges = 1 });
-      state = withBox (withRow listed 0 (rowWith (pos 1 ∷ pos 1 ∷ []) (pos 1) 0)) empty2 (listed .table);
+      answer = ran (record { refusals = 6; infeasibles = 3; changes = 0; unchanges = 1 });
+      state = withBox listed empty2 (listed .table);
     })
+    -- a retired kind (02, C-16) is refused by 18: after 11, before 12 to 14, on the empty box too; and counts as refused
+    ∷ is (classListed listed (callOf listed 4 0 0 0)) (refusedCall 18)
+    ∷ is (classListed listed (callOf listed 4 9 9 0)) (refusedCall 18)
+    ∷ is (classListed listed (callOf listed 5 9 0 0)) (refusedCall 18)
+    ∷ is (classListed emptied (callOf emptied 4 0 0 0)) (refusedCall 18)
+    ∷ is (classListed emptied (callOf emptied 5 0 0 0)) (refusedCall 18)
+    ∷ is (classListed listed (callOf listed 9 9 9 0)) (refusedCall 11)
+    ∷ is (classListed listed (callOf listed 1 9 0 0)) (refusedCall 12)
+    -- as direct calls they are what they were
+    ∷ is (classOf listed (callOf listed 4 0 0 0)) changedCall
+    ∷ is (classOf listed (callOf listed 5 9 0 0)) (refusedCall 12)
+    ∷ is (classOf emptied (callOf emptied 5 0 0 0)) infeasibleCall
     -- a probe that records 2 bytes changes the table; a settle with budget 1 after it moves nothing
     ∷ (let s = pair (pos 1) (pos 1) (pos 1) in
     is (runList s (3 ∷ 999 ∷ 0 ∷ 1000 ∷ 2 ∷ 0 ∷ 0 ∷ 1 ∷ []))
@@ -367,7 +378,9 @@ corners =
     ∷ (let s = exactPair (pos 0) (pos 0) (pos 0) empty2 in is (perform s (removeCall s 0)) (kept s (removed infeasible)))
     -- and counts as changed, once
     ∷ (let s = exactPair (pos 0) (pos 0) (pos 0) binary2 in
-    is (tally noCounts s (removeCall s 0 ∷ removeCall s 0 ∷ [])) (record { refusals = 0; infeasibles = 0; changes = 1; unchanges = 1 }))
+    is (classOf s (removeCall s 0)) changedCall)
+    ∷ (let s = exactPair (pos 0) (pos 0) (pos 0) binary2 in
+    is (classOf (step s (removeCall s 0)) (removeCall s 0)) unchangedCall)
     -- 16: a kind byte of 2, in every call; 1 is accepted
     ∷ (let s = ofKind 2 (pos 1) 0 in is (perform s (propagateRowCall s 0)) (kept s (refused 16)))
     ∷ (let s = ofKind 2 (pos 1) 0 in is (perform s (propagateCall s 1)) (kept s (refused 16)))

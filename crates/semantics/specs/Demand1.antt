@@ -5,7 +5,7 @@ use lib.Dec.{T}
 use lib.IntN.{_-ℤ_}
 use lib.ListN.{getD, length}
 use lib.Signed.{_≤ℤ_}
-use mathlib.Core.Logic.{_↔_, _⊎_}
+use mathlib.Core.Logic.{_↔_, _≢_, _⊎_}
 use mathlib.Core.Path.{_≡_}
 use Rattle.model.specs.Box.{at, emptyBox, isFree, lower, upper}
 use Rattle.model.specs.Limits.{maxBound, maxCoef, maxRhs, maxRows, maxVariables, maxWidth, minBound, minCoef, minRhs}
@@ -13,8 +13,8 @@ use Rattle.model.specs.Places.{place}
 use Rattle.model.specs.State.{State}
 use Rattle.model.specs.Valid.{Between}
 use Rattle.semantics.specs.Call.{Call, hasBudget, hasRow, hasTable, hasVariable, kindOf}
-use Rattle.semantics.specs.CallChecks.{callFault, maxBudget}
-use Rattle.semantics.specs.Perform.{perform, refused}
+use Rattle.semantics.specs.CallChecks.{callFault, listedFault, maxBudget}
+use Rattle.semantics.specs.Perform.{Performed, perform, performListed, refused}
 use Rattle.semantics.specs.Run.{isRefused}
 
 -- the buffers that the call is lent are the state's, and each has exactly the length needed
@@ -47,15 +47,25 @@ pub record Passes (N : ℕ) (s : State) (c : Call) : Type 0 where
   pub check14 : N ≡ 14 → T (hasVariable (kindOf (c .kind))) → (s .model .box ≡ emptyBox (s .model .n)) ⊎ T (isFree (s .model .box) (c .variable))
   pub check15 : N ≡ 15 → T (hasBudget (kindOf (c .kind))) → (1 ≤ c .budget) × (c .budget ≤ maxBudget)
 
-pub record Refusals (s : State) (c : Call) : Type 0 where
+-- the same of a call that a list makes: "18, a retired kind in a sheet, straight after check 11" (02, C-16)
+pub record PassesListed (N : ℕ) (s : State) (c : Call) : Type 0 where
+  pub others : Passes N s c
+  pub check18 : N ≡ 18 → (c .kind ≢ 4) × (c .kind ≢ 5)
+
+-- of a call on s whose check N passes exactly where Pass N: fault is the number that the checks find, p what the call did
+pub record Refusals (s : State) (Pass : ℕ → Type 0) (fault : ℕ) (p : Performed) : Type 0 where
   -- refused by N: check N fails, and every one with an earlier place passes
-  pub first : (N : ℕ) → (perform s c .answer ≡ refused N) ↔ ((Passes N s c → ⊥) × ((M : ℕ) → place M < place N → Passes M s c))
+  pub first : (N : ℕ) → (p .answer ≡ refused N) ↔ ((Pass N → ⊥) × ((M : ℕ) → place M < place N → Pass M))
   -- accepted: every check passes
-  pub accepted : (callFault s c ≡ 0) ↔ ((N : ℕ) → Passes N s c)
-  pub answered : (callFault s c ≡ 0) ↔ (T (isRefused (perform s c .answer)) → ⊥)
+  pub accepted : (fault ≡ 0) ↔ ((N : ℕ) → Pass N)
+  pub answered : (fault ≡ 0) ↔ (T (isRefused (p .answer)) → ⊥)
   -- a refusal changes no lent number
-  pub kept : T (isRefused (perform s c .answer)) → perform s c .state ≡ s
+  pub kept : T (isRefused (p .answer)) → p .state ≡ s
 
 -- proved as `demand-1`
 unfoldable pub Demand1 : Type 0
-Demand1 = (s : State) (c : Call) → Refusals s c
+Demand1 = (s : State) (c : Call) → Refusals s (λ N. Passes N s c) (callFault s c) (perform s c)
+
+-- of a call that a list makes (proved as `demand-1-lists`)
+unfoldable pub Demand1Lists : Type 0
+Demand1Lists = (s : State) (c : Call) → Refusals s (λ N. PassesListed N s c) (listedFault s c) (performListed s c)

@@ -8,7 +8,7 @@ use Rattle.row.specs.Outcome.{Outcome}
 use Rattle.row_change.specs.KindChanges.{removeRowOf, tightenRowOf}
 use Rattle.row.specs.Kinds.{propagateRowOf}
 use Rattle.semantics.specs.Call.{Call, Kind, kindOf, probing, propagation, removal, rowPropagation, tightening, unknown}
-use Rattle.semantics.specs.CallChecks.{callFault}
+use Rattle.semantics.specs.CallChecks.{callFault, listedFault}
 use Rattle.semantics.specs.Probe.{ProbeEnding, Side, probe}
 use Rattle.semantics.specs.Propagate.{Ending, propagate}
 
@@ -58,3 +58,8 @@ act unknown s c = record { answer = refused 11; state = s }
 unfoldable pub perform : State → Call → Performed
 perform s c =
     cond (eqb (callFault s c) 0) (act (kindOf (c .kind)) s c) (record { answer = refused (callFault s c); state = s })
+
+-- The same of a call that a list makes: "Old sheets still run; such a call is refused .. and changes nothing." (02, C-16)
+unfoldable pub performListed : State → Call → Performed
+performListed s c =
+    cond (eqb (listedFault s c) 0) (act (kindOf (c .kind)) s c) (record { answer = refused (listedFault s c); state = s })

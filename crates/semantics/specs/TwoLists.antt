@@ -6,29 +6,27 @@ use mathlib.Core.List.{List}
 use mathlib.Core.Logic.{_↔_}
 use mathlib.Core.Path.{_≡_}
 use Rattle.model.specs.State.{State}
-use Rattle.semantics.specs.CallList.{ListRun, callsMade, ran, runList}
+use Rattle.semantics.specs.Call.{Call}
+use Rattle.semantics.specs.CallList.{ListRun, ran, runList}
 use Rattle.semantics.specs.Points.{AtRest, FractionalPointOf, PointOf, TableHolds}
-use Rattle.semantics.specs.Run.{Counts}
-use Rattle.semantics.specs.TwoRuns.{HandedIn, Narrows}
+use Rattle.semantics.specs.Run.{Counts, run}
+use Rattle.semantics.specs.TwoRuns.{HandedIn}
 
--- of the model handed in, s; the list before the parting; and those of the two runs after it
-pub record TwoLists (s : State) (before one two : List ℕ) : Type 0 where
-  pub sameEnd : AtRest (runList (runList s before .state) one .state)
-      → ((runList (runList s before .state) one .state .model .box ≡ runList (runList s before .state) two .state .model .box)
-      ↔ AtRest (runList (runList s before .state) two .state))
-  pub points1 : (x : List ℤ) → PointOf (runList (runList s before .state) one .state) x ↔ PointOf s x
-  pub points2 : (x : List ℤ) → PointOf (runList (runList s before .state) two .state) x ↔ PointOf s x
-  pub implied1 : (x : List ℤ) → PointOf s x → TableHolds (s .model .n) (runList (runList s before .state) one .state .table) x
-  pub implied2 : (x : List ℤ) → PointOf s x → TableHolds (s .model .n) (runList (runList s before .state) two .state .table) x
+-- of the model handed in, s; the calls before the parting; and the lists of the two runs after it
+pub record TwoLists (s : State) (before : List Call) (one two : List ℕ) : Type 0 where
+  pub sameEnd : AtRest (runList (run s before) one .state)
+      → ((runList (run s before) one .state .model .box ≡ runList (run s before) two .state .model .box)
+      ↔ AtRest (runList (run s before) two .state))
+  pub points1 : (x : List ℤ) → PointOf (runList (run s before) one .state) x ↔ PointOf s x
+  pub points2 : (x : List ℤ) → PointOf (runList (run s before) two .state) x ↔ PointOf s x
+  pub implied1 : (x : List ℤ) → PointOf s x → TableHolds (s .model .n) (runList (run s before) one .state .table) x
+  pub implied2 : (x : List ℤ) → PointOf s x → TableHolds (s .model .n) (runList (run s before) two .state .table) x
 
--- for every three lists, also ones that are refused as a whole; "after [the parting] an accepted call is a visit, a settle or a
--- probe", of the calls that the lists make (proved as `demand-3-lists`)
+-- "Where two runs are compared, sharpenings and drops now come from direct calls made beforehand." (02, C-16): any direct calls,
+-- refused ones too, and then any two lists, also ones that are refused as a whole. Of the lists nothing is asked: "after [the parting]
+-- an accepted call is a visit, a settle or a probe", since a list accepts no other (proved as `demand-3-lists`).
 unfoldable pub Demand3Lists : Type 0
-Demand3Lists =
-    (s : State) (before one two : List ℕ) → HandedIn s
-    → Narrows (runList s before .state) (callsMade (runList s before .state) one)
-    → Narrows (runList s before .state) (callsMade (runList s before .state) two)
-    → TwoLists s before one two
+Demand3Lists = (s : State) (before : List Call) (one two : List ℕ) → HandedIn s → TwoLists s before one two
 
 -- "four counts whose sum is the list's length" (proved as `counts-add-up`)
 unfoldable pub CountsAddUp : Type 0
@@ -46,3 +44,5 @@ pub record ListMeans (s : State) (r : ListRun) : Type 0 where
   -- each recorded implication holds at all of them, where those recorded before do; all do where the table was all 0
   pub holds : (x : List ℤ) → PointOf s x → TableHolds (s .model .n) (s .table) x → TableHolds (s .model .n) (r .state .table) x
   pub implied : s .table ≡ replicate (4 * (s .model .n * s .model .n)) 0 → (x : List ℤ) → PointOf s x → TableHolds (s .model .n) (r .state .table) x
+  -- "No sharpening or dropping from sheets" (02, C-16): the rows, their right sides and kinds are what they were
+  pub rows : r .state .model .rows ≡ s .model .rows

@@ -5,9 +5,8 @@ use lib.Dec.{T, eqb}
 use lib.IntN.{ℤ}
 use mathlib.Core.Bool.{_&&_, not}
 use mathlib.Core.List.{List, []}
-use mathlib.Core.Logic.{⊎-elim}
+use mathlib.Core.Logic.{_⊎_, ⊎-elim}
 use mathlib.Core.Path.{_∙_, _≡_, ap, refl, sym}
-use Rattle.integer.proofs.Tests.{decide, eqb-test, neqb→ne}
 use Rattle.model.specs.Box.{sameList}
 use Rattle.model.specs.Rows.{Rows, rowAt, setRow}
 use Rattle.row.specs.Answers.{propagatedRowOf}
@@ -17,17 +16,20 @@ use Rattle.row_change.specs.KindChanges.{ChangedRow, removeRowOf, tightenRowOf}
 use Rattle.row.specs.Kinds.{propagateRowOf}
 use Rattle.row.specs.declared.propagation.RowPropagation.{RowPropagation}
 use Rattle.row.specs.declared.propagation.RowPropagation.the-variants as visits
-use Rattle.semantics.specs.CallChecks.{callChecks, callFault, givenModel, isLent, recordChecks}
+use Rattle.semantics.specs.CallChecks.{callChecks, callFault, givenModel, isLent, listedChecks, listedFault, recordChecks}
 use Rattle.semantics.specs.Perform.{Performed, act, perform}
 use Rattle.semantics.specs.Probe.{Probed, probe}
 use Rattle.semantics.specs.Propagate.{isNone, propagate}
-use Rattle.semantics.specs.Run.{CallClass, classOf, probeInfeasible, step}
-use Rattle.semantics.specs.Call.{Call, callOf, hasRow, isUnknown, kindOf, probing, propagation, rowPropagation, removal, tightening}
+use Rattle.semantics.specs.Run.{CallClass, classListed, classOf, probeInfeasible, refusedCall, step, stepListed}
+use Rattle.semantics.specs.Call.{Call, callOf, hasBudget, hasRow, hasVariable, isRetired, isUnknown, kindOf, probing, propagation, removal, rowPropagation, tightening, unknown}
 use Rattle.model.specs.State.{State, stateOf, withBox, withRow}
-use Rattle.model.specs.Checks.{modelChecks}
+use Rattle.model.specs.Checks.{first, modelChecks}
+use Rattle.model.specs.Valid.{ValidState}
+use Rattle.semantics.proofs.Accepted.{fault-listed-own}
 use Rattle.semantics.proofs.CallLaws.{step-accepted}
 use Rattle.semantics.proofs.ClassLaws.{addsNone, classBy, probe-class, remove-class, propagate-class, tighten-class, propagate-row-class}
-use Rattle.call.proofs.KindLaws.{kind-other}
+use Rattle.semantics.proofs.ListedLaws.{class-direct, class-listed-refused, listed-fault, step-direct}
+use Rattle.call.specs.FieldChecks.{budgetChecks, probeChecks, rowChecks, variableChecks}
 use Rattle.call.specs.Classes.{outcomeClass, propagationClass}
 use Rattle.propagation.specs.Results.{propagationOf}
 use Rattle.marked_row.proofs.MarkedRowLaws.{left-by}
@@ -64,14 +66,6 @@ propagation-box (Converged p k) Q = refl
 propagation-box (BudgetSpent p k) Q = refl
 
 -- ---- an accepted call
-
--- of no other kind, it is a drop
-pub kind-removes : (k : ℕ) → T (not (isUnknown (kindOf k))) → (k ≡ 1 → ⊥) → (k ≡ 2 → ⊥) → (k ≡ 3 → ⊥) → (k ≡ 4 → ⊥) → kindOf k ≡ removal
-unfolding isUnknown kindOf
-kind-removes k t a b c d = ⊎-elim
-    (λ u. rw (eqb-test k 5 .0 u))
-    (λ u. absurd (rw (kind-other k a b c d (neqb→ne k 5 u)) at t))
-    (decide (eqb k 5))
 
 -- a probe's row is not looked at
 row-ignored : (s : State) (row variable budget : ℕ) → perform s (callOf s 3 row variable budget) ≡ perform s (callOf s 3 0 variable budget)
@@ -148,3 +142,48 @@ module _ (n m : ℕ) (B : List ℤ) (A : Rows) (t : List ℕ) (kind row variable
   pub fault-probed : kind ≡ 3 → callFault s call ≡ 0 → callFault s (callOf s 3 0 variable budget) ≡ 0
   unfolding callFault callChecks modelChecks givenModel isLent recordChecks callOf kindOf hasRow
   fault-probed e f = rw e at f
+
+  -- ---- as a list makes it
+
+  -- the class k and the state r are then the call's
+  abbrev pub Listed : CallClass → State → Type 0
+  Listed k r = (k ≡ classListed s call) × (r ≡ stepListed s call)
+
+  pub listed-ran : T (not (isRetired (kindOf kind))) → {k : CallClass} {r : State} → Ran k r → Listed k r
+  unfolding callOf
+  listed-ran t w = (w .0 ∙ sym (class-direct s call t), w .1 ∙ sym (step-direct s call t))
+
+  -- the checks of a kind's own fields are what its checks in a list come to; a retired kind has one, and no kind none
+  pub own-row : kind ≡ 1 → first (rowChecks m row) ≡ first (listedChecks (kindOf kind) s call)
+  unfolding listedChecks kindOf isUnknown isRetired hasRow hasVariable hasBudget first stateOf callOf rowChecks
+  own-row e = rw e
+
+  pub own-budget : kind ≡ 2 → first (budgetChecks budget) ≡ first (listedChecks (kindOf kind) s call)
+  unfolding listedChecks kindOf isUnknown isRetired hasRow hasVariable hasBudget first stateOf callOf budgetChecks
+  own-budget e = rw e
+
+  pub own-probe : kind ≡ 3 → first (probeChecks n B variable budget) ≡ first (listedChecks (kindOf kind) s call)
+  unfolding listedChecks kindOf isUnknown isRetired hasRow hasVariable hasBudget first stateOf callOf probeChecks variableChecks budgetChecks
+  own-probe e = rw e
+
+  pub own-18 : (kind ≡ 4) ⊎ (kind ≡ 5) → 18 ≡ first (listedChecks (kindOf kind) s call)
+  unfolding listedChecks kindOf isUnknown isRetired first
+  own-18 d = ⊎-elim (λ e. rw e) (λ e. rw e) d
+
+  pub own-11 : kindOf kind ≡ unknown → 11 ≡ first (listedChecks (kindOf kind) s call)
+  unfolding listedChecks isUnknown first
+  own-11 e = rw e
+
+  -- in a valid state only these can refuse it
+  module _ (v : ValidState s) where
+    own : listedFault s call ≡ first (listedChecks (kindOf kind) s call)
+    unfolding stateOf callOf
+    own = fault-listed-own s call v refl refl refl
+
+    pub listed-refused : {N : ℕ} → N ≡ first (listedChecks (kindOf kind) s call) → (N ≡ 0 → ⊥) → Listed (refusedCall N) s
+    listed-refused e z =
+        let w = class-listed-refused s call (λ f. z (e ∙ sym own ∙ f)) in (ap refusedCall (e ∙ sym own) ∙ w .0, w .1)
+
+    pub listed-accepted : T (not (isRetired (kindOf kind))) → {N : ℕ} → N ≡ first (listedChecks (kindOf kind) s call) → N ≡ 0 → callFault s call ≡ 0
+    unfolding callOf
+    listed-accepted t e z = sym (listed-fault s call t) ∙ own ∙ sym e ∙ z

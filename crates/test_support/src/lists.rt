@@ -17,9 +17,9 @@ pub fn execute(
     n: usize,
     m: usize,
     bounds: &mut [i32],
-    coefs: &mut [i32],
-    rhs: &mut [i32],
-    kinds: &mut [u8],
+    coefs: &[i32],
+    rhs: &[i32],
+    kinds: &[u8],
     table: &mut [u8],
 ) {
     let mut calls = [0u32; 64];
@@ -54,9 +54,9 @@ pub fn execute_records(
     n: usize,
     m: usize,
     bounds: &mut [i32],
-    coefs: &mut [i32],
-    rhs: &mut [i32],
-    kinds: &mut [u8],
+    coefs: &[i32],
+    rhs: &[i32],
+    kinds: &[u8],
     table: &mut [u8],
 ) {
     let calls = [

@@ -19,7 +19,7 @@ pub struct Coverage {
     pub most_passes: u64,
     /// The most bounds that one propagation moved.
     pub most_moved: u64,
-    /// Which of [`MOVES`], [`EQUALITIES`], [`UNREST`] and [`PLANS`] were met.
+    /// Which of [`MOVES`], [`EQUALITIES`], [`UNREST`], [`PLANS`] and [`RETIRED`] were met.
     pub met: BTreeSet<&'static str>,
 }
 
@@ -32,14 +32,13 @@ const MOVES: [&str; 4] = [
 ];
 
 /// The same of = rows (02, C-14).
-const EQUALITIES: [&str; 8] = [
+const EQUALITIES: [&str; 7] = [
     "an equality row that moved more bounds than there are variables",
     "an equality row that is infeasible by its negated form alone",
     "an equality row that was removed",
     "an equality row that says 0 = 0 and was removed",
     "an equality row kept that a row at most would not be",
     "an equality row not tightened that a row at most would be",
-    "a call list that removed an equality row",
     "rounds that removed an equality row",
 ];
 
@@ -57,6 +56,13 @@ const PLANS: [&str; 4] = [
     "a list that made fewer passes than its limit",
     "a list that made passes on the empty box",
     "a propagation with just the budget that is never spent",
+];
+
+/// The same of records of kinds 4 and 5, which a list refuses (02, C-16).
+const RETIRED: [&str; 3] = [
+    "a call list with a retired kind whose other fields pass their checks",
+    "a call list with a retired kind whose row is not below m",
+    "a call list with a retired kind on the empty box",
 ];
 
 impl Coverage {
@@ -136,9 +142,9 @@ impl Coverage {
 
     /// What an accepted call met of = rows.
     fn note_equalities(&mut self, operation: Operation, before: &Lent, after: &Lent) {
-        let [.., by_list, by_rounds] = EQUALITIES;
+        let [.., by_rounds] = EQUALITIES;
         match operation {
-            Operation::Run => self.met(by_list, before.kinds != after.kinds),
+            Operation::Run => self.note_retired(before),
             Operation::Rounds { .. } => self.met(by_rounds, before.kinds != after.kinds),
             Operation::PropagateRow { row }
             | Operation::RemoveRedundantRow { row }
@@ -149,6 +155,18 @@ impl Coverage {
                 self.met(EQUALITIES[0], after.answer[1] > before.n as u64);
             }
             _ => {}
+        }
+    }
+
+    /// What an accepted list met of retired kinds.
+    fn note_retired(&mut self, before: &Lent) {
+        let [accepted, no_row, empty] = RETIRED;
+        let is_empty = bounds::is_empty(&before.bounds);
+        for call in before.calls.chunks(4).filter(|call| matches!(call[0], 4 | 5)) {
+            let in_range = (call[1] as usize) < before.m;
+            self.met(accepted, in_range && call[0] == 5 && !is_empty);
+            self.met(no_row, !in_range);
+            self.met(empty, is_empty);
         }
     }
 
@@ -187,7 +205,7 @@ impl Coverage {
     }
 
     /// What a long enough run must have met and has not: each check of each call, each case of each
-    /// answer, and each of [`MOVES`], [`EQUALITIES`], [`UNREST`] and [`PLANS`].
+    /// answer, and each of [`MOVES`], [`EQUALITIES`], [`UNREST`], [`PLANS`] and [`RETIRED`].
     pub fn missing(&self) -> Vec<String> {
         let (row, variable, budget, limit) = (0, 0, 0, 0);
         let all = [
@@ -206,7 +224,7 @@ impl Coverage {
             (Operation::BookRead, 1),
             (Operation::BookWrite, 1),
         ];
-        let mut missing: Vec<String> = [&MOVES[..], &EQUALITIES, &UNREST, &PLANS]
+        let mut missing: Vec<String> = [&MOVES[..], &EQUALITIES, &UNREST, &PLANS, &RETIRED]
             .concat()
             .into_iter()
             .filter(|what| !self.met.contains(what))

@@ -6,8 +6,8 @@ use crate::lent::{Lent, Operation};
 use crate::models::{MAX_BOUND, MAX_BUDGET, MAX_COEF, MAX_RHS, MAX_WIDTH, MIN_BOUND};
 use crate::rng::Rng;
 
-/// The checks that a call makes, in the order in which it makes them. In `run`, checks 11 to 15 are
-/// of the records, and none of them refuses the list.
+/// The checks that a call makes, in the order in which it makes them. In `run`, checks 11, 18 and 12 to 15
+/// are of the records, and none of them refuses the list.
 pub fn checks(operation: Operation) -> &'static [u32] {
     match operation {
         Operation::PropagateRow { .. } | Operation::RemoveRedundantRow { .. } => {

@@ -148,15 +148,14 @@ fn check_passes(
     Ok((made, limit))
 }
 
-/// Makes the call of a record by itself; the passes that it made.
+/// Makes the call of a record by itself; the passes that it made. A record of a retired kind makes none (02,
+/// C-16), nor does one of no kind.
 fn call_alone(record: &[u32], lent: &mut Lent, backend: &mut impl Backend) -> u64 {
     let &[kind, row, variable, budget] = record else { unreachable!("four numbers a record") };
     let operation = match kind {
         1 => Operation::PropagateRow { row },
         2 => Operation::Propagate { budget },
         3 => Operation::Probe { variable, budget },
-        4 => Operation::TightenCoefficient { row, variable },
-        5 => Operation::RemoveRedundantRow { row },
         _ => return 0,
     };
     match (backend.call(operation, lent.lend()), kind) {

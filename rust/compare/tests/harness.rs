@@ -310,8 +310,8 @@ fn catches_an_equality_row_removed_as_at_most() {
 
 #[test]
 fn catches_a_kind_kept_at_removal() {
-    // By a call of its own, in a list and in the rounds.
-    for kept in ["remove_redundant_row", "run", "rounds"] {
+    // By a call of its own and in the rounds.
+    for kept in ["remove_redundant_row", "rounds"] {
         is_caught(|operation, before, said, loan| {
             if operation.name() == kept && said == 0 {
                 loan.kinds.copy_from_slice(&before.kinds);
@@ -484,6 +484,36 @@ fn catches_refused_records_counted_otherwise() {
         if operation == Operation::Run && said == 0 && loan.answer[0] > 0 {
             loan.answer[0] -= 1;
             loan.answer[3] += 1;
+        }
+        said
+    });
+}
+
+#[test]
+fn catches_retired_kinds_in_lists() {
+    // A record of kind 4 or 5 counted as unchanged; one on the empty box counted as None, as 01 had it.
+    let retired = |loan: &Loan, kind| loan.calls.chunks(4).any(|call| call[0] == kind);
+    for kind in [4, 5] {
+        is_caught(|operation, _, said, loan| {
+            if operation == Operation::Run && said == 0 && retired(loan, kind) {
+                loan.answer[0] -= 1;
+                loan.answer[3] += 1;
+            }
+            said
+        });
+        is_caught(|operation, before, said, loan| {
+            let empty = reference::bounds::is_empty(&before.bounds);
+            if operation == Operation::Run && said == 0 && empty && retired(loan, kind) {
+                loan.answer[0] -= 1;
+                loan.answer[1] += 1;
+            }
+            said
+        });
+    }
+    // A row that a list drops.
+    is_caught(|operation, _, said, loan| {
+        if operation == Operation::Run && said == 0 && retired(loan, 5) && loan.m > 0 {
+            loan.coefs[..loan.n].fill(0);
         }
         said
     });

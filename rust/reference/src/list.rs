@@ -5,7 +5,7 @@ use crate::bounds;
 use crate::checks::{self, Check};
 use crate::probing::Verdict;
 use crate::propagation::Ending;
-use crate::row::{self, Outcome, RowPropagation, Rows};
+use crate::row::{self, RowPropagation, Rows};
 
 /// A call record: kind, row, variable, budget. A field that its kind lacks is ignored.
 pub type Call = [u32; 4];
@@ -37,26 +37,25 @@ pub fn run(state: &mut State, calls: &[Call]) -> Counts {
 /// Whether a call answered anything but None.
 struct Feasible(bool);
 
-/// Checks 11 to 15 of one call, then the call.
+/// The checks of one call, then the call.
 fn apply(state: &mut State, call: Call) -> Result<Feasible, u32> {
     check(state, call)?;
     let [kind, row, variable, budget] = call;
-    let (r, k) = (row as usize, variable as usize);
     Ok(Feasible(match kind {
-        1 => propagate_row(state, r) != RowPropagation::Infeasible,
+        1 => propagate_row(state, row as usize) != RowPropagation::Infeasible,
         2 => state.propagate(budget).ending != Ending::Infeasible,
-        3 => state.probe(k, budget).verdict != Verdict::Infeasible,
-        4 => state.tighten_coefficient(r, k) != Outcome::Infeasible,
-        _ => state.remove_redundant_row(r) != Outcome::Infeasible,
+        _ => state.probe(variable as usize, budget).verdict != Verdict::Infeasible,
     }))
 }
 
 fn check(state: &State, [kind, row, variable, budget]: Call) -> Check {
     checks::ensure(11, (1..=5).contains(&kind))?;
-    if matches!(kind, 1 | 4 | 5) {
+    // "Kinds 4 and 5 are retired from run sheets" (02, C-16).
+    checks::ensure(18, !matches!(kind, 4 | 5))?;
+    if kind == 1 {
         checks::row(row, state.rhs.len())?;
     }
-    if matches!(kind, 3 | 4) {
+    if kind == 3 {
         checks::free_variable(variable, state.bounds)?;
     }
     if matches!(kind, 2 | 3) {

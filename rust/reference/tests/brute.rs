@@ -256,7 +256,9 @@ fn a_call_list_does_what_its_calls_do() {
         let mut counts = [0; ANSWER];
         for &call in &calls {
             let before = one.clone();
-            let place = match direct(&mut one, call) {
+            // Kinds 4 and 5 are retired from lists (02, C-16).
+            let made = if matches!(call[0], 4 | 5) { Err(18) } else { direct(&mut one, call) };
+            let place = match made {
                 Err(_) => 0,
                 Ok([0, ..]) => 1,
                 Ok(_) if one != before => 2,

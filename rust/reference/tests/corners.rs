@@ -344,7 +344,7 @@ fn removing_all_zero_rows() {
 
 #[test]
 fn a_call_list_counts_each_call_once() {
-    // D-12: refused by 11 to 15, None, changed, unchanged; fields that a kind lacks hold anything.
+    // D-12: refused by 11, 18 and 12 to 15, None, changed, unchanged; fields that a kind lacks hold anything.
     let mut model = Model::new(&[(0, 1), (0, 5)], &[(&[0, 2], 5), (&[1, 0], 0)]);
     let any = u32::MAX;
     #[rustfmt::skip]
@@ -353,23 +353,27 @@ fn a_call_list_counts_each_call_once() {
         6, 0, 0, 1,         // 11
         1, 2, any, any,     // 12
         3, any, 2, 1,       // 13
-        4, 0, 1, any,       // 14
+        3, any, 1, 1,       // 14
         2, any, any, 0,     // 15
+        4, 9, 9, any,       // 18, whatever its fields
+        4, 1, 0, any,       // 18
         1, 0, any, any,     // y to 0..2
         1, 0, any, any,     // nothing more
-        5, 0, any, any,     // 2y ≤ 5 is redundant now
+        5, 0, any, any,     // 18, though 2y ≤ 5 is redundant now
         3, any, 0, 2,       // x fixed at 0
         2, any, any, MAX_BUDGET, // nothing
     ];
-    assert_eq!(model.run(&calls), ok(&[6, 0, 3, 2]));
+    assert_eq!(model.run(&calls), ok(&[9, 0, 2, 2]));
     assert_eq!(model.bounds, [0, 0, 0, 2]);
-    assert_eq!(model.coefs, [0, 0, 1, 0]);
+    assert_eq!(model.coefs, [0, 2, 1, 0]);
     assert_eq!(model.run(&[]), ok(&[]));
     assert_eq!(model.run(&calls[..43]), Err(5));
     // None counts as None only, also where it empties the box, and the run goes on.
     model.rhs[1] = -1;
-    assert_eq!(model.run(&[1, 1, 0, 0, 2, 0, 0, 1, 4, 1, 0, 0, 9, 9, 9, 9]), ok(&[1, 3]));
+    // A retired kind is refused on the empty box too.
+    assert_eq!(model.run(&[1, 1, 0, 0, 2, 0, 0, 1, 4, 1, 0, 0, 9, 9, 9, 9]), ok(&[2, 2]));
     assert!(model.is_empty());
+    assert_eq!(model.run(&[4, 1, 0, 0, 5, 1, 0, 0, 1, 1, 0, 0]), ok(&[2, 1]));
 }
 
 #[test]
@@ -503,7 +507,7 @@ fn all_zero_equality_rows() {
     assert_eq!(model.remove(0), ok(&[1]));
     assert_eq!((model.row(0), model.kinds[0]), ((&[0][..], 0), 0));
     assert_eq!(model.remove(0), ok(&[2]));
-    assert_eq!(zero(0).run(&[5, 0, 0, 0, 5, 0, 0, 0]), ok(&[0, 0, 1, 1]));
+    assert_eq!(zero(0).run(&[5, 0, 0, 0, 5, 0, 0, 0]), ok(&[2]));
     assert_eq!(zero(0).rounds(8), ok(&[1, 2]));
     assert_eq!(zero(0).rounds(1), ok(&[2, 1]));
 }
@@ -564,14 +568,15 @@ fn equality_rows_at_the_limits() {
 }
 
 #[test]
-fn a_call_list_reads_and_writes_kinds() {
-    // Row 0: x + y = 1, row 1: z = 0. Visit row 1 (z to 0), drop it (its kind too), sharpen row 0 (Same),
-    // drop row 0 (needed), probe x (4 bytes).
+fn a_call_list_reads_kinds_and_writes_no_row() {
+    // Row 0: x + y = 1, row 1: z = 0. Visit row 1 (z to 0), probe x (4 bytes), settle (nothing); a drop of row 1
+    // and a sharpen and a drop of row 0 are refused.
     let bounds = [(0, 1), (0, 1), (0, 3)];
     let mut model = Model::new(&bounds, &[(&[1, 1, 0], 1), (&[0, 0, 1], 0)]).with_equal(&[0, 1]);
     let calls = [1, 1, 0, 0, 5, 1, 0, 0, 4, 0, 0, 0, 5, 0, 0, 0, 3, 0, 0, 9, 2, 0, 0, 9];
-    assert_eq!(model.run(&calls), ok(&[0, 0, 3, 3]));
-    assert_eq!((&model.kinds[..], &model.coefs[3..]), (&[1, 0][..], &[0, 0, 0][..]));
+    let rows = (model.coefs.clone(), model.rhs.clone(), model.kinds.clone());
+    assert_eq!(model.run(&calls), ok(&[3, 0, 2, 1]));
+    assert_eq!((&model.coefs, &model.rhs, &model.kinds), (&rows.0, &rows.1, &rows.2));
     assert_eq!(model.bounds, [0, 1, 0, 1, 0, 0]);
     // A list is refused as a whole by 16.
     model.kinds[1] = 2;

@@ -60,9 +60,9 @@ use Rattle.flat_list.proofs.RunAnswer as S
 use Rattle.flat_list.proofs.RunAnswer.Laws as S′
 use Rattle.call_list.specs.Records.{Runs, noCall, numbersOf, runNext}
 use Rattle.call.specs.declared.Call.{Call}
-use Rattle.call_list.proofs.Buffers.{All, Buffer, Claims, Left, Lents, Long, Names, Owns, Refs, Rooms, Times, Tokens, Back, comes, give, left, lend, lists, locals, made, names, parts, refs, room, same, sliced, take, times, values}
+use Rattle.call_list.proofs.Buffers.{All, Back, Carried, Claims, Left, Lents, Long, Names, Owns, ReadParts, ReadTimes, Refs, Rooms, Slice, Times, Tokens, comes, give, left, lend, lists, locals, made, names, parts, read-parts, read-times, refs, room, same, sliced, take, times, values}
 use Rattle.call_list.proofs.Locals.{Blocks, Cell, Dies, allocated, blockOf, cell, cells, envOf, first, free, freed, holds, settled}
-use Rattle.call_list.proofs.Parameters.{Spots, Texts, buffers, many, spots, state, texts}
+use Rattle.call_list.proofs.Parameters.{Shown, Spots, Texts, buffers, few, many, shown, spots, state, texts}
 use Rattle.call_list.proofs.Reborrow.{has, reborrows, takes}
 use Rattle.call_list.proofs.Running.{Running, running-end, running-next, running-room, running-start}
 use Rattle.call.proofs.Call as R
@@ -83,7 +83,7 @@ use Rattle.call_list.proofs.run.Key.{name as #call-list·run}
 use Rattle.call_list.proofs.run as run
 use Rattle.call_list.proofs.run.Statement as stated
 use Rattle.call_list.proofs.run.Code as code
-use Rattle.call_list.proofs.run.Code.Mir.{turn-1, t-1, t-14}
+use Rattle.call_list.proofs.run.Code.Mir.{turn-1, t-1, t-8}
 
 abbrev stayed : Stays (run.ended .signature .params) (run.ended .kept)
 stayed = (
@@ -93,10 +93,10 @@ stayed = (
     (
       stay-slice (0 ∷ []) tt (plain (λ _. i32)),
       (
-        stay-slice (1 ∷ []) tt (plain (λ _. i32)),
+        stay-none-slice (1 ∷ []) tt (plain (λ _. i32)) yes,
         (
-          stay-slice (2 ∷ []) tt (plain (λ _. i32)),
-          (stay-slice (3 ∷ []) tt (plain (λ _. u8)), (stay-slice (4 ∷ []) tt (plain (λ _. u8)), (stay-none-slice (5 ∷ []) tt (plain (λ _. R.the-row)) yes, tt))),
+          stay-none-slice (2 ∷ []) tt (plain (λ _. i32)) yes,
+          (stay-none-slice (3 ∷ []) tt (plain (λ _. u8)) yes, (stay-slice (4 ∷ []) tt (plain (λ _. u8)), (stay-none-slice (5 ∷ []) tt (plain (λ _. R.the-row)) yes, tt))),
         ),
       ),
     ),
@@ -141,12 +141,12 @@ index = 5 + many
 abbrev call : ℕ
 call = 6 + many
 
--- what is made for `run_none`, a pair a buffer
+-- what is made for `run_none`, a pair a slice to be written
 abbrev for-none : ℕ
 for-none = 7 + many
 
 abbrev count : ℕ
-count = for-none + 2 * many
+count = for-none + 2 * few
 
 abbrev inside? : ℕ
 inside? = 1 + count
@@ -157,14 +157,14 @@ for-next = 2 + count
 
 -- after the locals
 abbrev dies : ℕ
-dies = for-next + 2 * many
+dies = for-next + 2 * few
 
 nearer : (m i : ℕ) → i < m → m - (i + 1) < m - i
 nearer m i h = omega arith
 
-module _ (n m : ℕ) (ys : List Call) (ps : Spots) (xs : Texts) where
+module _ (n m : ℕ) (ys : List Call) (ps : Spots) (fs : Shown) (xs : Texts) where
   abbrev at : Texts → State
-  at = state n m
+  at = state n m fs
 
   -- the loop's state: i records are run, the answer is a with the machine value u, and the buffers hold zs
   record St : Type 0 where
@@ -175,7 +175,7 @@ module _ (n m : ℕ) (ys : List Call) (ps : Spots) (xs : Texts) where
     is : Is S.the-row a (u ∷ [])
     within : i ≤ length ys
     inv : Running (at xs) ys (listRun a (at zs)) i
-    long : Long (buffers ps) zs
+    long : Long (buffers ps fs) zs
 
   abbrev less : St → St → Type 0
   less t u = length ys - t .i < length ys - u .i
@@ -190,7 +190,7 @@ module _ (n m : ℕ) (ys : List Call) (ps : Spots) (xs : Texts) where
   abbrev NextSaid : Texts → RunAnswer → Call → RunAnswer → Texts → Type 0
   NextSaid zs a c a′ zs′ = listRun a′ (at zs′) ≡ runNext (listRun a (at zs)) c
 
-  abbrev starts : (a : RunAnswer) (u : Val) (zs : Texts) → Is S.the-row a (u ∷ []) → NoneSaid a zs → Long (buffers ps) zs → St
+  abbrev starts : (a : RunAnswer) (u : Val) (zs : Texts) → Is S.the-row a (u ∷ []) → NoneSaid a zs → Long (buffers ps fs) zs → St
   starts a u zs is d long = record {
     i = 0;
     a = a;
@@ -204,7 +204,7 @@ module _ (n m : ℕ) (ys : List Call) (ps : Spots) (xs : Texts) where
 
   -- the state after record i, which is c
   abbrev next : (t : St) (c : Call) (a : RunAnswer) (u : Val) (zs : Texts) → Is S.the-row a (u ∷ [])
-      → c ≡ getD ys (t .i) noCall → NextSaid (t .zs) (t .a) c a zs → t .i < length ys → Long (buffers ps) zs → St
+      → c ≡ getD ys (t .i) noCall → NextSaid (t .zs) (t .a) c a zs → t .i < length ys → Long (buffers ps fs) zs → St
   next t c a u zs is e d h long = record {
     i = t .i + 1;
     a = a;
@@ -218,15 +218,15 @@ module _ (n m : ℕ) (ys : List Call) (ps : Spots) (xs : Texts) where
   }
 
 module _ {M : Type 1} (𝓤 : URA M) (H : Heap 𝓤) (A : Atoms 𝓤) (W : Given 𝓤 H A) (at-mem : Memory → SProp 𝓤) (go : Routine → Fun 𝓤)
-    (n m : ℕ) (ps : Spots) (xs : Texts) (κ : Lft) (q : Share) (s : RefT (List Call)) (n-fits : n < 2 ^ 64) (m-fits : m < 2 ^ 64) where
-  abbrev Bs : List Buffer
-  Bs = buffers ps
+    (n m : ℕ) (ps : Spots) (fs : Shown) (xs : Texts) (κ : Lft) (q : Share) (s : RefT (List Call)) (n-fits : n < 2 ^ 64) (m-fits : m < 2 ^ 64) where
+  abbrev Bs : List Slice
+  Bs = buffers ps fs
 
   abbrev ys : List Call
   ys = s .now
 
   abbrev state′ : Texts → State
-  state′ = state n m
+  state′ = state n m fs
 
   -- the records
   abbrev v : Val
@@ -290,16 +290,24 @@ module _ {M : Type 1} (𝓤 : URA M) (H : Heap 𝓤) (A : Atoms 𝓤) (W : Given
   abbrev none-args : Names Bs → NoneArgs
   none-args δs = (n, (m, refs Bs δs xs tt))
 
-  abbrev none-vals : (ν : ℕ) → Vals run-none.signature (ν ∷ [], tt)
+  -- ν, and the lifetimes of the slices to be read, with the shares of their tokens
+  abbrev lfts : ℕ → Lft × ReadTimes Bs
+  lfts ν = (ν ∷ [], read-times Bs)
+
+  abbrev shares : Share × ReadParts Bs
+  shares = (fullShare, read-parts Bs)
+
+  abbrev none-vals : (ν : ℕ) → Vals run-none.signature (lfts ν)
   none-vals ν = (vint w64 n ∷ [], (vint w64 m ∷ [], values Bs tt))
 
   abbrev to-none : ℕ → Names Bs → RunNone 𝓤 H A at-mem go .Ghost
-  to-none ν δs = (((ν ∷ [], tt), (fullShare, tt), tt, none-args δs, none-vals ν), tt)
+  to-none ν δs = ((lfts ν, shares, tt, none-args δs, none-vals ν), tt)
 
-  asks-none : (ν : ℕ) (δs : Names Bs) → ent 𝓤 (sep 𝓤 (A .lft (ν ∷ []) fullShare) (sem 𝓤 H A (Lents Bs ν δs xs ftrue))) (RunNone 𝓤 H A at-mem go .pre (to-none ν δs))
+  asks-none : (ν : ℕ) (δs : Names Bs)
+      → ent 𝓤 (sep 𝓤 (A .lft (ν ∷ []) fullShare) (sep 𝓤 (sem 𝓤 H A (Carried Bs)) (sem 𝓤 H A (Lents Bs ν δs xs ftrue)))) (RunNone 𝓤 H A at-mem go .pre (to-none ν δs))
   asks-none ν δs =
-      qed W (‵ (flft (ν ∷ []) fullShare) ∷ ‵ (Lents Bs ν δs xs ftrue) ∷ []) ∵
-      suffices ! (onEntry 𝓤 H A run-none.signature (ν ∷ [], tt) (fullShare, tt) (none-args δs) (none-vals ν)) (∗emp 𝓤 _) $ nothing ! $ move ! (1 ∷ 0 ∷ []) $ join ! $ frame ! $
+      qed W (‵ (flft (ν ∷ []) fullShare) ∷ ‵ (Carried Bs) ∷ ‵ (Lents Bs ν δs xs ftrue) ∷ []) ∵
+      suffices ! (onEntry 𝓤 H A run-none.signature (lfts ν) shares (none-args δs) (none-vals ν)) (∗emp 𝓤 _) $ join ! $ frame ! $
       use1 W (‵ (fsep (usize .own n (vint w64 n ∷ [])) (fsep (usize .own m (vint w64 m ∷ [])) (Lents Bs ν δs xs ftrue)))) (sized (Lents Bs ν δs xs ftrue)) $ done !
 
   -- what it leaves
@@ -319,17 +327,18 @@ module _ {M : Type 1} (𝓤 : URA M) (H : Heap 𝓤) (A : Atoms 𝓤) (W : Given
   abbrev next-args : Texts → RunAnswer → Call → Names Bs → NextArgs
   next-args zs a c δs = (n, (m, refs Bs δs zs (a, (c, tt))))
 
-  abbrev next-vals : (ν : ℕ) → Val → Val → Vals run-next.signature (ν ∷ [], tt)
+  abbrev next-vals : (ν : ℕ) → Val → Val → Vals run-next.signature (lfts ν)
   next-vals ν u p = (vint w64 n ∷ [], (vint w64 m ∷ [], values Bs (u ∷ [], (p ∷ [], tt))))
 
   abbrev to-next : Texts → RunAnswer → Val → Call → Val → ℕ → Names Bs → RunNext 𝓤 H A at-mem go .Ghost
-  to-next zs a u c p ν δs = (((ν ∷ [], tt), (fullShare, tt), tt, next-args zs a c δs, next-vals ν u p), tt)
+  to-next zs a u c p ν δs = ((lfts ν, shares, tt, next-args zs a c δs, next-vals ν u p), tt)
 
   asks-next : (zs : Texts) (a : RunAnswer) (u : Val) (c : Call) (p : Val) (ν : ℕ) (δs : Names Bs) → Runs (listRun a (state′ zs))
-      → ent 𝓤 (sep 𝓤 (A .lft (ν ∷ []) fullShare) (sem 𝓤 H A (Lents Bs ν δs zs (Rest a u c p)))) (RunNext 𝓤 H A at-mem go .pre (to-next zs a u c p ν δs))
+      → ent 𝓤 (sep 𝓤 (A .lft (ν ∷ []) fullShare) (sep 𝓤 (sem 𝓤 H A (Carried Bs)) (sem 𝓤 H A (Lents Bs ν δs zs (Rest a u c p)))))
+      (RunNext 𝓤 H A at-mem go .pre (to-next zs a u c p ν δs))
   asks-next zs a u c p ν δs room =
       let F = Lents Bs ν δs zs (Rest a u c p) in
-      qed W (‵ (flft (ν ∷ []) fullShare) ∷ ‵ (Lents Bs ν δs zs (Rest a u c p)) ∷ []) ∵ says ! room $ nothing ! $ move ! (1 ∷ 0 ∷ []) $ join ! $ frame ! $
+      qed W (‵ (flft (ν ∷ []) fullShare) ∷ ‵ (Carried Bs) ∷ ‵ (Lents Bs ν δs zs (Rest a u c p)) ∷ []) ∵ says ! room $ join ! $ frame ! $
       use1 W (‵ (fsep (usize .own n (vint w64 n ∷ [])) (fsep (usize .own m (vint w64 m ∷ [])) F))) (sized F) $ done !
 
   abbrev NextLeft : Type 0
@@ -353,11 +362,11 @@ module _ {M : Type 1} (𝓤 : URA M) (H : Heap 𝓤) (A : Atoms 𝓤) (W : Given
     abbrev fm : FmC 𝓤 H (W .laws) C
     fm = fmOf 𝓤 H (W .laws) 𝓣
 
-    few : length ys * 16 < 2 ^ 63
-    few = is-list .0 .1 .1
+    small : length ys * 16 < 2 ^ 63
+    small = is-list .0 .1 .1
 
     long-fits : length ys < 2 ^ 64
-    long-fits = let h = few in omega arith
+    long-fits = let h = small in omega arith
 
     module _ (bs : Blocks (code.function .locals)) where
       abbrev En : Env 𝓤 H
@@ -374,10 +383,10 @@ module _ {M : Type 1} (𝓤 : URA M) (H : Heap 𝓤) (A : Atoms 𝓤) (W : Given
       At i u zs = here (told free (holds u ∷ holds (vint w64 i) ∷ [])) zs
 
       abbrev T : Type 0
-      T = St n m ys ps xs
+      T = St n m ys ps fs xs
 
       abbrev below : T → T → Type 0
-      below = less n m ys ps xs
+      below = less n m ys ps fs xs
 
       abbrev Inv : T → SProp 𝓤
       Inv t = ⋆ 𝓤 H A (At (t .i) (t .u) (t .zs))
@@ -387,7 +396,7 @@ module _ {M : Type 1} (𝓤 : URA M) (H : Heap 𝓤) (A : Atoms 𝓤) (W : Given
 
       -- when the loop is left, the rest of the body runs
       abbrev After : Out → SProp 𝓤
-      After = afterBlock 𝓤 H (afterSeq 𝓤 H (Wp 𝓤 H C Λ En t-14 (atReturn 𝓤 H En Post)) (atReturn 𝓤 H En Post))
+      After = afterBlock 𝓤 H (afterSeq 𝓤 H (Wp 𝓤 H C Λ En t-8 (atReturn 𝓤 H En Post)) (atReturn 𝓤 H En Post))
 
       -- the turn that leaves the loop, and the rest of the body
       ends : (t : T) (X : SProp 𝓤) → ltb (t .i) (length ys) ≡ false → ent 𝓤 (Inv t) (Wp 𝓤 H C Λ En turn-1 (afterTurn 𝓤 H X After))
@@ -397,7 +406,7 @@ module _ {M : Type 1} (𝓤 : URA M) (H : Heap 𝓤) (A : Atoms 𝓤) (W : Given
           assigns ! (of-opd ! (load ! (from ! (fld ! refl (stop !))) (look-in ! calls (sub ! 1 refl (whole !))))) (from ! (stop !)) (init ! count refl (tt, record { fits = long-fits })) $
           assigns ! (bin ! (has ! index refl) (has ! count refl) tt) (from ! (stop !)) (init ! inside? refl (tt, tt)) $
           rewrite ! inside? (λ (y : Bool). cell (tyBool, blockOf En inside?) (holds (vbool y))) f refl $
-          leaves-loop ! (has ! inside? refl) $ exec ! C Λ En t-14 (atRet En Post) $
+          leaves-loop ! (has ! inside? refl) $ exec ! C Λ En t-8 (atRet En Post) $
           assigns ! (of-opd ! (has ! answer refl)) (from ! (stop !)) (init ! 0 refl (EL.lawful S.the-type S′.the-laws 𝓤 H A W tt .typed (t .a) _ (t .is) .0)) $
           returns ! (look ! 0 refl) $
           freed ! En (told (holds (t .u)) (holds (t .u) ∷ holds (vint w64 (t .i)) ∷ free ∷ room Bs (holds (vint w64 (length ys)) ∷ holds (vbool false) ∷ []))) $
@@ -429,38 +438,35 @@ module _ {M : Type 1} (𝓤 : URA M) (H : Heap 𝓤) (A : Atoms 𝓤) (W : Given
           -- [record i; the token; the records; the locals; …]
           land ! (from ! (stop !)) (init ! (3 + call) refl (LL.lawful R.the-type R′.the-laws 𝓤 H A W .typed c _ g .0)) $
           reborrows ! (lent + 3) (for-next + 3) (for-next + 4) refl refl refl (tt, tt) refl refl refl (tt, (tt, (record { fits = rooms .0 .0 }, tt))) $
-          reborrows ! (lent + 4) (for-next + 5) (for-next + 6) refl refl refl (tt, tt) refl refl refl (tt, (tt, (record { fits = rooms .1 .0 .0 }, tt))) $
-          reborrows ! (lent + 5) (for-next + 7) (for-next + 8) refl refl refl (tt, tt) refl refl refl (tt, (tt, (record { fits = rooms .1 .1 .0 .0 }, tt))) $
-          reborrows ! (lent + 6) (for-next + 9) (for-next + 10) refl refl refl (tt, tt) refl refl refl (tt, (tt, (record { fits = rooms .1 .1 .1 .0 .0 }, tt))) $
-          reborrows ! (lent + 7) (for-next + 11) (for-next + 12) refl refl refl (tt, tt) refl refl refl (tt, (tt, (record { fits = rooms .1 .1 .1 .1 .0 .0 }, tt))) $
+          reborrows ! (lent + 7) (for-next + 5) (for-next + 6) refl refl refl (tt, tt) refl refl refl (tt, (tt, (record { fits = rooms .1 .1 .1 .1 .0 .0 }, tt))) $
           lft-new ! tt (λ ν. nothing ! $ move ! (2 ∷ 0 ∷ []) $ fjoin ! $ owned ! S.the-row (Is S.the-row) (EL.makes S.the-type S′.the-plain 𝓤 H A) (t .a) _ (t .is) $ fjoin ! $
           -- [answer and record; ν; the token; the records; the locals; …]
-          move ! ((5 + dies) ∷ 0 ∷ []) $ use2 W (later (some (λ (δs : Names Bs). ‵ (Lents Bs ν δs (t .zs) (Rest (t .a) (t .u) c p)) ⊛ ‵ (Claims Bs ν δs (t .zs)))))
-          (lend 𝓤 H A W ν Bs (t .zs) (Rest (t .a) (t .u) c p) (t .long)) $ await ! tt $ pick ! (λ δs. split ! $ move ! (2 ∷ 0 ∷ []) $
-          use2 W (raw (RunNext 𝓤 H A at-mem go .pre (to-next (t .zs) (t .a) (t .u) c p ν δs))) (asks-next (t .zs) (t .a) (t .u) c p ν δs room′) $
+          move ! ((5 + dies) ∷ 0 ∷ []) $ use2 W (later (some (λ (δs : Names Bs). ‵ (Lents Bs ν δs (t .zs) (Rest (t .a) (t .u) c p)) ⊛ ‵ (Claims Bs ν δs (t .zs)) ⊛ ‵ (Carried Bs))))
+          (lend 𝓤 H A W ν Bs (t .zs) (Rest (t .a) (t .u) c p) (t .long)) $ await ! tt $ pick ! (λ δs. split ! $ move ! (1 ∷ []) $ split ! $ move ! (3 ∷ 1 ∷ 2 ∷ []) $
+          use3 W (raw (RunNext 𝓤 H A at-mem go .pre (to-next (t .zs) (t .a) (t .u) c p ν δs))) (asks-next (t .zs) (t .a) (t .u) c p ν δs room′) $
           -- [what `run_next` asks; the claims; the token; the records; the locals; …]
           calls-at ! fm (RunNext 𝓤 H A at-mem go) known-next (to-next (t .zs) (t .a) (t .u) c p ν δs)
           (takes ! 5 refl (takes ! 6 refl
-          (takes ! (for-next + 5) refl (takes ! (for-next + 7) refl (takes ! (for-next + 9) refl (takes ! (for-next + 11) refl
-          (takes ! (for-next + 13) refl (takes ! (4 + answer) refl (takes ! (4 + call) refl (no-more !)))))))))) (λ u.
-          use2 W (Back 𝓤 H A W ν Bs δs (t .zs) S.the-row next-left (λ a z. NextSaid n m ys ps xs (t .zs) (t .a) c a (next-left z)) (fsep ftrue (fsep ftrue ftrue)) u)
-          (comes 𝓤 H A W ν Bs δs (t .zs) S.the-row next-left (λ a z. NextSaid n m ys ps xs (t .zs) (t .a) c a (next-left z)) (fsep ftrue (fsep ftrue ftrue)) u rooms (t .long)) $ await ! tt $
+          (takes ! (for-next + 5) refl (takes ! (lent + 5) refl (takes ! (lent + 6) refl (takes ! (lent + 7) refl
+          (takes ! (for-next + 7) refl (takes ! (4 + answer) refl (takes ! (4 + call) refl (no-more !)))))))))) (λ u.
+          use2 W (Back 𝓤 H A W ν Bs δs (t .zs) S.the-row next-left (λ a z. NextSaid n m ys ps fs xs (t .zs) (t .a) c a (next-left z)) (fsep ftrue (fsep ftrue ftrue)) u)
+          (comes 𝓤 H A W ν Bs δs (t .zs) S.the-row next-left (λ a z. NextSaid n m ys ps fs xs (t .zs) (t .a) c a (next-left z)) (fsep ftrue (fsep ftrue ftrue)) u rooms (t .long)) $ await ! tt $
           pick ! (λ a. pick ! (λ z. learn ! (λ is. learn ! (λ d. learn ! (λ long.
           -- [the buffers; the token; the records; the locals; …]
           land ! (from ! (stop !)) (store ! (3 + answer) refl (EL.lawful S.the-type S′.the-laws 𝓤 H A W tt .typed a _ is .0)) $
           assigns-last ! (bin ! (has ! (3 + index) refl) (lit ! tt) (record { fits = next-fits })) (from ! (stop !)) (store ! (3 + index) refl (tt, record { fits = next-fits })) $
           move ! (1 ∷ []) $ split ! $ move ! (1 ∷ 2 ∷ 3 ∷ 0 ∷ []) $ lose ! $
           settled ! call En (told free (holds u ∷ holds (vint w64 (t .i + 1)) ∷ holds p ∷ room Bs (holds (vint w64 (length ys)) ∷ holds (vbool true) ∷ made Bs []))) (Beside (next-left z)) $
-          by ! (again (next n m ys ps xs t c a u (next-left z) is e d inside long) (nearer (length ys) (t .i) inside))))))))))))))
+          by ! (again (next n m ys ps fs xs t c a u (next-left z) is e d inside long) (nearer (length ys) (t .i) inside))))))))))))))
         where
           inside : t .i < length ys
           inside = ltb-true (t .i) (length ys) f
 
           next-fits : t .i + 1 < 2 ^ 64
-          next-fits = let h = inside in let k = few in omega arith
+          next-fits = let h = inside in let k = small in omega arith
 
           room′ : Runs (listRun (t .a) (state′ (t .zs)))
-          room′ = running-room (state′ xs) ys (t .i) (listRun (t .a) (state′ (t .zs))) (t .inv) (let h = inside in let k = few in omega arith)
+          room′ = running-room (state′ xs) ys (t .i) (listRun (t .a) (state′ (t .zs))) (t .inv) (let h = inside in let k = small in omega arith)
 
           again : (u : T) → below u t → ent 𝓤 (Inv u) (Below t)
           again u h = via 𝓤 (guard 𝓤 (below u t) (Inv u)) (guardI 𝓤 (below u t) (Inv u) h) (exI 𝓤 (λ (u : T). guard 𝓤 (below u t) (Inv u)) u)
@@ -473,33 +479,30 @@ module _ {M : Type 1} (𝓤 : URA M) (H : Heap 𝓤) (A : Atoms 𝓤) (W : Given
           by-test false f = ends t (Below t) f
 
       loops : (t : T) → ent 𝓤 (Inv t) (Wp 𝓤 H C Λ En (loop turn-1) After)
-      loops t = loop-rule 𝓤 H (W .laws) 𝓣 below (falls n m ys ps xs) En turn-1 After Inv turns t
+      loops t = loop-rule 𝓤 H (W .laws) 𝓣 below (falls n m ys ps fs xs) En turn-1 After Inv turns t
 
       -- the MIR up to the loop, once the parameters are passed
       begins : ent 𝓤 (⋆ 𝓤 H A (here (told free []) xs)) (Wp 𝓤 H C Λ En t-1 (atReturn 𝓤 H En Post))
       begins =
           qed W (here (told free []) xs) ∵ exec ! C Λ En t-1 (atRet En Post) $
           reborrows ! lent for-none (for-none + 1) refl refl refl (tt, tt) refl refl refl (tt, (tt, (record { fits = rooms .0 .0 }, tt))) $
-          reborrows ! (lent + 1) (for-none + 2) (for-none + 3) refl refl refl (tt, tt) refl refl refl (tt, (tt, (record { fits = rooms .1 .0 .0 }, tt))) $
-          reborrows ! (lent + 2) (for-none + 4) (for-none + 5) refl refl refl (tt, tt) refl refl refl (tt, (tt, (record { fits = rooms .1 .1 .0 .0 }, tt))) $
-          reborrows ! (lent + 3) (for-none + 6) (for-none + 7) refl refl refl (tt, tt) refl refl refl (tt, (tt, (record { fits = rooms .1 .1 .1 .0 .0 }, tt))) $
-          reborrows ! (lent + 4) (for-none + 8) (for-none + 9) refl refl refl (tt, tt) refl refl refl (tt, (tt, (record { fits = rooms .1 .1 .1 .1 .0 .0 }, tt))) $
-          lft-new ! tt (λ ν. nothing ! $ move ! ((3 + dies) ∷ 0 ∷ []) $ use2 W (later (some (λ (δs : Names Bs). ‵ (Lents Bs ν δs xs ftrue) ⊛ ‵ (Claims Bs ν δs xs))))
-          (lend 𝓤 H A W ν Bs xs ftrue first) $ await ! tt $ pick ! (λ δs. split ! $ move ! (2 ∷ 0 ∷ []) $ use2 W (raw (RunNone 𝓤 H A at-mem go .pre (to-none ν δs))) (asks-none ν δs) $
+          reborrows ! (lent + 4) (for-none + 2) (for-none + 3) refl refl refl (tt, tt) refl refl refl (tt, (tt, (record { fits = rooms .1 .1 .1 .1 .0 .0 }, tt))) $
+          lft-new ! tt (λ ν. nothing ! $ move ! ((3 + dies) ∷ 0 ∷ []) $ use2 W (later (some (λ (δs : Names Bs). ‵ (Lents Bs ν δs xs ftrue) ⊛ ‵ (Claims Bs ν δs xs) ⊛ ‵ (Carried Bs))))
+          (lend 𝓤 H A W ν Bs xs ftrue first) $ await ! tt $ pick ! (λ δs. split ! $ move ! (1 ∷ []) $ split ! $ move ! (3 ∷ 1 ∷ 2 ∷ []) $ use3 W (raw (RunNone 𝓤 H A at-mem go .pre (to-none ν δs))) (asks-none ν δs) $
           -- [what `run_none` asks; the claims; the locals; …]
           calls-at ! fm (RunNone 𝓤 H A at-mem go) known-none (to-none ν δs)
           (takes ! 3 refl (takes ! 4 refl
-          (takes ! (for-none + 3) refl (takes ! (for-none + 5) refl (takes ! (for-none + 7) refl (takes ! (for-none + 9) refl
-          (takes ! (for-none + 11) refl (no-more !)))))))) (λ u.
-          use2 W (Back 𝓤 H A W ν Bs δs xs S.the-row none-left (λ a z. NoneSaid n m ys ps xs a (none-left z)) ftrue u)
-          (comes 𝓤 H A W ν Bs δs xs S.the-row none-left (λ a z. NoneSaid n m ys ps xs a (none-left z)) ftrue u rooms first) $ await ! tt $
+          (takes ! (for-none + 3) refl (takes ! (lent + 3) refl (takes ! (lent + 4) refl (takes ! (lent + 5) refl
+          (takes ! (for-none + 5) refl (no-more !)))))))) (λ u.
+          use2 W (Back 𝓤 H A W ν Bs δs xs S.the-row none-left (λ a z. NoneSaid n m ys ps fs xs a (none-left z)) ftrue u)
+          (comes 𝓤 H A W ν Bs δs xs S.the-row none-left (λ a z. NoneSaid n m ys ps fs xs a (none-left z)) ftrue u rooms first) $ await ! tt $
           pick ! (λ a. pick ! (λ z. learn ! (λ is. learn ! (λ d. learn ! (λ long.
           -- [the buffers; the locals; …]
           land ! (from ! (stop !)) (init ! (1 + answer) refl (EL.lawful S.the-type S′.the-laws 𝓤 H A W tt .typed a _ is .0)) $
           assigns ! (of-opd ! (lit ! tt)) (from ! (stop !)) (init ! (1 + index) refl (tt, record { fits = lit< tt })) $
           move ! (0 ∷ (2 + dies) ∷ (3 + dies) ∷ []) $
           settled ! call En (told free (holds u ∷ holds (vint w64 0) ∷ free ∷ made Bs [])) (Beside (none-left z)) $
-          by ! (loops (starts n m ys ps xs a u (none-left z) is d long))))))))))
+          by ! (loops (starts n m ys ps fs xs a u (none-left z) is d long))))))))))
 
     walk : ent 𝓤 (onEntry 𝓤 H A run.signature κs (parts Bs (q, tt)) (n, (m, args)) vals) (WpFn 𝓤 H C Λ code.function (vint w64 n ∷ vint w64 m ∷ passed) Post)
     walk =
@@ -530,11 +533,11 @@ module _ {M : Type 1} (𝓤 : URA M) (H : Heap 𝓤) (A : Atoms 𝓤) (W : Given
           (
             mut-slice-tells (named 0) (κs .0) i32,
             (
-              mut-slice-tells (named 1) (κs .1 .0) i32,
+              shr-slice-tells (named 1) (κs .1 .0) i32,
               (
-                mut-slice-tells (named 2) (κs .1 .1 .0) i32,
+                shr-slice-tells (named 2) (κs .1 .1 .0) i32,
                 (
-                  mut-slice-tells (named 3) (κs .1 .1 .1 .0) u8,
+                  shr-slice-tells (named 3) (κs .1 .1 .1 .0) u8,
                   (mut-slice-tells (named 4) (κs .1 .1 .1 .1 .0) u8, (shr-slice-tells (named 5) (κs .1 .1 .1 .1 .1 .0) R.the-row, tt)),
                 ),
               ),
@@ -544,10 +547,10 @@ module _ {M : Type 1} (𝓤 : URA M) (H : Heap 𝓤) (A : Atoms 𝓤) (W : Given
       ))
       (λ κs qs bounds a g are. via 𝓤 _ (fst∗ 𝓤 _ (emp 𝓤))
       (walk 𝓤 H A W mem go (a .0) (a .1 .0)
-      (spots κs qs (a .1 .1)) (texts (a .1 .1))
+      (spots κs qs (a .1 .1)) (shown (a .1 .1)) (texts (a .1 .1))
       (κs .1 .1 .1 .1 .1 .0) (qs .1 .1 .1 .1 .1 .0) (a .1 .1 .1 .1 .1 .1 .1 .0) (are .0 .1) (are .1 .0 .1) 𝓣 known-record known-none known-next
       (are .1 .1 .0 .0 .1, (are .1 .1 .1 .0 .0 .1, (are .1 .1 .1 .1 .0 .0 .1, (are .1 .1 .1 .1 .1 .0 .0 .1, (are .1 .1 .1 .1 .1 .1 .0 .0 .1, tt)))))
-      (refl, (refl, (refl, (refl, (refl, tt))))) (are .1 .1 .1 .1 .1 .1 .1 .0)))
+      (refl, (tt, (tt, (tt, (refl, tt))))) (are .1 .1 .1 .1 .1 .1 .1 .0)))
 
   run-meets : Meets 𝓤 H A run.signature (WpFn 𝓤 H (𝓣 .C) (𝓣 .Λ) code.function) (run.spec 𝓤 H A mem go)
   run-meets = walk-meets 𝓤 H A run.ended stayed W (
@@ -557,11 +560,11 @@ module _ {M : Type 1} (𝓤 : URA M) (H : Heap 𝓤) (A : Atoms 𝓤) (W : Given
       (
         goes-slice 𝓤 H A W 6 0 tt (plain (λ _. i32)),
         (
-          goes-slice 𝓤 H A W 6 1 tt (plain (λ _. i32)),
+          goes-none-slice 𝓤 H A W 6 (1 ∷ []) tt (plain (λ _. i32)) yes,
           (
-            goes-slice 𝓤 H A W 6 2 tt (plain (λ _. i32)),
+            goes-none-slice 𝓤 H A W 6 (2 ∷ []) tt (plain (λ _. i32)) yes,
             (
-              goes-slice 𝓤 H A W 6 3 tt (plain (λ _. u8)),
+              goes-none-slice 𝓤 H A W 6 (3 ∷ []) tt (plain (λ _. u8)) yes,
               (goes-slice 𝓤 H A W 6 4 tt (plain (λ _. u8)), (goes-none-slice 𝓤 H A W 6 (5 ∷ []) tt (plain (λ _. R.the-row)) yes, tt)),
             ),
           ),

@@ -30,7 +30,7 @@ use denote.Laws.{Is, Makes, shows}
 use denote.Plain.{uint-makes, uint-tells, uint-vals}
 use denote.Builtin.{u8, i32, usize}
 use denote.Ref.{RefT, now}
-use denote.Slice.{sliceTy, sliceVal, slice-vals, mut-slice-tells, ShrSlice, Room}
+use denote.Slice.{sliceTy, sliceVal, slice-vals, mut-slice-tells, shr-slice-tells, ShrSlice, Room}
 use denote.Steps.{only, owned, peeks, heard, nothing}
 use denote.Enum.Laws as EL
 use denote.Struct.Laws as LL
@@ -41,7 +41,7 @@ use denote.Triple.Statement.{Contract, Triple}
 use denote.Triple.Call.{calls-at}
 use denote.Triple.Clauses.{ensured, lasts}
 use denote.Triple.Table.{entered, cited}
-use denote.Triple.Walked.{says, Stays, stay-none, gave-slice, walkOf, goes-none, goes-gave-slice, Walks, ends-at, walked, walk-meets}
+use denote.Triple.Walked.{says, Stays, stay-none, stay-none-slice, gave-slice, walkOf, goes-none, goes-none-slice, goes-gave-slice, Walks, ends-at, walked, walk-meets}
 use denote.Exit.{yes}
 use Rattle.semantics.specs.CallList.{runList}
 use Rattle.semantics.specs.TwoLists.{CountsAddUp, Demand3Lists, ListMeans}
@@ -52,10 +52,10 @@ use Rattle.flat_list.proofs.RunAnswer as S
 use Rattle.flat_list.proofs.RunAnswer.Laws as S′
 use Rattle.call_list.specs.Records.{numbersOf}
 use Rattle.call.specs.declared.Call.{Call}
-use Rattle.call_list.proofs.Buffers.{All, Buffer, Finals, Leaves, Left, Owns, Refs, Rooms, Same, Times, Tokens, finals, give, last-token, left, lists, locals, made, names, parts, refs, sliced, take, times, values}
+use Rattle.call_list.proofs.Buffers.{All, Copies, Finals, Leaves, Left, Owns, Refs, Rooms, Same, Slice, Times, Tokens, copies, finals, give, last-token, left, lists, locals, made, names, parts, refs, sliced, take, times, values}
 use Rattle.call_list.proofs.Held.{Claim, frees-array, lends-array}
 use Rattle.call_list.proofs.Locals.{Blocks, Cell, Dies, allocated, blockOf, cell, cells, envOf, free, freed, holds}
-use Rattle.call_list.proofs.Parameters.{Spots, Texts, buffers, many, spots, state, texts}
+use Rattle.call_list.proofs.Parameters.{Shown, Spots, Texts, buffers, few, many, shown, spots, state, texts}
 use Rattle.call_list.proofs.Reborrow.{has, reborrows, takes}
 use Rattle.call.proofs.Call as R
 use Rattle.call.proofs.Call.Laws as R′
@@ -77,10 +77,10 @@ stayed = (
     (
       gave-slice (0 ∷ []) tt (plain (λ _. i32)),
       (
-        gave-slice (1 ∷ []) tt (plain (λ _. i32)),
+        stay-none-slice (1 ∷ []) tt (plain (λ _. i32)) yes,
         (
-          gave-slice (2 ∷ []) tt (plain (λ _. i32)),
-          (gave-slice (3 ∷ []) tt (plain (λ _. u8)), (gave-slice (4 ∷ []) tt (plain (λ _. u8)), (stay-none (λ _. Array R.the-row 4) yes, tt))),
+          stay-none-slice (2 ∷ []) tt (plain (λ _. i32)) yes,
+          (stay-none-slice (3 ∷ []) tt (plain (λ _. u8)) yes, (gave-slice (4 ∷ []) tt (plain (λ _. u8)), (stay-none (λ _. Array R.the-row 4) yes, tt))),
         ),
       ),
     ),
@@ -103,12 +103,12 @@ calls = 3 + many
 abbrev copy : ℕ
 copy = 4 + many
 
--- what is made for `run`, a pair a buffer
+-- what is made for `run`, a pair a slice to be written
 abbrev for-run : ℕ
 for-run = 5 + many
 
 abbrev array : ℕ
-array = for-run + 2 * many
+array = for-run + 2 * few
 
 abbrev records : ℕ
 records = 1 + array
@@ -126,9 +126,9 @@ abbrev rec : Ty
 rec = sliceTy (tyRef erased imm (pointee (R.the-row .written)))
 
 module _ {M : Type 1} (𝓤 : URA M) (H : Heap 𝓤) (A : Atoms 𝓤) (W : Given 𝓤 H A) (at-mem : Memory → SProp 𝓤) (go : Routine → Fun 𝓤)
-    (n m : ℕ) (ps : Spots) (xs : Texts) (ys : List Call) (n-fits : n < 2 ^ 64) (m-fits : m < 2 ^ 64) where
-  abbrev Bs : List Buffer
-  Bs = buffers ps
+    (n m : ℕ) (ps : Spots) (fs : Shown) (xs : Texts) (ys : List Call) (n-fits : n < 2 ^ 64) (m-fits : m < 2 ^ 64) where
+  abbrev Bs : List Slice
+  Bs = buffers ps fs
 
   abbrev arr : Val
   arr = only (array-vals (LL.vals R.the-type R′.the-laws) ys)
@@ -147,10 +147,10 @@ module _ {M : Type 1} (𝓤 : URA M) (H : Heap 𝓤) (A : Atoms 𝓤) (W : Given
 
   -- what is said of the answer a and of the lists left
   abbrev Said : RunAnswer → Texts → Type 0
-  Said a zs = listRun a (state n m zs) ≡ runList (state n m xs) (numbersOf ys)
+  Said a zs = listRun a (state n m fs zs) ≡ runList (state n m fs xs) (numbersOf ys)
 
   abbrev Meaning : RunAnswer → Texts → Type 0
-  Meaning a zs = ListMeans (state n m xs) (listRun a (state n m zs))
+  Meaning a zs = ListMeans (state n m fs xs) (listRun a (state n m fs zs))
 
   -- the call of `run`, with the array in block l lent for ν under the name δ
   abbrev slice : ℕ → GName → RefT (List Call)
@@ -212,15 +212,15 @@ module _ {M : Type 1} (𝓤 : URA M) (H : Heap 𝓤) (A : Atoms 𝓤) (W : Given
     typed : Holds (hasTy (tyArray R′.mir 4) arr) × WT arr
     typed = array-lawful 𝓤 H A W R.the-row (LL.lawful R.the-type R′.the-laws 𝓤 H A W) 4 .typed ys (arr ∷ []) is-arr .0
 
-    -- [the tokens; the answer; what `run` left]
+    -- [the tokens; the answer; what `run` left; the slices to be read]
     abbrev Ends : RunAnswer → Val → Texts → List (Item 𝓤)
-    Ends a u zs = ‵ (Tokens Bs ftrue) ∷ ‵ (S.the-row .own a (u ∷ [])) ∷ ‵ (Leaves Bs (names Bs) xs zs (fsep ftrue ftrue)) ∷ []
+    Ends a u zs = ‵ (Tokens Bs ftrue) ∷ ‵ (S.the-row .own a (u ∷ [])) ∷ ‵ (Leaves Bs (names Bs) xs zs (fsep ftrue ftrue)) ∷ ‵ (Copies Bs) ∷ []
 
     exits : (a : RunAnswer) (u : Val) (zs : Texts) → Said a zs → ent 𝓤 (⋆ 𝓤 H A (Ends a u zs)) (Post u)
     exits a u zs e =
         let G = fsep (Array R.the-row 4 .own ys (arr ∷ [])) ftrue in
-        qed W (Ends a u zs) ∵ nothing ! $ owned ! (Array R.the-row 4) (Is (Array R.the-row 4)) made-array ys (arr ∷ []) is-arr $ fjoin ! $ move ! (3 ∷ 0 ∷ []) $
-        use2 W (given (Same Bs zs xs (Unit {0} × Unit {0})) (‵ (Finals Bs (names Bs) zs G))) (finals 𝓤 H A W Bs (names Bs) xs zs (fsep ftrue ftrue) G) $ learn ! (λ lengths.
+        qed W (Ends a u zs) ∵ nothing ! $ owned ! (Array R.the-row 4) (Is (Array R.the-row 4)) made-array ys (arr ∷ []) is-arr $ fjoin ! $ move ! (3 ∷ 4 ∷ 0 ∷ []) $
+        use3 W (given (Same Bs zs xs (Unit {0} × Unit {0})) (‵ (Finals Bs (names Bs) zs G))) (finals 𝓤 H A W Bs (names Bs) xs zs (fsep ftrue ftrue) G) $ learn ! (λ lengths.
         suffices ! _ (ends-at 𝓤 H A four-run.ended stayed (four-run.clauses 𝓤 H A at-mem go) W bound u a (tt, (tt, lists Bs zs (tt, tt))) (tt, (tt, lengths))) $ says ! e $
         move ! (1 ∷ []) $ frame ! $
         owned ! usize (Is usize) (uint-makes 𝓤 H A W w64) m _ (refl, m-fits) $ fjoin ! $ owned ! usize (Is usize) (uint-makes 𝓤 H A W w64) n _ (refl, n-fits) $ fjoin ! $ frame ! $ done !)
@@ -244,10 +244,7 @@ module _ {M : Type 1} (𝓤 : URA M) (H : Heap 𝓤) (A : Atoms 𝓤) (W : Given
       begins =
           qed W Start ∵ exec ! C Λ En t-1 (atRet En Post) $ assigns ! (of-opd ! (has ! calls refl)) (from ! (stop !)) (init ! copy refl typed) $
           reborrows ! lent for-run (for-run + 1) refl refl refl (tt, tt) refl refl refl (tt, (tt, (record { fits = rooms .0 .0 }, tt))) $
-          reborrows ! (lent + 1) (for-run + 2) (for-run + 3) refl refl refl (tt, tt) refl refl refl (tt, (tt, (record { fits = rooms .1 .0 .0 }, tt))) $
-          reborrows ! (lent + 2) (for-run + 4) (for-run + 5) refl refl refl (tt, tt) refl refl refl (tt, (tt, (record { fits = rooms .1 .1 .0 .0 }, tt))) $
-          reborrows ! (lent + 3) (for-run + 6) (for-run + 7) refl refl refl (tt, tt) refl refl refl (tt, (tt, (record { fits = rooms .1 .1 .1 .0 .0 }, tt))) $
-          reborrows ! (lent + 4) (for-run + 8) (for-run + 9) refl refl refl (tt, tt) refl refl refl (tt, (tt, (record { fits = rooms .1 .1 .1 .1 .0 .0 }, tt))) $
+          reborrows ! (lent + 4) (for-run + 2) (for-run + 3) refl refl refl (tt, tt) refl refl refl (tt, (tt, (record { fits = rooms .1 .1 .1 .1 .0 .0 }, tt))) $
           assigns ! (addr ! (from ! (stop !))) (from ! (stop !)) (init ! array refl (tt, tt)) $
           assigns ! (agg ! (takes ! array refl (and-then ! (lit ! tt) (no-more !)))) (from ! (stop !)) (init ! records refl (tt, (tt, (record { fits = lit< tt }, tt)))) $
           rewrite ! records (λ (k : ℕ). cell (rec, blockOf En records) (holds (sliceVal (l, 0) k))) (sym long) refl $
@@ -256,24 +253,25 @@ module _ {M : Type 1} (𝓤 : URA M) (H : Heap 𝓤) (A : Atoms 𝓤) (W : Given
           use2 W (later (some (λ (δ : GName). ‵ (Shr l ν δ) ⊛ ‵ (Claim R.the-row tt 4 (ν ∷ []) l ys))))
           (lends-array R.the-row tt 4 (ν ∷ []) l 𝓤 H A W ys long (named 5) arr (subst (Room R.the-row) (sym long) (lit< tt, lit< tt))) $ await ! tt $ pick ! (λ δ. split ! $
           -- [the slice; the claim on the array; ν; the locals but the array; …]
-          move ! ((3 + dies) ∷ 2 ∷ 0 ∷ []) $ use3 W (raw (Run 𝓤 H A at-mem go .pre (to l ν δ))) (asks l ν δ) $
+          move ! ((3 + dies) ∷ []) $ use1 W (‵ (All Bs xs) ⊛ ‵ (Copies Bs)) (copies 𝓤 H A W Bs xs) $ split ! $
+          move ! (0 ∷ 4 ∷ 2 ∷ []) $ use3 W (raw (Run 𝓤 H A at-mem go .pre (to l ν δ))) (asks l ν δ) $
           calls-at ! fm (Run 𝓤 H A at-mem go) known (to l ν δ)
-          (takes ! 3 refl (takes ! 4 refl
-          (takes ! (for-run + 2) refl (takes ! (for-run + 4) refl (takes ! (for-run + 6) refl (takes ! (for-run + 8) refl
-          (takes ! (for-run + 10) refl (takes ! (records + 1) refl (no-more !))))))))) (λ u.
+          (takes ! 4 refl (takes ! 5 refl
+          (takes ! (for-run + 3) refl (takes ! (lent + 4) refl (takes ! (lent + 5) refl (takes ! (lent + 6) refl
+          (takes ! (for-run + 5) refl (takes ! (records + 2) refl (no-more !))))))))) (λ u.
           use1 W (later (some (λ (a : RunAnswer). (‵ (Tokens Bs (fsep (flft (ν ∷ []) fullShare) ftrue)) ⊛ ‵ (S.the-row .own a (u ∷ [])))
           ⊛ raw (ensured 𝓤 H A run.ended (run.clauses 𝓤 H A at-mem go) (lfts ν) (args l δ) tt a)))) (id⊢ 𝓤 _) $ await ! tt $ pick ! (λ a. split ! $ move ! (1 ∷ []) $
           use1 W (some (λ (z : Last). ‵ (lasts run.ended (lfts ν) (args l δ) z) ⊛ raw (fact 𝓤 (Said a (last z))) ⊛ raw (fact 𝓤 (Meaning a (last z)))
           ⊛ raw (fact 𝓤 (EveryModelHandedIn × Demand3Lists)) ⊛ raw (fact 𝓤 CountsAddUp))) (id⊢ 𝓤 _) $
           pick ! (λ z. split ! $ move ! (1 ∷ []) $ split ! $ heard ! (Said a (last z)) (λ d. lose ! $ fsplit ! $ lose ! $ fsplit ! $ lose ! $
           move ! (1 ∷ []) $ split ! $ move ! (1 ∷ []) $ peeks ! S.the-row (Is S.the-row) (shows 𝓤 H A S.the-row) a (u ∷ []) (λ is.
-          -- [the answer; the tokens; what is left; the claim on the array; the locals but the array; …]
-          land ! (from ! (stop !)) (init ! 4 refl (EL.lawful S.the-type S′.the-laws 𝓤 H A W tt .typed a _ is .0)) $
+          -- [the answer; the tokens; what is left; the slices to be read; the claim on the array; the locals but the array; …]
+          land ! (from ! (stop !)) (init ! 5 refl (EL.lawful S.the-type S′.the-laws 𝓤 H A W tt .typed a _ is .0)) $
           move ! (1 ∷ []) $ use1 W (‵ (Tokens Bs ftrue) ⊛ ‵ (fsep (flft (ν ∷ []) fullShare) ftrue)) (last-token 𝓤 H A W Bs (fsep (flft (ν ∷ []) fullShare) ftrue)) $ split ! $
-          move ! (1 ∷ []) $ fsplit ! $ lft-end ! tt $ move ! (0 ∷ 5 ∷ []) $ use2 W (later (‵ (froom (tyArray R′.mir 4) l 0)))
+          move ! (1 ∷ []) $ fsplit ! $ lft-end ! tt $ move ! (0 ∷ 6 ∷ []) $ use2 W (later (‵ (froom (tyArray R′.mir 4) l 0)))
           (frees-array R.the-row tt 4 (ν ∷ []) l 𝓤 H A W ys long (LL.vals R.the-type R′.the-laws) (LL.tells R.the-type R′.the-laws)) $ await ! tt $
-          -- [the array's room; true; the tokens; the answer; what is left; the locals but the array; …]
-          returns ! (look ! 5 refl) $ move ! (range 5 copy (0 ∷ range (5 + copy) (3 + 2 * many) [])) $
+          -- [the array's room; true; the tokens; the answer; what is left; the slices to be read; the locals but the array; …]
+          returns ! (look ! 6 refl) $ move ! (range 6 copy (0 ∷ range (6 + copy) (3 + 2 * few) [])) $
           freed ! En (told (holds u) (free ∷ made Bs (holds (vptr l 0) ∷ holds (sliceVal (l, 0) (length ys)) ∷ []))) $ lose ! $ by ! (exits a u (last z) d))))))))
 
     walk : ent 𝓤 (onEntry 𝓤 H A four-run.signature κs (parts Bs tt) (n, (m, refs Bs (names Bs) xs (ys, tt))) vals) (WpFn 𝓤 H C Λ code.function passed Post)
@@ -301,11 +299,11 @@ module _ {M : Type 1} (𝓤 : URA M) (H : Heap 𝓤) (A : Atoms 𝓤) (W : Given
           (
             mut-slice-tells (named 0) (κs .0) i32,
             (
-              mut-slice-tells (named 1) (κs .1 .0) i32,
+              shr-slice-tells (named 1) (κs .1 .0) i32,
               (
-                mut-slice-tells (named 2) (κs .1 .1 .0) i32,
+                shr-slice-tells (named 2) (κs .1 .1 .0) i32,
                 (
-                  mut-slice-tells (named 3) (κs .1 .1 .1 .0) u8,
+                  shr-slice-tells (named 3) (κs .1 .1 .1 .0) u8,
                   (
                     mut-slice-tells (named 4) (κs .1 .1 .1 .1 .0) u8,
                     (array-tells R.the-row (LL.vals R.the-type R′.the-laws) (LL.tells R.the-type R′.the-laws) 4, tt),
@@ -318,7 +316,7 @@ module _ {M : Type 1} (𝓤 : URA M) (H : Heap 𝓤) (A : Atoms 𝓤) (W : Given
       ))
       (λ κs qs bounds a g are. via 𝓤 _ (fst∗ 𝓤 _ (emp 𝓤))
       (walk 𝓤 H A W mem go (a .0) (a .1 .0)
-      (spots κs qs (a .1 .1)) (texts (a .1 .1)) (a .1 .1 .1 .1 .1 .1 .1 .0) (are .0 .1) (are .1 .0 .1) 𝓣 known
+      (spots κs qs (a .1 .1)) (shown (a .1 .1)) (texts (a .1 .1)) (a .1 .1 .1 .1 .1 .1 .1 .0) (are .0 .1) (are .1 .0 .1) 𝓣 known
       (are .1 .1 .0 .0 .1, (are .1 .1 .1 .0 .0 .1, (are .1 .1 .1 .1 .0 .0 .1, (are .1 .1 .1 .1 .1 .0 .0 .1, (are .1 .1 .1 .1 .1 .1 .0 .0 .1, tt)))))
       (are .1 .1 .1 .1 .1 .1 .1 .0)))
 
@@ -330,11 +328,11 @@ module _ {M : Type 1} (𝓤 : URA M) (H : Heap 𝓤) (A : Atoms 𝓤) (W : Given
       (
         goes-gave-slice 𝓤 H A W 5 0 tt (plain (λ _. i32)),
         (
-          goes-gave-slice 𝓤 H A W 5 1 tt (plain (λ _. i32)),
+          goes-none-slice 𝓤 H A W 5 (1 ∷ []) tt (plain (λ _. i32)) yes,
           (
-            goes-gave-slice 𝓤 H A W 5 2 tt (plain (λ _. i32)),
+            goes-none-slice 𝓤 H A W 5 (2 ∷ []) tt (plain (λ _. i32)) yes,
             (
-              goes-gave-slice 𝓤 H A W 5 3 tt (plain (λ _. u8)),
+              goes-none-slice 𝓤 H A W 5 (3 ∷ []) tt (plain (λ _. u8)) yes,
               (goes-gave-slice 𝓤 H A W 5 4 tt (plain (λ _. u8)), (goes-none 𝓤 H A W 5 (λ _. Array R.the-row 4) yes (λ κs x f. refl), tt)),
             ),
           ),

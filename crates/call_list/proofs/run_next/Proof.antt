@@ -29,11 +29,11 @@ unfolding Runs RunsAt listRun listAnswer countsOf
 run-valid s p e = let r = rw e at p in (r .valid, r .small)
 
 run-record-requires : tie.Need-run-record-requires
-run-record-requires c κs = let h = c .before .before .before .before .before .before in run-valid _ (h .before .before .before .before .pre) (h .answer .given .1) .0
+run-record-requires c κs = let h = c .before .before .before in run-valid _ (h .before .before .before .before .pre) (h .answer .given .1) .0
 
 count-requires : tie.Need-count-requires
 count-requires c κs =
-    let h = c .before .before .before .before .before .before .before .before .before .before .before .before .before .before in
+    let h = c .before .before .before .before .before .before .before in
     run-valid _ (h .before .before .before .before .pre) (h .answer .given .1) .1
 
 same-length : tie.Need-same-length
@@ -42,20 +42,11 @@ same-length c = search needs
 same-length-2 : tie.Need-same-length-2
 same-length-2 c = search needs
 
-same-length-3 : tie.Need-same-length-3
-same-length-3 c = search needs
-
-same-length-4 : tie.Need-same-length-4
-same-length-4 c = search needs
-
-same-length-5 : tie.Need-same-length-5
-same-length-5 c = search needs
-
 returns-2 : tie.Need-returns-2
 unfolding listRun listAnswer runNext nextOf
 returns-2 c =
-    let r = c .before .before .before .before .before .before .before .before in
-    let h = r .before .before .before .before .before .before .before in
+    let r = c .before .before .before .before in
+    let h = r .before .before .before .before in
     rw (h .answer .given .1, c .count .ensures, r .run-record .ensures .0, r .run-record .ensures .1)
 
 pub run-next-spec : {M : Type 1} → statement M
@@ -69,7 +60,4 @@ run-next-spec =
     count-requires
     same-length
     same-length-2
-    same-length-3
-    same-length-4
-    same-length-5
     returns-2)

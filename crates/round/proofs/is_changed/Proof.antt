@@ -19,7 +19,7 @@ use Rattle.round.proofs.is_changed.Tie as tie
 -- what the else of `let CallClass::Changed = class else` knows: the tag is another's
 not-changed : (k : CallClass) → OneOf (0 ∷ 1 ∷ 3 ∷ []) (tagOf the-type k) → false ≡ isChange (classIs k)
 unfolding isChange classIs
-not-changed Refused h = refl
+not-changed (Refused number) h = refl
 not-changed Infeasible h = refl
 not-changed Changed h =
     ⊎-elim (λ e. let z : _≡_ {A = ℕ} 2 0 = e in absurd (omega arith))

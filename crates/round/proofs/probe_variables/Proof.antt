@@ -16,7 +16,7 @@ slice-aggregate-probe-variables-marked-3 c = search needs
 
 probe-variables-marked-requires : tie.Need-probe-variables-marked-requires
 unfolding stateOf
-probe-variables-marked-requires c κs = let p = c .before .before .before .before .before .before .before .before .before .before .pre in (p, marked-none (p .model))
+probe-variables-marked-requires c κs = let p = c .before .before .before .before .before .before .before .pre in (p, marked-none (p .model))
 
 same-length : tie.Need-same-length
 same-length c = search needs
@@ -24,17 +24,8 @@ same-length c = search needs
 same-length-2 : tie.Need-same-length-2
 same-length-2 c = search needs
 
-same-length-3 : tie.Need-same-length-3
-same-length-3 c = search needs
-
-same-length-4 : tie.Need-same-length-4
-same-length-4 c = search needs
-
-same-length-5 : tie.Need-same-length-5
-same-length-5 c = search needs
-
 returns : tie.Need-returns
-returns c = c .before .before .before .before .before .before .probe-variables-marked .ensures
+returns c = search needs
 
 pub probe-variables-spec : {M : Type 1} → statement M
 probe-variables-spec =
@@ -46,7 +37,4 @@ probe-variables-spec =
     probe-variables-marked-requires
     same-length
     same-length-2
-    same-length-3
-    same-length-4
-    same-length-5
     returns)

@@ -11,7 +11,7 @@ use Rattle.semantics.specs.Call.{callOf}
 use Rattle.model.specs.Rows.{rowsOf}
 use Rattle.model.specs.State.{stateOf}
 use Rattle.round.specs.Round.{probeCall, probes}
-use Rattle.round.proofs.RoundLaws.{Turns, all-turns, call-turn, flag-kept, flag-raised, no-turn, skip-turn, turns-lengths, turns-valid}
+use Rattle.round.proofs.RoundLaws.{Turns, accepts-probe, all-turns, call-turn, flag-kept, flag-raised, no-turn, skip-turn, turns-lengths, turns-valid}
 use Rattle.round.proofs.probe_variables_marked.Statement.{statement}
 use Rattle.round.proofs.probe_variables_marked.Tie as tie
 
@@ -40,8 +40,13 @@ unfolding stateOf
 is-free-requires c κs =
     let t = c .before in omega (arith, t .loop-test .taken, turns-valid (t .before .loop .inv .0) .model .box .len)
 
-run-probe-record-requires : tie.Need-run-probe-record-requires Inv-loop μ-loop
-run-probe-record-requires c κs = let i = c .before .before .before .before .before .before .before .before .before .loop .inv in (turns-valid (i .0), i .1)
+run-probe-marked-requires : tie.Need-run-probe-marked-requires Inv-loop μ-loop
+unfolding stateOf
+run-probe-marked-requires c κs =
+    let t = c .before .before .before .before .before .before .before .before in
+    let i = t .before .loop .inv in
+    let v = turns-valid (i .0) in
+    (v, (accepts-probe v (t .loop-test .taken) (sym (c .before .before .before .before .before .before .is-free .ensures) ∙ c .before .before .before .before .before .if1 .taken), i .1))
 
 is-changed-requires : tie.Need-is-changed-requires Inv-loop μ-loop
 is-changed-requires c κs = tt
@@ -117,7 +122,7 @@ probe-variables-marked-spec =
     cast-loop
     cast-is-free
     is-free-requires
-    run-probe-record-requires
+    run-probe-marked-requires
     is-changed-requires
     add-k
     loop-less

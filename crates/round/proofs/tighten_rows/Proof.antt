@@ -10,11 +10,11 @@ use Rattle.round.proofs.tighten_rows.Statement.{statement}
 use Rattle.round.proofs.tighten_rows.Tie as tie
 
 abbrev Inv-loop : tie.InvT-loop
-Inv-loop n m bounds₀ coefs₀ rhs₀ kinds₀ table₀ changed₀ r₀ bounds coefs rhs kinds table changed r =
-    Turns m tightenRow (stateOf n m bounds₀ (rowsOf coefs₀ rhs₀ kinds₀) table₀) (stateOf n m bounds (rowsOf coefs rhs kinds) table) changed r
+Inv-loop n m bounds coefs₀ rhs₀ kinds table changed₀ r₀ coefs rhs changed r =
+    Turns m tightenRow (stateOf n m bounds (rowsOf coefs₀ rhs₀ kinds) table) (stateOf n m bounds (rowsOf coefs rhs kinds) table) changed r
 
 abbrev μ-loop : tie.MeasureT-loop
-μ-loop n m bounds₀ coefs₀ rhs₀ kinds₀ table₀ changed₀ r₀ bounds coefs rhs kinds table changed r = m - r
+μ-loop n m bounds coefs₀ rhs₀ kinds table changed₀ r₀ coefs rhs changed r = m - r
 
 loop-holds : tie.Need-loop-holds Inv-loop μ-loop
 unfolding stateOf
@@ -24,13 +24,12 @@ cast-loop : tie.Need-cast-loop Inv-loop μ-loop
 cast-loop c = omega arith
 
 tighten-row-requires : tie.Need-tighten-row-requires Inv-loop μ-loop
-tighten-row-requires c κs = let t = c .before .before .before .before .before in (t .loop-test .taken, turns-valid (t .before .loop .inv))
+tighten-row-requires c κs = let t = c .before .before in (t .loop-test .taken, turns-valid (t .before .loop .inv))
 
 add-r : tie.Need-add-r Inv-loop μ-loop
 unfolding stateOf
 add-r c =
-    let t = c .before .before .before .before .before .before .before .before .before .before .before .before .before .before in
-    omega (arith, t .loop-test .taken, turns-valid (t .before .loop .inv) .model .fewRows)
+    let t = c .before .before .before .before .before .before in omega (arith, t .loop-test .taken, turns-valid (t .before .loop .inv) .model .fewRows)
 
 loop-less : tie.Need-loop-less Inv-loop μ-loop
 loop-less c = omega arith
@@ -38,8 +37,8 @@ loop-less c = omega arith
 loop-again : tie.Need-loop-again Inv-loop μ-loop
 unfolding stateOf
 loop-again c =
-    let d = c .before .before .before .before .before .before .before .before in
-    let t = d .before .before .before .before .before .before in
+    let d = c .before .before .before in
+    let t = d .before .before .before in
     let l = t .before .loop in
     turn (t .before .before .before .before .args .m) tightenRow (l .inv) (t .loop-test .taken)
     (record { left = d .tighten-row .ensures .0; changed = d .tighten-row .ensures .1 })
@@ -47,23 +46,11 @@ loop-again c =
 
 same-length : tie.Need-same-length Inv-loop μ-loop
 unfolding stateOf
-same-length c = turns-lengths (c .before .loop .inv) .box
+same-length c = turns-lengths (c .before .loop .inv) .coefs
 
 same-length-2 : tie.Need-same-length-2 Inv-loop μ-loop
 unfolding stateOf
-same-length-2 c = turns-lengths (c .before .loop .inv) .coefs
-
-same-length-3 : tie.Need-same-length-3 Inv-loop μ-loop
-unfolding stateOf
-same-length-3 c = turns-lengths (c .before .loop .inv) .rhs
-
-same-length-4 : tie.Need-same-length-4 Inv-loop μ-loop
-unfolding stateOf
-same-length-4 c = turns-lengths (c .before .loop .inv) .kinds
-
-same-length-5 : tie.Need-same-length-5 Inv-loop μ-loop
-unfolding stateOf
-same-length-5 c = turns-lengths (c .before .loop .inv) .table
+same-length-2 c = turns-lengths (c .before .loop .inv) .rhs
 
 returns : tie.Need-returns Inv-loop μ-loop
 unfolding stateOf tightenings
@@ -85,7 +72,4 @@ tighten-rows-spec =
     loop-again
     same-length
     same-length-2
-    same-length-3
-    same-length-4
-    same-length-5
     returns)

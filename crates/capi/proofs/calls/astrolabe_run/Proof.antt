@@ -40,20 +40,13 @@ same-length-2 c = search needs
 same-length-3 : tie.Need-same-length-3
 same-length-3 c = search needs
 
-same-length-4 : tie.Need-same-length-4
-same-length-4 c = search needs
-
-same-length-5 : tie.Need-same-length-5
-same-length-5 c = search needs
-
-same-length-6 : tie.Need-same-length-6
-same-length-6 c = search needs
-
 returns-2 : tie.Need-returns-2
 returns-2 c =
-    let p = c .before .before .before .before .before .before .before .before .before .before .before .before in
-    let s = p .before .before .before .before .before .before .before .before .before .before .before in
-    list-replied (s .args .answer .now) (before s) (state s (p .run .last .1 .1 .0) (rowsOf (p .run .last .1 .1 .1 .0) (p .run .last .1 .1 .1 .1 .0) (p .run .last .1 .1 .1 .1 .1 .0)) (p .run .last .1 .1 .1 .1 .1 .1 .0)) (s .args .calls .now) (p .run .result) (p .before .before .before .before .before .before .if1 .left) (c .before .before .put .ensures) (c .before .before .before .before .run-reply .ensures)
+    let p = c .before .before .before .before .before .before .before .before in
+    let s = p .before .before .before .before .before .before .before .before in
+    list-replied (s .args .answer .now) (before s)
+    (state s (p .run .last .1 .1 .0) (rowsOf (s .args .coefs .now) (s .args .rhs .now) (s .args .kinds .now)) (p .run .last .1 .1 .1 .1 .1 .1 .0))
+    (s .args .calls .now) (p .run .result) (p .before .before .before .if1 .left) (c .before .before .put .ensures) (c .before .before .before .before .run-reply .ensures)
     (p .run .ensures .0)
 
 pub astrolabe-run-spec : {M : Type 1} → statement M
@@ -68,7 +61,4 @@ astrolabe-run-spec =
     same-length
     same-length-2
     same-length-3
-    same-length-4
-    same-length-5
-    same-length-6
     returns-2)
