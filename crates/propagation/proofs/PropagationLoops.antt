@@ -61,10 +61,6 @@ module _ {n m : ℕ} {B₀ : List ℤ} {A : Rows} (v : ValidModel (modelOf n m B
   pub row-in : RowIn n A r
   row-in = record { coefs = row-fits; rhs = rw (v .rhsLen) h; kinds = rw (v .kindsLen) h }
 
-  -- its right side, as the machine has it
-  pub row-rhs : toZ w32 (ofZ w32 (at (A .rhs) r)) ≡ at (A .rhs) r
-  row-rhs = toZ-ofZ {w = w32} (within-fits w32 tt (rhs-within (v .rhs r)))
-
 -- ---- one row more of the pass over the box B
 
 -- rows 0 to r − 1 left the box P; `before` bounds moved before the pass, and with those that these rows moved they are `sum`

@@ -13,7 +13,8 @@ use Rattle.model.specs.Rows.{Rows, rowAt, setRow}
 use Rattle.model.specs.Valid.{ValidModel}
 use Rattle.model.proofs.CheckLaws.{fault-none}
 use Rattle.row.specs.Outcome.{Outcome}
-use Rattle.row.specs.Kinds.{ChangedRow, propagateRowOf}
+use Rattle.row_change.specs.KindChanges.{ChangedRow}
+use Rattle.row.specs.Kinds.{propagateRowOf}
 use Rattle.row.specs.Propagation.{PropagatedRow}
 use Rattle.semantics.specs.CallList.{ListRun, runList}
 use Rattle.semantics.specs.CallChecks.{callFault, lentTable, recordChecks}

@@ -3,7 +3,7 @@
 use model::MAX_ROWS;
 use model::MAX_VARIABLES;
 use probing::is_free;
-use row::tightening::may_tighten;
+use row_change::tightening::may_tighten;
 use row_view::changes::maximum_activity_at;
 use step::CallClass;
 use step::call::Call;
@@ -17,7 +17,7 @@ ghost use mathlib.Core.Bool.{_&&_};
 ghost use Prim.Native.Nat.{_*_, _+_, _<_};
 ghost use Rattle.model.specs.Box.{at, isFree};
 ghost use Rattle.probing.specs.Marked.{Marked};
-ghost use Rattle.row.specs.Tightening.{mayTighten};
+ghost use Rattle.row_change.specs.Tightening.{mayTighten};
 ghost use Rattle.model.specs.Valid.{ValidState};
 ghost use Rattle.semantics.specs.Run.{run as ran};
 ghost use Rattle.step.specs.Classes.{classIs};

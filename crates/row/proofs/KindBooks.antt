@@ -8,12 +8,11 @@ use Rattle.integer.specs.Order.{eqZ, maxZ, minZ}
 use Rattle.model.specs.Box.{boxOf, emptyBox, isEmpty, sameList}
 use Rattle.model.specs.Point.{MeetsOver, dot}
 use Rattle.model.specs.Rows.{Row, isEquality, negated, negatedCoefs}
-use Rattle.row.specs.Activity.{maxActivity, maxTerm, minActivity, minTerm}
-use Rattle.row.specs.Kinds.{andThen, propagateRowOf, removeRowOf, tightenRowOf}
+use Rattle.row.specs.Activity.{minActivity, minTerm}
+use Rattle.row.specs.Kinds.{andThen, propagateRowOf}
 use Rattle.row.specs.Moved.{differs, movedBounds}
-use Rattle.row.specs.Outcome.{changed, infeasible, isChanged, isInfeasible, unchanged}
+use Rattle.row.specs.Outcome.{changed, infeasible, isChanged, isInfeasible}
 use Rattle.row.specs.Propagation.{impliedBox, newLower, newUpper, propagateRow, stays}
-use Rattle.row.specs.Redundancy.{zeroRow}
 
 -- −2x + y = 0
 abbrev double : Row
@@ -41,19 +40,3 @@ pub half-lost : (propagateRowOf 1 half (pos 0 ∷ pos 5 ∷ []) ≡ record { out
     × (propagateRowOf 1 three (pos 0 ∷ pos 5 ∷ []) .moved ≡ 2)
 unfolding propagateRowOf andThen isEquality negated negatedCoefs isChanged isInfeasible propagateRow impliedBox newLower newUpper stays minActivity minTerm sameList isEmpty emptyBox boxOf sum all eqZ minZ maxZ floorDiv ceilDiv dot movedBounds differs
 half-lost = (refl, record { le = λ z. absurd z; eq = λ _. refl }, refl)
-
--- 3x + 2y = 5 over free 0-1 variables: Lmax ≤ b alone does not drop it; with x and y at 1 it is dropped, kind and all; 0 = 0 is dropped
--- for its kind
-abbrev sumIsFive : Row
-sumIsFive = record { coefs = pos 3 ∷ pos 2 ∷ []; rhs = pos 5; kind = 1 }
-
-pub removals :
-    (removeRowOf 2 sumIsFive (pos 0 ∷ pos 1 ∷ pos 0 ∷ pos 1 ∷ []) ≡ record { outcome = unchanged; row = sumIsFive })
-    × (removeRowOf 2 sumIsFive (pos 1 ∷ pos 1 ∷ pos 1 ∷ pos 1 ∷ [])
-    ≡ record { outcome = changed; row = record { coefs = pos 0 ∷ pos 0 ∷ []; rhs = pos 0; kind = 0 } })
-    × (removeRowOf 1 (record { coefs = pos 0 ∷ []; rhs = pos 0; kind = 1 }) (pos 0 ∷ pos 1 ∷ [])
-    ≡ record { outcome = changed; row = record { coefs = pos 0 ∷ []; rhs = pos 0; kind = 0 } })
-    × (tightenRowOf 2 (record { coefs = pos 3 ∷ pos 2 ∷ []; rhs = pos 4; kind = 1 }) (pos 0 ∷ pos 1 ∷ pos 0 ∷ pos 1 ∷ []) 0
-    ≡ record { outcome = unchanged; row = record { coefs = pos 3 ∷ pos 2 ∷ []; rhs = pos 4; kind = 1 } })
-unfolding removeRowOf tightenRowOf isEquality minActivity minTerm maxActivity maxTerm sameList isEmpty emptyBox boxOf sum eqZ zeroRow
-removals = (refl, refl, refl, refl)

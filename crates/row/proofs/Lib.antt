@@ -5,17 +5,12 @@ pub mod BoundLaws
 pub mod ImpliedBoxLaws
 pub mod MovedLaws
 pub mod PropagationLaws
-pub mod Replacement
-pub mod TighteningLaws
-pub mod RedundancyLaws
 pub mod AnswerLaws
 pub mod SignedLaws
 pub mod KindLaws
-pub mod KindChangeLaws
 pub mod NegatedRow
 pub mod KindMovedLaws
 pub mod KindBooks
-pub mod WorkedBooks
 pub mod ReachLaws
 pub mod KindMoves
 pub mod RowLoops

@@ -12,7 +12,7 @@ use Rattle.integer.proofs.Tests.{T→true, and-l, true→T}
 use Rattle.model.specs.Box.{at, isFree}
 use Rattle.model.specs.Rows.{rowOf, rowsOf}
 use Rattle.row.specs.Activity.{maxActivity}
-use Rattle.row.specs.Tightening.{mayTighten}
+use Rattle.row_change.specs.Tightening.{mayTighten}
 use Rattle.semantics.specs.Call.{callOf}
 use Rattle.model.specs.State.{stateOf}
 use Rattle.rounds.specs.Rounds.{tightenCall, tightenRow}

@@ -1,6 +1,6 @@
 -- `step::class_of_removal`: each outcome has its class. Assumes nothing.
 use borrow.Author.Needs.{needs}
-use Rattle.row.specs.Answers.{removalOutcome}
+use Rattle.row_change.specs.Answers.{removalOutcome}
 use Rattle.step.specs.Classes.{classIs, outcomeClass}
 use Rattle.step.proofs.class_of_removal.Statement.{statement}
 use Rattle.step.proofs.class_of_removal.Tie as tie

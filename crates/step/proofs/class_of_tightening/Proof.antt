@@ -1,6 +1,6 @@
 -- `step::class_of_tightening`: each outcome has its class. Assumes nothing.
 use borrow.Author.Needs.{needs}
-use Rattle.row.specs.Answers.{tighteningOutcome}
+use Rattle.row_change.specs.Answers.{tighteningOutcome}
 use Rattle.step.specs.Classes.{classIs, outcomeClass}
 use Rattle.step.proofs.class_of_tightening.Statement.{statement}
 use Rattle.step.proofs.class_of_tightening.Tie as tie

@@ -14,13 +14,13 @@ use Rattle.integer.proofs.Tests.{T→false, T→true, and-i, and-l, and-r, cond
 use Rattle.model.specs.Box.{at, isEmpty, sameList}
 use Rattle.model.specs.Point.{dot}
 use Rattle.model.proofs.BoxLaws.{sameList-refl, sameList→eq, ≤ℤ-trans}
 use Rattle.row.specs.Activity.{maxActivity}
 use Rattle.row.specs.Outcome.{changed, infeasible, isChanged, isInfeasible, unchanged}
-use Rattle.row.specs.Redundancy.{removeRedundantRow, zeroRow}
-use Rattle.row.specs.Tightening.{NewRow}
+use Rattle.row_change.specs.Redundancy.{removeRedundantRow, zeroRow}
+use Rattle.row_change.specs.Tightening.{NewRow}
 use Rattle.row.specs.ValidRow.{ValidRow}
 use Rattle.row.proofs.ActivityLaws.{dot-le-maxActivity, dot-over-le-maxActivity}
-use Rattle.row.proofs.Replacement.{Replaces, replaces-i, replaces-refl}
+use Rattle.row_change.proofs.Replacement.{Replaces, replaces-i, replaces-refl}
 
 -- ---- the zero row
 

@@ -1,4 +1,4 @@
--- `row::redundancy::clear`: the invariant says that the numbers so far are 0 and the others the old ones (`clearTo`), and that
+-- `row_change::redundancy::clear`: the invariant says that the numbers so far are 0 and the others the old ones (`clearTo`), and that
 -- `changed` tells whether the list differs from the old one. Assumes nothing.
 use Prim.Native.Nat.{_+_, _-_, _≤_, ℕ}
 use lib.IntN.{pos, ℤ}
@@ -12,11 +12,11 @@ use mir.Val.{SFits, ofZ}
 use native.Mathlib.Omega.{arith}
 use Rattle.integer.proofs.RangeLaws.{within-fits, within-lit}
 use Rattle.model.specs.Box.{at, sameList}
-use Rattle.row.specs.Redundancy.{zeroRow}
+use Rattle.row_change.specs.Redundancy.{zeroRow}
 use Rattle.integer.proofs.Reading.{eq-read}
-use Rattle.row.proofs.RowLoops.{clear-all, clear-turn, clearTo, length-clear, same-none}
-use Rattle.row.proofs.redundancy.clear.Statement.{statement}
-use Rattle.row.proofs.redundancy.clear.Tie as tie
+use Rattle.row_change.proofs.ChangeLoops.{clear-all, clear-turn, clearTo, length-clear, same-none}
+use Rattle.row_change.proofs.redundancy.clear.Statement.{statement}
+use Rattle.row_change.proofs.redundancy.clear.Tie as tie
 
 abbrev Inv-loop : tie.InvT-loop
 Inv-loop xs₀ changed₀ j₀ xs changed j =

@@ -19,12 +19,12 @@ use Rattle.model.specs.Limits.{maxCoef, maxRhs, minCoef, minRhs}
 use Rattle.model.specs.Point.{InBox, dot}
 use Rattle.model.specs.Valid.{Between}
 use Rattle.model.proofs.BoxLaws.{free-lower, free-upper, ≤ℤ-trans}
 use Rattle.row.specs.Activity.{maxActivity}
 use Rattle.row.specs.Outcome.{changed, infeasible, isChanged, isInfeasible, unchanged}
-use Rattle.row.specs.Tightening.{NewRow, mayTighten, tightenAt, tightenCoefficient}
+use Rattle.row_change.specs.Tightening.{NewRow, mayTighten, tightenAt, tightenCoefficient}
 use Rattle.row.specs.ValidRow.{ValidRow}
 use Rattle.row.proofs.ActivityLaws.{maxActivity-gap-dot, maxTerm-nonpos, maxTerm-pos}
-use Rattle.row.proofs.Replacement.{Replaces, replaces-i, replaces-refl}
+use Rattle.row_change.proofs.Replacement.{Replaces, replaces-i, replaces-refl}
 
 abs-pos : {a : ℤ} → pos 0 <ℤ a → pos (natAbs a) ≡ a
 abs-pos {a = pos n} s = refl

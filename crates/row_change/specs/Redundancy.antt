@@ -7,9 +7,9 @@ use mathlib.Core.Bool.{_&&_, cond}
 use mathlib.Core.List.{List}
 use Rattle.integer.specs.Order.{eqZ}
 use Rattle.model.specs.Box.{isEmpty, sameList}
 use Rattle.row.specs.Activity.{maxActivity}
 use Rattle.row.specs.Outcome.{changed, infeasible, unchanged}
-use Rattle.row.specs.Tightening.{NewRow}
+use Rattle.row_change.specs.Tightening.{NewRow}
 
 -- the row  0 x0 + 0 x1 + .. ≤ 0
 unfoldable pub zeroRow : ℕ → List ℤ

@@ -15,17 +15,17 @@ use Rattle.integer.proofs.Tests.{T→false, T→true, and-l, and-r, cond-ind, e
 use Rattle.model.specs.Box.{at, isEmpty, isFree}
 use Rattle.model.specs.Point.{InBox, InBoxOver, Meets, MeetsOver}
 use Rattle.model.specs.Rows.{Row, isEquality}
 use Rattle.row.specs.Activity.{maxActivity, minActivity}
-use Rattle.row.specs.Kinds.{ChangedRow, removeRowOf, tightenRowOf}
+use Rattle.row_change.specs.KindChanges.{ChangedRow, removeRowOf, tightenRowOf}
 use Rattle.row.specs.Outcome.{changed, infeasible, isChanged, isInfeasible, unchanged}
-use Rattle.row.specs.Redundancy.{removeRedundantRow, zeroRow}
-use Rattle.row.specs.Tightening.{tightenCoefficient}
+use Rattle.row_change.specs.Redundancy.{removeRedundantRow, zeroRow}
+use Rattle.row_change.specs.Tightening.{tightenCoefficient}
 use Rattle.row.specs.ValidRow.{ValidRow}
 use Rattle.row.proofs.ActivityLaws.{dot-le-maxActivity, dot-over-le-maxActivity, minActivity-le-dot, minActivity-le-dot-over}
 use Rattle.row.proofs.KindLaws.{other-kind}
-use Rattle.row.proofs.RedundancyLaws.{dot-zeroRow, length-zeroRow, remove-redundant-row-changed, remove-redundant-row-infeasible, remove-redundant-row-replaces, remove-redundant-row-unchanged, remove-redundant-row-valid, valid-zeroRow}
-use Rattle.row.proofs.Replacement.{Replaces}
-use Rattle.row.proofs.TighteningLaws.{tighten-coefficient-changed, tighten-coefficient-infeasible, tighten-coefficient-length, tighten-coefficient-other, tighten-coefficient-replaces, tighten-coefficient-unchanged, tighten-coefficient-valid}
+use Rattle.row_change.proofs.RedundancyLaws.{dot-zeroRow, length-zeroRow, remove-redundant-row-changed, remove-redundant-row-infeasible, remove-redundant-row-replaces, remove-redundant-row-unchanged, remove-redundant-row-valid, valid-zeroRow}
+use Rattle.row_change.proofs.Replacement.{Replaces}
+use Rattle.row_change.proofs.TighteningLaws.{tighten-coefficient-changed, tighten-coefficient-infeasible, tighten-coefficient-length, tighten-coefficient-other, tighten-coefficient-replaces, tighten-coefficient-unchanged, tighten-coefficient-valid}
 
 -- ---- a row that may take the place of another over the box, by their kinds: the same integer points, and no fractional point more
 

@@ -1,4 +1,4 @@
--- `row::redundancy::remove_redundant_row` is removeRowOf: an = row by `remove_equality_row`, of a ≤ row the tests are the definition's,
+-- `row_change::redundancy::remove_redundant_row` is removeRowOf: an = row by `remove_equality_row`, of a ≤ row the tests are the definition's,
 -- in the same order. Assumes nothing.
 use Prim.Native.Nat.{ℕ}
 use borrow.Author.Needs.{needs}
@@ -17,14 +17,14 @@ use Rattle.integer.proofs.RangeLaws.{within-fits}
 use Rattle.integer.proofs.Reading.{ge-read, lt-read, read-wide, wide-fits}
 use Rattle.model.specs.Box.{isEmpty}
 use Rattle.model.specs.Rows.{isEquality, rowWith}
 use Rattle.row.specs.Activity.{maxActivity}
-use Rattle.row.specs.Answers.{removalOutcome}
-use Rattle.row.specs.Kinds.{removeRowOf}
-use Rattle.row.specs.Redundancy.{removeRedundantRow}
-use Rattle.row.proofs.KindChangeLaws.{le-kind, remove-kinded-empty}
+use Rattle.row_change.specs.Answers.{removalOutcome}
+use Rattle.row_change.specs.KindChanges.{removeRowOf}
+use Rattle.row_change.specs.Redundancy.{removeRedundantRow}
+use Rattle.row_change.proofs.KindChangeLaws.{le-kind, remove-kinded-empty}
 use Rattle.row.proofs.RowLoops.{rhs-within}
-use Rattle.row.proofs.redundancy.remove_redundant_row.Statement.{statement}
-use Rattle.row.proofs.redundancy.remove_redundant_row.Tie as tie
+use Rattle.row_change.proofs.redundancy.remove_redundant_row.Statement.{statement}
+use Rattle.row_change.proofs.redundancy.remove_redundant_row.Tie as tie
 
 is-empty-requires : tie.Need-is-empty-requires
 is-empty-requires c κs = search needs

@@ -1,4 +1,4 @@
--- `row::tightening::may_tighten` is mayTighten: |a| is a where a is above 0, and else −a. Assumes nothing.
+-- `row_change::tightening::may_tighten` is mayTighten: |a| is a where a is above 0, and else −a. Assumes nothing.
 use lib.IntN.{_+ℤ_, _-ℤ_, pos, ℤ}
 use lib.Signed.{_<ℤ_, _≤ℤ_, ltZ}
 use mathlib.Core.Path.{_∙_, _≡_, ap₂, refl}
@@ -8,9 +8,9 @@ use mir.Val.{ofZ, toZ}
 use Rattle.integer.proofs.Parts.{lt-is, lt-isn't}
 use Rattle.integer.proofs.RangeLaws.{within-add, within-fits, within-sub}
 use Rattle.integer.proofs.Reading.{gt-read, le-read, read, read-wide, wide-fits}
-use Rattle.row.proofs.RowLoops.{less-abs-neg, less-abs-pos}
-use Rattle.row.proofs.tightening.may_tighten.Statement.{statement}
-use Rattle.row.proofs.tightening.may_tighten.Tie as tie
+use Rattle.row_change.proofs.ChangeLoops.{less-abs-neg, less-abs-pos}
+use Rattle.row_change.proofs.tightening.may_tighten.Statement.{statement}
+use Rattle.row_change.proofs.tightening.may_tighten.Tie as tie
 
 -- the numbers
 module _ (s : tie.Start) where

@@ -1,14 +1,14 @@
 // Tighten a coefficient (01's sharpen).
-use crate::activity::maximum_activity;
+use row::activity::maximum_activity;
 ghost use mathlib.Core.Path.{_≡_};
 ghost use Prim.Native.Nat.{_<_};
 ghost use lib.ListN.{length};
 ghost use Rattle.integer.specs.Range.{Within};
-ghost use Rattle.row.specs.Answers.{tighteningOutcome};
-ghost use Rattle.row.specs.Tightening.{mayTighten};
-ghost use Rattle.row.specs.Kinds.{tightenRowOf};
+ghost use Rattle.row_change.specs.Answers.{tighteningOutcome};
+ghost use Rattle.row_change.specs.Tightening.{mayTighten};
+ghost use Rattle.row_change.specs.KindChanges.{tightenRowOf};
 ghost use Rattle.model.specs.Rows.{rowWith};
 ghost use Rattle.row.specs.ValidRow.{ValidRow};
 
 // No right side is tightened to less (01: "it is not made if the new b is under −1,000,000,000").
 const MIN_RHS: i64 = -1_000_000_000;

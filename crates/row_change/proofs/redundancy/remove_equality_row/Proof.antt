@@ -1,4 +1,4 @@
--- `row::redundancy::remove_equality_row` is removeRowOf of an = row in a box that is not empty: Lmin and Lmax are compared with b as
+-- `row_change::redundancy::remove_equality_row` is removeRowOf of an = row in a box that is not empty: Lmin and Lmax are compared with b as
 -- in the definition. Assumes nothing.
 use Prim.Native.Nat.{ℕ}
 use borrow.Author.Needs.{needs}
@@ -14,12 +14,12 @@ use Rattle.integer.specs.Order.{eqZ}
 use Rattle.integer.proofs.RangeLaws.{within-fits}
 use Rattle.integer.proofs.Reading.{eq-read, wide-fits}
 use Rattle.model.specs.Rows.{isEquality}
 use Rattle.row.specs.Activity.{maxActivity, minActivity}
-use Rattle.row.specs.Answers.{removalOutcome}
-use Rattle.row.specs.Kinds.{removeRowOf}
+use Rattle.row_change.specs.Answers.{removalOutcome}
+use Rattle.row_change.specs.KindChanges.{removeRowOf}
 use Rattle.row.proofs.RowLoops.{eqZ-no, eqZ-yes, rhs-within}
-use Rattle.row.proofs.redundancy.remove_equality_row.Statement.{statement}
-use Rattle.row.proofs.redundancy.remove_equality_row.Tie as tie
+use Rattle.row_change.proofs.redundancy.remove_equality_row.Statement.{statement}
+use Rattle.row_change.proofs.redundancy.remove_equality_row.Tie as tie
 
 module _ (s : tie.Start) where
   abbrev A : List ℤ

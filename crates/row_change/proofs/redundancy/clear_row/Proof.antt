@@ -1,4 +1,4 @@
--- `row::redundancy::clear_row`: a number changed where `clear` says so or the right side was not 0. Assumes nothing.
+-- `row_change::redundancy::clear_row`: a number changed where `clear` says so or the right side was not 0. Assumes nothing.
 use borrow.Author.Needs.{needs}
 use lib.IntN.{pos, ℤ}
 use lib.ListN.{length}
@@ -11,11 +11,12 @@ use Rattle.integer.specs.Order.{eqZ}
 use Rattle.integer.proofs.RangeLaws.{within-fits, within-lit}
 use Rattle.integer.proofs.Reading.{eq-read}
 use Rattle.model.specs.Box.{sameList}
-use Rattle.row.specs.Answers.{removalOutcome}
-use Rattle.row.specs.Redundancy.{zeroRow}
-use Rattle.row.proofs.RowLoops.{and-false, eqZ-no, eqZ-yes, flag-clear, flag-set}
-use Rattle.row.proofs.redundancy.clear_row.Statement.{statement}
-use Rattle.row.proofs.redundancy.clear_row.Tie as tie
+use Rattle.row_change.specs.Answers.{removalOutcome}
+use Rattle.row_change.specs.Redundancy.{zeroRow}
+use Rattle.row_change.proofs.ChangeLoops.{flag-clear, flag-set}
+use Rattle.row.proofs.RowLoops.{and-false, eqZ-no, eqZ-yes}
+use Rattle.row_change.proofs.redundancy.clear_row.Statement.{statement}
+use Rattle.row_change.proofs.redundancy.clear_row.Tie as tie
 
 clear-requires : tie.Need-clear-requires
 clear-requires c κs = search needs

@@ -1,4 +1,4 @@
--- `row::tightening::tighten_coefficient` is tightenRowOf: an = row stays, of a ≤ row each way through the tests is a case of
+-- `row_change::tightening::tighten_coefficient` is tightenRowOf: an = row stays, of a ≤ row each way through the tests is a case of
 -- `tightenAt`, and the numbers that are written lie within those that they replace, so they fit. Assumes nothing.
 use Prim.Native.Nat.{ℕ}
 use borrow.Author.Needs.{needs}
@@ -14,22 +14,23 @@ use mir.Facts.{sfits-lit, toZ-ofZ}
 use mir.Syntax.{w32, w64}
 use mir.Val.{SFits, ofZ, toZ}
 use Rattle.integer.specs.Range.{Within}
 use Rattle.row.specs.Outcome.{unchanged}
 use Rattle.integer.proofs.Parts.{zarith, zify}
 use Rattle.integer.proofs.Tests.{lt-or-ge}
 use Rattle.integer.proofs.RangeLaws.{within-add, within-fits, within-sub}
 use Rattle.model.specs.Box.{at, isEmpty}
 use Rattle.model.specs.Limits.{minRhs}
 use Rattle.model.specs.Rows.{isEquality, rowWith}
 use Rattle.row.specs.Activity.{maxActivity}
-use Rattle.row.specs.Answers.{tighteningOutcome}
-use Rattle.row.specs.Kinds.{tightenRowOf}
-use Rattle.row.specs.Tightening.{tightenAt, tightenCoefficient}
+use Rattle.row_change.specs.Answers.{tighteningOutcome}
+use Rattle.row_change.specs.KindChanges.{tightenRowOf}
+use Rattle.row_change.specs.Tightening.{tightenAt, tightenCoefficient}
 use Rattle.integer.proofs.Reading.{eq-read, fits-read, ge-read, gt-read, le-read, lt-read, read, read-wide, wide-fits}
-use Rattle.row.proofs.KindChangeLaws.{le-kind, tighten-kinded-empty}
-use Rattle.row.proofs.RowLoops.{coefs-small, max-activity-small, new-coef-neg, new-coef-pos, new-rhs, rhs-within, stays-limit, stays-loose-neg, stays-loose-pos, stays-redundant, tightens-neg, tightens-pos}
-use Rattle.row.proofs.tightening.tighten_coefficient.Statement.{statement}
-use Rattle.row.proofs.tightening.tighten_coefficient.Tie as tie
+use Rattle.row_change.proofs.KindChangeLaws.{le-kind, tighten-kinded-empty}
+use Rattle.row_change.proofs.ChangeLoops.{new-coef-neg, new-coef-pos, new-rhs, stays-limit, stays-loose-neg, stays-loose-pos, stays-redundant, tightens-neg, tightens-pos}
+use Rattle.row.proofs.RowLoops.{coefs-small, max-activity-small, rhs-within}
+use Rattle.row_change.proofs.tightening.tighten_coefficient.Statement.{statement}
+use Rattle.row_change.proofs.tightening.tighten_coefficient.Tie as tie
 
 is-empty-requires : tie.Need-is-empty-requires
 is-empty-requires c κs = search needs

@@ -1,6 +1,6 @@
 // Remove a redundant row (01's drop).
-use crate::activity::maximum_activity;
-use crate::activity::minimum_activity;
+use row::activity::maximum_activity;
+use row::activity::minimum_activity;
 ghost use mathlib.Core.Bool.{_&&_, cond, false, not};
 ghost use mathlib.Core.Path.{_≡_};
 ghost use lib.ListN.{length};
@@ -8,11 +8,11 @@ ghost use lib.IntN.{pos};
 ghost use Rattle.integer.specs.Order.{eqZ};
 ghost use Rattle.model.specs.Box.{isEmpty, sameList};
 ghost use Rattle.model.specs.Rows.{rowWith};
-ghost use Rattle.row.specs.Answers.{removalOutcome};
-ghost use Rattle.row.specs.Kinds.{removeRowOf};
+ghost use Rattle.row_change.specs.Answers.{removalOutcome};
+ghost use Rattle.row_change.specs.KindChanges.{removeRowOf};
 ghost use Rattle.row.specs.Outcome.{changed, unchanged};
-ghost use Rattle.row.specs.Redundancy.{zeroRow};
+ghost use Rattle.row_change.specs.Redundancy.{zeroRow};
 ghost use Rattle.row.specs.ValidRow.{ValidRow};
 
 // 01's None, Dropped, Same.
 pub enum RowRemoval {

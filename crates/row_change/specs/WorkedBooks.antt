@@ -7,10 +7,10 @@ use mathlib.Core.Bool.{Bool, _&&_, false, true}
 use mathlib.Core.List.{List, [], _∷_}
 use Rattle.integer.specs.Order.{eqZ}
 use Rattle.model.specs.Box.{sameList}
 use Rattle.row.specs.Outcome.{Outcome, changed, infeasible, unchanged}
 use Rattle.row.specs.Propagation.{PropagatedRow, propagateRow}
-use Rattle.row.specs.Redundancy.{removeRedundantRow}
-use Rattle.row.specs.Tightening.{NewRow, tightenCoefficient}
+use Rattle.row_change.specs.Redundancy.{removeRedundantRow}
+use Rattle.row_change.specs.Tightening.{NewRow, tightenCoefficient}
 
 -- a call on a row (coefficients, right side, box), and what 01 says it gives
 pub data WorkedBook : Type 0 where
