@@ -15,11 +15,11 @@ use Rattle.model.specs.Rows.{Rows, rowAt}
 use Rattle.model.specs.Model.{modelOf}
 use Rattle.semantics.specs.Probe.{Probed, fix, probe}
 use Rattle.semantics.proofs.ProbeLaws.{fix-inside, probe-narrower}
-use Rattle.propagation.specs.Index.{ColumnSigns, Index}
-use Rattle.propagation.specs.Marks.{Unread, Watched}
-use Rattle.propagation.proofs.MarkLaws.{clean-narrower, clean-remarked, unread-at}
-use Rattle.propagation.proofs.LocalBox.{blank}
-use Rattle.propagation.proofs.LocalIndex.{clean-none, index-none}
+use Rattle.row_marks.specs.Index.{ColumnSigns, Index}
+use Rattle.row_marks.specs.Marks.{Unread, Watched}
+use Rattle.row_marks.proofs.MarkLaws.{clean-narrower, clean-remarked, unread-at}
+use Rattle.row_marks.proofs.LocalBox.{blank}
+use Rattle.row_marks.proofs.LocalIndex.{clean-none, index-none}
 use Rattle.row.proofs.KindLaws.{kinded-stays}
 use Rattle.semantics.specs.RestTest.{isFixpoint}
 use Rattle.semantics.proofs.Convergence.{fixpoint-test}

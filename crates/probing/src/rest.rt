@@ -22,7 +22,7 @@ ghost use Rattle.model.specs.Rows.{rowsOf};
 ghost use Rattle.model.specs.Model.{modelOf};
 ghost use mathlib.Core.List.{[]};
 ghost use Rattle.semantics.specs.Propagate.{isNone};
-ghost use Rattle.propagation.specs.Index.{Index};
+ghost use Rattle.row_marks.specs.Index.{Index};
 ghost use Rattle.propagation.specs.Results.{propagationOf};
 ghost use Rattle.semantics.specs.RestTest.{isFixpoint, isProbingFixpoint, sidesSpan};
 

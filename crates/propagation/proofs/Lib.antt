@@ -1,5 +1,1 @@
 pub mod PropagationLoops
-pub mod IndexLoops
-pub mod MarkLaws
-pub mod LocalBox
-pub mod LocalIndex

@@ -1,65 +1,30 @@
--- What the two loops of `propagate` need: a row of the matrix is a valid one, one row more of a pass, and one pass more.
-use Prim.Native.Nat.{_*_, _+_, _-_, _<_, _^_, _≤_, suc, zero, ℕ}
+-- What the two loops of `propagate` need: one row more of a pass, and one pass more.
+use Prim.Native.Nat.{_+_, _-_, _<_, _^_, _≤_, suc, zero, ℕ}
 use lib.IntN.{_+ℤ_, pos, ℤ}
-use lib.ListN.{drop, getD, length, length-drop}
-use lib.Seq.{getD-drop, getD-take, length-take-le}
+use lib.ListN.{getD}
 use lib.Signed.{_≤ℤ_}
 use mathlib.Core.Bool.{Bool, false, true}
 use mathlib.Core.List.{List}
 use mathlib.Core.Logic.{_⊎_, inl, inr}
 use mathlib.Core.Path.{_∙_, _≡_, refl, sym}
-use mir.Facts.{toZ-ofZ}
-use mir.Syntax.{w32}
-use mir.Val.{ofZ, toZ}
 use native.Mathlib.Decide.{ℕ-discrete}
-use native.Mathlib.Nat.{mul-le-mul-right, suc-mul}
 use native.Mathlib.Numerals.{add-one}
 use native.Mathlib.Omega.{arith}
-use Rattle.integer.proofs.IndexLaws.{getD-all}
 use Rattle.integer.proofs.Parts.{zarith}
-use Rattle.integer.proofs.RangeLaws.{within-fits}
 use Rattle.model.specs.Box.{NonEmpty, at, width}
-use Rattle.model.specs.Limits.{maxCoef, minCoef}
-use Rattle.model.specs.Rows.{Rows, rowAt, rowOf}
-use Rattle.model.specs.Valid.{Between, ValidBox, ValidModel}
+use Rattle.model.specs.Rows.{Rows, rowAt}
+use Rattle.model.specs.Valid.{ValidModel}
 use Rattle.model.specs.Model.{modelOf}
 use Rattle.row.specs.Answers.{propagatedRowOf}
 use Rattle.row.specs.Outcome.{isInfeasible}
 use Rattle.row.specs.Kinds.{propagateRowOf}
-use Rattle.row.specs.ValidRow.{ValidRow}
 use Rattle.row.specs.declared.propagation.RowPropagation.{RowPropagation}
 use Rattle.row.specs.declared.propagation.RowPropagation.the-variants.{Infeasible, Tightened, Unchanged}
-use Rattle.row_view.specs.RowIn.{RowIn}
-use Rattle.propagation.specs.Marks.{Clean}
-use Rattle.row.proofs.RowLoops.{rhs-within}
+use Rattle.row_marks.specs.Marks.{Clean}
 use Rattle.semantics.specs.Convergence.{LargestBudget}
 use Rattle.semantics.specs.Propagate.{Propagated, budgetSpent, converged, infeasible, passTo, propagateFrom}
 use Rattle.semantics.proofs.Convergence.{width-limit}
 use Rattle.semantics.proofs.PropagateLaws.{moved-at-most, moved-then, pass-ended, pass-moved-width, pass-next, propagate-again, propagate-converged, propagate-none-now, propagate-spent}
-
--- ---- row r of the matrix
-
-row-end : (r m n : ℕ) → r < m → r * n + n ≤ m * n
-row-end r m n h = omega (arith, mul-le-mul-right n h, suc-mul r n)
-
-module _ {n m : ℕ} {B₀ : List ℤ} {A : Rows} (v : ValidModel (modelOf n m B₀ A)) (r : ℕ) (h : r < m) where
-  pub row-fits : r * n + n ≤ length (A .coefs)
-  row-fits = rw (v .coefsLen) (row-end r m n h)
-
-  pub row-length : length (rowOf n (A .coefs) r) ≡ n
-  unfolding rowOf
-  row-length = length-take-le n (drop (r * n) (A .coefs)) (omega (arith, row-fits, length-drop (r * n) (A .coefs)))
-
-  row-range : (j : ℕ) → Between minCoef maxCoef (at (rowOf n (A .coefs) r) j)
-  unfolding rowOf
-  row-range = getD-all (rowOf n (A .coefs) r) (pos 0) (Between minCoef maxCoef) (record { above = omega zarith; below = omega zarith })
-      (λ j k. rw (getD-take n (drop (r * n) (A .coefs)) j (pos 0) (omega (arith, row-length)), getD-drop (r * n) (A .coefs) j (pos 0)) (v .coefs (r * n + j)))
-
-  pub valid-row : {B : List ℤ} → ValidBox n B → ValidRow n (rowAt n A r .coefs) (rowAt n A r .rhs) B
-  valid-row b = record { coefs = record { some = v .some; few = v .few; len = row-length; range = row-range; box = b }; rhs = v .rhs r }
-
-  pub row-in : RowIn n A r
-  row-in = record { coefs = row-fits; rhs = rw (v .rhsLen) h; kinds = rw (v .kindsLen) h }
 
 -- ---- one row more of the pass over the box B
 

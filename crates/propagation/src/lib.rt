@@ -1,12 +1,9 @@
 // Propagate all rows (01's settle) of a model that passed the checks: passes over the rows until nothing moves, the
 // budget is spent or a row is infeasible. Each row is read in place through its view. What is known of the rows from
-// earlier visits is kept beside the box while a call runs: their index (`index`) and which of them are clean (`marks`).
-pub mod clean;
-pub mod index;
-pub mod marks;
-
-use crate::marks::next_row;
-use crate::marks::propagate_row_marked;
+// earlier visits is kept beside the box while a call runs: their index and which of them are clean
+// (crate `row_marks`).
+use row_marks::marks::next_row;
+use row_marks::marks::propagate_row_marked;
 use model::MAX_BOX;
 use model::MAX_MATRIX;
 use model::MAX_ROWS;
@@ -19,7 +16,7 @@ ghost use Rattle.model.specs.Model.{modelOf};
 ghost use Rattle.semantics.specs.Propagate.{propagate as propagated};
 ghost use Prim.Native.Nat.{_+_, _<_, _^_, _≤_};
 ghost use lib.ListN.{length};
-ghost use Rattle.propagation.specs.Marks.{Watched};
+ghost use Rattle.row_marks.specs.Marks.{Watched};
 ghost use Rattle.propagation.specs.Results.{propagationOf};
 
 // The largest budget. Any valid box is narrower, so it is never spent.

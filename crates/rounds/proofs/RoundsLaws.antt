@@ -40,7 +40,7 @@ use Rattle.rounds.specs.Rounds.{Rounds, RoundsAnswer, RoundsEnding, Roun
 use Rattle.semantics.proofs.ClassLaws.{classBy, tighten-class}
 use Rattle.semantics.proofs.RowChange.{row-valid, withRow-same}
 use Rattle.model.proofs.RowsLaws.{at-rowOf}
-use Rattle.propagation.proofs.PropagationLoops.{row-fits}
+use Rattle.row_view.proofs.RowInLaws.{row-fits}
 use Rattle.rounds.specs.TightenedAt.{TightenedAt}
 
 -- ---- where calls lead

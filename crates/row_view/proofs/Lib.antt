@@ -1,3 +1,4 @@
 pub mod Clauses
 pub mod PartLaws
 pub mod ViewLaws
+pub mod RowInLaws

@@ -29,7 +29,7 @@ use Rattle.semantics.proofs.CallLaws.{step-accepted}
 use Rattle.semantics.proofs.ClassLaws.{addsNone, classBy, probe-class, remove-class, propagate-class, tighten-class, propagate-row-class}
 use Rattle.step.specs.Classes.{outcomeClass, propagationClass}
 use Rattle.propagation.specs.Results.{propagationOf}
-use Rattle.propagation.proofs.MarkLaws.{left-by}
+use Rattle.row_marks.proofs.MarkLaws.{left-by}
 use Rattle.propagation.specs.declared.Propagation.{Propagation}
 use Rattle.propagation.specs.declared.Propagation.the-variants.{Infeasible, Converged, BudgetSpent}
 

@@ -11,7 +11,7 @@ use Rattle.model.specs.State.{stateOf}
 use Rattle.model.specs.Model.{modelOf}
 use Rattle.semantics.proofs.Accepted.{Accepted, accepted}
 use Rattle.step.proofs.StepLaws.{fault-probed, kind-removes, ran-probed, ran-remove, ran-settle, ran-tighten, ran-visit}
-use Rattle.propagation.proofs.PropagationLoops.{row-in, valid-row}
+use Rattle.row_view.proofs.RowInLaws.{row-in, valid-row}
 use Rattle.step.proofs.run_accepted.Statement.{statement}
 use Rattle.step.proofs.run_accepted.Tie as tie
 

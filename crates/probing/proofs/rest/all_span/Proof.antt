@@ -11,7 +11,7 @@ use Rattle.integer.proofs.IndexLaws.{all-false, all-next}
 use Rattle.integer.proofs.Tests.{told-false, told-true}
 use Rattle.model.specs.Box.{isFree}
 use Rattle.model.specs.Rows.{Rows, rowsOf}
-use Rattle.propagation.specs.Index.{Index}
+use Rattle.row_marks.specs.Index.{Index}
 use Rattle.semantics.specs.RestTest.{sidesSpan}
 use Rattle.probing.proofs.rest.all_span.Statement.{statement}
 use Rattle.probing.proofs.rest.all_span.Tie as tie

@@ -11,7 +11,7 @@ use Rattle.model.specs.Box.{sameList}
 use Rattle.model.specs.Rows.{Rows, rowAt, rowsOf}
 use Rattle.row.specs.Kinds.{propagateRowOf}
 use Rattle.semantics.specs.RestTest.{isFixpoint}
-use Rattle.propagation.proofs.PropagationLoops.{row-in, valid-row}
+use Rattle.row_view.proofs.RowInLaws.{row-in, valid-row}
 use Rattle.probing.proofs.RestLaws.{row-moved, row-stays}
 use Rattle.probing.proofs.rest.is_fixpoint.Statement.{statement}
 use Rattle.probing.proofs.rest.is_fixpoint.Tie as tie

@@ -17,7 +17,7 @@ use Rattle.model.specs.Model.{modelOf}
 use Rattle.semantics.proofs.Accepted.{accepted}
 use Rattle.reducer.specs.OpenCalls.{performed, tightenAnswer}
 use Rattle.reducer.proofs.OpenCallLaws.{on-row, perform-refused, promised, row-changed}
-use Rattle.propagation.proofs.PropagationLoops.{row-in, valid-row}
+use Rattle.row_view.proofs.RowInLaws.{row-in, valid-row}
 use Rattle.reducer.proofs.calls.tighten_coefficient.Statement.{statement}
 use Rattle.reducer.proofs.calls.tighten_coefficient.Tie as tie
 

@@ -1,0 +1,4 @@
+pub mod IndexLoops
+pub mod MarkLaws
+pub mod LocalBox
+pub mod LocalIndex
