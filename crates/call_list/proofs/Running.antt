@@ -10,8 +10,8 @@ use Rattle.model.specs.State.{State}
 use Rattle.semantics.specs.Call.{callOf}
 use Rattle.semantics.proofs.CallLists.{Along, along-end, along-more, along-start, list-accepted, list-ind, list-refused}
 use Rattle.call_list.specs.Records.{Runs, RunsAt, nextOf, noCall, numbersOf, runNext}
-use Rattle.step.specs.Calls.{callOn}
-use Rattle.step.specs.declared.call.Call.{Call}
+use Rattle.call.specs.Calls.{callOn}
+use Rattle.call.specs.declared.Call.{Call}
 
 -- ---- the numbers of the records
 

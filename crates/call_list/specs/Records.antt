@@ -5,8 +5,8 @@ use Rattle.semantics.specs.CallList.{ListAnswer, ListRun, ran, refusedList}
 use Rattle.model.specs.Valid.{ValidState}
 use Rattle.semantics.specs.Run.{Counts, classOf, countCall, step}
 use Rattle.model.specs.State.{State}
-use Rattle.step.specs.Calls.{callOn}
-use Rattle.step.specs.declared.call.Call.{Call}
+use Rattle.call.specs.Calls.{callOn}
+use Rattle.call.specs.declared.Call.{Call}
 
 abbrev pub noCall : Call
 noCall = record { kind = 0; row = 0; variable = 0; budget = 0 }

@@ -2,8 +2,8 @@
 // No function over a slice of structs is covered, so reading a record and the loop over them are proved by hand; all
 // else is in covered functions.
 use reducer::list::RunAnswer;
-use step::call::Call;
-use step::count;
+use call::Call;
+use call::count;
 use step::run_record;
 ghost use mathlib.Core.List.{[]};
 ghost use mathlib.Core.Path.{_≡_};

@@ -20,8 +20,8 @@ use Rattle.reducer.specs.declared.calls.TightenAnswer.the-variants as ti
 use Rattle.reducer.specs.declared.list.RunAnswer.{RunAnswer}
 use Rattle.reducer.specs.declared.list.RunAnswer.the-variants as runs
 use Rattle.probing.specs.declared.sides.Side.{Side}
-use Rattle.step.specs.Classes.{countsOf}
-use Rattle.step.specs.declared.Counts.{Counts}
+use Rattle.call.specs.Classes.{countsOf}
+use Rattle.call.specs.declared.Counts.{Counts}
 
 rowAnswer-injective : (r s : PropagateRowAnswer) → rowAnswer r ≡ rowAnswer s → r ≡ s
 unfolding rowAnswer

@@ -1,7 +1,7 @@
 -- What the call list's answer stands for in the semantics. The reading is injective (`open-answers-injective`).
 use Rattle.semantics.specs.CallList as lists
 use Rattle.model.specs.State.{State}
-use Rattle.step.specs.Classes.{countsOf}
+use Rattle.call.specs.Classes.{countsOf}
 use Rattle.reducer.specs.declared.list.RunAnswer.{RunAnswer}
 use Rattle.reducer.specs.declared.list.RunAnswer.the-variants as answers
 

@@ -1,7 +1,7 @@
 // The checks of an open call, in 01's order: those of the model that it is lent, then its own (11 to 15).
-use step::call::Call;
-use step::call::PROBE;
-use step::checks::record_fault;
+use call::Call;
+use call::PROBE;
+use call::checks::record_fault;
 ghost use mathlib.Core.Bool.{not};
 ghost use mathlib.Core.List.{[]};
 ghost use mathlib.Core.Path.{_≡_};
@@ -10,7 +10,7 @@ ghost use Rattle.semantics.specs.CallChecks.{callFault};
 ghost use Rattle.semantics.specs.Call.{callOf, hasTable, kindOf};
 ghost use Rattle.model.specs.Rows.{rowsOf};
 ghost use Rattle.model.specs.State.{stateOf};
-ghost use Rattle.step.specs.Calls.{callOn};
+ghost use Rattle.call.specs.Calls.{callOn};
 
 // The number by which a call that is lent no table is refused, 0 where it is accepted.
 pub fn call_fault(

@@ -1,8 +1,8 @@
 // Call lists (01's run sheet): many calls on one model. The model and the table are checked once, before the first
 // record; each call leaves them valid, so only a record's own checks are made after that.
-use step::Counts;
-use step::call::Call;
-use step::count;
+use call::Counts;
+use call::Call;
+use call::count;
 use step::run_record;
 ghost use mathlib.Core.Path.{_≡_};
 ghost use Rattle.semantics.specs.CallList.{listFault, runList};

@@ -7,7 +7,7 @@ use mathlib.Core.Bool.{_&&_, not}
 use mathlib.Core.List.{List, []}
 use mathlib.Core.Logic.{⊎-elim}
 use mathlib.Core.Path.{_∙_, _≡_, ap, refl, sym}
-use Rattle.integer.proofs.Tests.{decide, eqb-test, neqb→ne, test-false}
+use Rattle.integer.proofs.Tests.{decide, eqb-test, neqb→ne}
 use Rattle.model.specs.Box.{sameList}
 use Rattle.model.specs.Rows.{Rows, rowAt, setRow}
 use Rattle.row.specs.Answers.{propagatedRowOf}
@@ -22,12 +22,13 @@ use Rattle.semantics.specs.Perform.{Performed, act, perform}
 use Rattle.semantics.specs.Probe.{Probed, probe}
 use Rattle.semantics.specs.Propagate.{isNone, propagate}
 use Rattle.semantics.specs.Run.{CallClass, classOf, probeInfeasible, step}
-use Rattle.semantics.specs.Call.{Call, callOf, hasRow, isUnknown, kindOf, unknown, probing, propagation, rowPropagation, removal, tightening}
+use Rattle.semantics.specs.Call.{Call, callOf, hasRow, isUnknown, kindOf, probing, propagation, rowPropagation, removal, tightening}
 use Rattle.model.specs.State.{State, stateOf, withBox, withRow}
 use Rattle.model.specs.Checks.{modelChecks}
 use Rattle.semantics.proofs.CallLaws.{step-accepted}
 use Rattle.semantics.proofs.ClassLaws.{addsNone, classBy, probe-class, remove-class, propagate-class, tighten-class, propagate-row-class}
-use Rattle.step.specs.Classes.{outcomeClass, propagationClass}
+use Rattle.call.proofs.KindLaws.{kind-other}
+use Rattle.call.specs.Classes.{outcomeClass, propagationClass}
 use Rattle.propagation.specs.Results.{propagationOf}
 use Rattle.row_marks.proofs.MarkLaws.{left-by}
 use Rattle.propagation.specs.declared.Propagation.{Propagation}
@@ -63,16 +64,6 @@ propagation-box (Converged p k) Q = refl
 propagation-box (BudgetSpent p k) Q = refl
 
 -- ---- an accepted call
-
-pub kind-other : (k : ℕ) → (k ≡ 1 → ⊥) → (k ≡ 2 → ⊥) → (k ≡ 3 → ⊥) → (k ≡ 4 → ⊥) → (k ≡ 5 → ⊥) → kindOf k ≡ unknown
-unfolding kindOf
-kind-other k a b c d e = rw (
-  test-false (eqb k 1) (eqb-test k 1) a,
-  test-false (eqb k 2) (eqb-test k 2) b,
-  test-false (eqb k 3) (eqb-test k 3) c,
-  test-false (eqb k 4) (eqb-test k 4) d,
-  test-false (eqb k 5) (eqb-test k 5) e,
-)
 
 -- of no other kind, it is a drop
 pub kind-removes : (k : ℕ) → T (not (isUnknown (kindOf k))) → (k ≡ 1 → ⊥) → (k ≡ 2 → ⊥) → (k ≡ 3 → ⊥) → (k ≡ 4 → ⊥) → kindOf k ≡ removal

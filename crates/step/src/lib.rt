@@ -1,97 +1,36 @@
 // One call of a list: its own checks, then what its kind asks for, on a model that passed its checks. Each call
 // leaves the model valid, so a list or a round of calls checks the model once.
+use call::Call;
+use call::CallClass;
+use call::PROBE;
+use call::PROPAGATE;
+use call::PROPAGATE_ROW;
+use call::TIGHTEN_COEFFICIENT;
+use call::checks::record_fault;
+use call::class_of_propagation;
+use call::class_of_removal;
+use call::class_of_row;
+use call::class_of_tightening;
 use model::MAX_ROWS;
 use model::MAX_VARIABLES;
 use model::boxes::copy_box;
 use model::boxes::same_box;
 use probing::sides::Probing;
 use probing::sides::probe_marked;
-use propagation::Propagation;
 use propagation::propagate;
-use row::propagation::RowPropagation;
-use row_change::redundancy::RowRemoval;
-use row_change::tightening::CoefficientTightening;
 use row_view::changes::remove_redundant_row_at;
 use row_view::changes::tighten_coefficient_at;
 use row_view::propagate_row_at;
-ghost use mathlib.Core.List.{[]};
 ghost use mathlib.Core.Path.{_≡_};
-ghost use Prim.Native.Nat.{_+_, _<_, _^_};
-ghost use Rattle.row_change.specs.Answers.{removalOutcome, tighteningOutcome};
-ghost use Rattle.row.specs.Answers.{propagatedRowOf};
 ghost use Rattle.probing.specs.Marked.{Marked};
 ghost use Rattle.model.specs.Rows.{rowsOf};
 ghost use Rattle.semantics.specs.CallChecks.{callFault};
 ghost use Rattle.model.specs.Valid.{ValidState};
-ghost use Rattle.semantics.specs.Run.{classOf, countCall, step};
+ghost use Rattle.semantics.specs.Run.{classOf, step};
 ghost use Rattle.semantics.specs.Call.{callOf};
 ghost use Rattle.model.specs.State.{stateOf};
-ghost use Rattle.step.specs.Calls.{callOn};
-ghost use Rattle.step.specs.Classes.{classIs, countsOf, outcomeClass, propagationClass};
-
-pub mod call;
-pub mod checks;
-
-use crate::call::Call;
-use crate::call::PROBE;
-use crate::call::PROPAGATE;
-use crate::call::PROPAGATE_ROW;
-use crate::call::TIGHTEN_COEFFICIENT;
-use crate::checks::record_fault;
-
-// How a call counts: 01's refused, None, changed (a bound, row or table byte), unchanged.
-pub enum CallClass {
-    Refused,
-    Infeasible,
-    Changed,
-    Unchanged,
-}
-
-fn class_of_row(p: RowPropagation) -> CallClass
-    ensures { λ r. ⌜ classIs r ≡ outcomeClass (propagatedRowOf p [] .outcome) ⌝ }
-{
-    match p {
-        RowPropagation::Infeasible => CallClass::Infeasible,
-        RowPropagation::Tightened(_) => CallClass::Changed,
-        RowPropagation::Unchanged => CallClass::Unchanged,
-    }
-}
-
-fn class_of_tightening(t: CoefficientTightening) -> CallClass
-    ensures { λ r. ⌜ classIs r ≡ outcomeClass (tighteningOutcome t) ⌝ }
-{
-    match t {
-        CoefficientTightening::Infeasible => CallClass::Infeasible,
-        CoefficientTightening::Tightened => CallClass::Changed,
-        CoefficientTightening::Unchanged => CallClass::Unchanged,
-    }
-}
-
-fn class_of_removal(t: RowRemoval) -> CallClass
-    ensures { λ r. ⌜ classIs r ≡ outcomeClass (removalOutcome t) ⌝ }
-{
-    match t {
-        RowRemoval::Infeasible => CallClass::Infeasible,
-        RowRemoval::Removed => CallClass::Changed,
-        RowRemoval::Unchanged => CallClass::Unchanged,
-    }
-}
-
-// A propagation changed a bound if it moved one.
-fn class_of_propagation(p: Propagation) -> CallClass
-    ensures { λ r. ⌜ classIs r ≡ propagationClass p ⌝ }
-{
-    match p {
-        Propagation::Infeasible(_, _) => CallClass::Infeasible,
-        Propagation::Converged(_, moved) | Propagation::BudgetSpent(_, moved) => {
-            if moved == 0 {
-                CallClass::Unchanged
-            } else {
-                CallClass::Changed
-            }
-        }
-    }
-}
+ghost use Rattle.call.specs.Calls.{callOn};
+ghost use Rattle.call.specs.Classes.{classIs};
 
 // An accepted probe, by the index of the rows and the marks of the box, which become those of the box that is left.
 // Where both sides are feasible it changed something if a table byte became 1 or the hull is smaller than the box
@@ -345,27 +284,4 @@ pub fn run_probe_record(
         signs,
         marks,
     )
-}
-
-// The four counts of a call list; their sum is the number of its records.
-pub struct Counts {
-    pub refused: usize,
-    pub infeasible: usize,
-    pub changed: usize,
-    pub unchanged: usize,
-}
-
-// The counts with one call more.
-pub fn count(counts: Counts, class: CallClass) -> Counts
-    requires { ⌜ counts .refused + counts .infeasible + counts .changed + counts .unchanged < 2 ^ 63 ⌝ }
-    ensures { λ r. ⌜ countsOf r ≡ countCall (classIs class) (countsOf counts) ⌝ }
-{
-    let mut next = counts;
-    match class {
-        CallClass::Refused => next.refused += 1,
-        CallClass::Infeasible => next.infeasible += 1,
-        CallClass::Changed => next.changed += 1,
-        CallClass::Unchanged => next.unchanged += 1,
-    }
-    next
 }

@@ -8,7 +8,7 @@ use crate::words::fill_naturals;
 use crate::words::number;
 use call_list::run_four;
 use reducer::calls::RestAnswer;
-use step::call::Call;
+use call::Call;
 
 // Runs a list of numbers, four a record.
 pub fn execute(

@@ -38,9 +38,9 @@ use denote.Triple.Table.{entered}
 use denote.Triple.Walked.{says, needs, Stays, stay-none, stay-none-slice, walkOf, goes-none, goes-none-slice, Walks, ends-at, walked, walk-meets}
 use denote.Exit.{yes}
 use Rattle.call_list.specs.Records.{noCall}
-use Rattle.step.specs.declared.call.Call.{Call}
-use Rattle.step.proofs.call.Call as T
-use Rattle.step.proofs.call.Call.Laws as T′
+use Rattle.call.specs.declared.Call.{Call}
+use Rattle.call.proofs.Call as T
+use Rattle.call.proofs.Call.Laws as T′
 use Rattle.call_list.proofs.record_at.Key.{name as #call-list·record-at}
 use Rattle.call_list.proofs.record_at as call
 use Rattle.call_list.proofs.record_at.Statement as stated

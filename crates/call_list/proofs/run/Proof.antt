@@ -59,14 +59,14 @@ use Rattle.reducer.specs.declared.list.RunAnswer.{RunAnswer}
 use Rattle.reducer.proofs.list.RunAnswer as S
 use Rattle.reducer.proofs.list.RunAnswer.Laws as S′
 use Rattle.call_list.specs.Records.{Runs, noCall, numbersOf, runNext}
-use Rattle.step.specs.declared.call.Call.{Call}
+use Rattle.call.specs.declared.Call.{Call}
 use Rattle.call_list.proofs.Buffers.{All, Buffer, Claims, Left, Lents, Long, Names, Owns, Refs, Rooms, Times, Tokens, Back, comes, give, left, lend, lists, locals, made, names, parts, refs, room, same, sliced, take, times, values}
 use Rattle.call_list.proofs.Locals.{Blocks, Cell, Dies, allocated, blockOf, cell, cells, envOf, first, free, freed, holds, settled}
 use Rattle.call_list.proofs.Parameters.{Spots, Texts, buffers, many, spots, state, texts}
 use Rattle.call_list.proofs.Reborrow.{has, reborrows, takes}
 use Rattle.call_list.proofs.Running.{Running, running-end, running-next, running-room, running-start}
-use Rattle.step.proofs.call.Call as R
-use Rattle.step.proofs.call.Call.Laws as R′
+use Rattle.call.proofs.Call as R
+use Rattle.call.proofs.Call.Laws as R′
 use Rattle.call_list.proofs.record_at as record-at
 use Rattle.call_list.proofs.record_at.Symbol as record-at-def
 use Rattle.call_list.proofs.record_at.Symbol.{name as #call-list·record-at}

@@ -51,14 +51,14 @@ use Rattle.reducer.specs.declared.list.RunAnswer.{RunAnswer}
 use Rattle.reducer.proofs.list.RunAnswer as S
 use Rattle.reducer.proofs.list.RunAnswer.Laws as S′
 use Rattle.call_list.specs.Records.{numbersOf}
-use Rattle.step.specs.declared.call.Call.{Call}
+use Rattle.call.specs.declared.Call.{Call}
 use Rattle.call_list.proofs.Buffers.{All, Buffer, Finals, Leaves, Left, Owns, Refs, Rooms, Same, Times, Tokens, finals, give, last-token, left, lists, locals, made, names, parts, refs, sliced, take, times, values}
 use Rattle.call_list.proofs.Held.{Claim, frees-array, lends-array}
 use Rattle.call_list.proofs.Locals.{Blocks, Cell, Dies, allocated, blockOf, cell, cells, envOf, free, freed, holds}
 use Rattle.call_list.proofs.Parameters.{Spots, Texts, buffers, many, spots, state, texts}
 use Rattle.call_list.proofs.Reborrow.{has, reborrows, takes}
-use Rattle.step.proofs.call.Call as R
-use Rattle.step.proofs.call.Call.Laws as R′
+use Rattle.call.proofs.Call as R
+use Rattle.call.proofs.Call.Laws as R′
 use Rattle.call_list.proofs.run as run
 use Rattle.call_list.proofs.run.Symbol as run-def
 use Rattle.call_list.proofs.run.Symbol.{name as #call-list·run}

@@ -4,8 +4,8 @@ use borrow.Author.Needs.{needs}
 use mathlib.Core.Path.{_≡_}
 use Rattle.model.specs.Valid.{ValidState}
 use Rattle.model.specs.State.{State}
-use Rattle.step.specs.Classes.{countsOf}
-use Rattle.step.specs.declared.Counts.{Counts}
+use Rattle.call.specs.Classes.{countsOf}
+use Rattle.call.specs.declared.Counts.{Counts}
 use Rattle.reducer.specs.CallLists.{listAnswer, listRun}
 use Rattle.reducer.specs.declared.list.RunAnswer.{RunAnswer}
 use Rattle.reducer.specs.declared.list.RunAnswer.the-variants.{Ran}

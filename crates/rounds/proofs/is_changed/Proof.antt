@@ -8,10 +8,10 @@ use mathlib.Core.Logic.{⊎-elim}
 use mathlib.Core.Path.{_≡_, refl}
 use native.Mathlib.Omega.{arith}
 use types.Run.{OneOf}
-use Rattle.step.specs.Classes.{classIs}
-use Rattle.step.specs.declared.CallClass.{CallClass}
-use Rattle.step.specs.declared.CallClass.the-variants.{Changed, Infeasible, Refused, Unchanged}
-use Rattle.step.proofs.CallClass.{the-type}
+use Rattle.call.specs.Classes.{classIs}
+use Rattle.call.specs.declared.CallClass.{CallClass}
+use Rattle.call.specs.declared.CallClass.the-variants.{Changed, Infeasible, Refused, Unchanged}
+use Rattle.call.proofs.CallClass.{the-type}
 use Rattle.rounds.specs.Rounds.{isChange}
 use Rattle.rounds.proofs.is_changed.Statement.{statement}
 use Rattle.rounds.proofs.is_changed.Tie as tie

@@ -16,7 +16,7 @@ use Rattle.model.specs.Rows.{rowsOf}
 use Rattle.model.specs.State.{stateOf}
 use Rattle.semantics.proofs.Accepted.{accepted}
 use Rattle.semantics.proofs.ClassLaws.{addsNone, classBy}
-use Rattle.step.specs.Classes.{classIs}
+use Rattle.call.specs.Classes.{classIs}
 use Rattle.probing.specs.Results.{probingOf}
 use Rattle.probing.specs.declared.sides.Probing.{Probing}
 use Rattle.step.proofs.StepLaws.{Ran, ran-probe}

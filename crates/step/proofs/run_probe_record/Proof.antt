@@ -6,7 +6,7 @@ use Rattle.model.specs.Rows.{rowsOf}
 use Rattle.model.specs.State.{State, stateOf}
 use Rattle.semantics.proofs.Accepted.{fault-of-valid}
 use Rattle.semantics.proofs.ClassLaws.{class-refused}
-use Rattle.step.specs.Classes.{classIs}
+use Rattle.call.specs.Classes.{classIs}
 use borrow.Author.Needs.{needs}
 use Rattle.step.proofs.run_probe_record.Statement.{statement}
 use Rattle.step.proofs.run_probe_record.Tie as tie

@@ -1,7 +1,7 @@
 -- `capi::answers::run_reply`: each case has its numbers. Assumes nothing.
 use borrow.Author.Needs.{needs}
 use Rattle.reducer.specs.CallLists.{listAnswer}
-use Rattle.step.specs.Classes.{countsOf}
+use Rattle.call.specs.Classes.{countsOf}
 use Rattle.capi.specs.Replies.{listReply, replyOf}
 use Rattle.capi.proofs.answers.run_reply.Statement.{statement}
 use Rattle.capi.proofs.answers.run_reply.Tie as tie

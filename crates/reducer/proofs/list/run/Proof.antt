@@ -12,7 +12,7 @@ use Rattle.semantics.specs.Call.{callOf}
 use Rattle.model.specs.Rows.{rowsOf}
 use Rattle.model.specs.State.{State, stateOf}
 use Rattle.semantics.proofs.CallLists.{Along, along-end, along-more, along-start, list-accepted, list-refused}
-use Rattle.step.specs.Classes.{countsOf}
+use Rattle.call.specs.Classes.{countsOf}
 use Rattle.reducer.specs.CallLists.{listAnswer, listRun}
 use Rattle.reducer.proofs.OpenCallLaws.{list-promised}
 use Rattle.reducer.proofs.list.run.Statement.{statement}

@@ -5,9 +5,9 @@ use Rattle.row.specs.Outcome.{Outcome, changed, infeasible, unchanged}
 use Rattle.semantics.specs.Run as runs
 use Rattle.propagation.specs.declared.Propagation.{Propagation}
 use Rattle.propagation.specs.declared.Propagation.the-variants as passes
-use Rattle.step.specs.declared.Counts.{Counts}
-use Rattle.step.specs.declared.CallClass.{CallClass}
-use Rattle.step.specs.declared.CallClass.the-variants.{Refused, Infeasible, Changed, Unchanged}
+use Rattle.call.specs.declared.Counts.{Counts}
+use Rattle.call.specs.declared.CallClass.{CallClass}
+use Rattle.call.specs.declared.CallClass.the-variants.{Refused, Infeasible, Changed, Unchanged}
 
 unfoldable pub classIs : CallClass → runs.CallClass
 classIs Refused = runs.refusedCall

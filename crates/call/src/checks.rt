@@ -1,11 +1,11 @@
 // The checks of a call's own fields, on a model that passed its checks (11 to 15).
-use crate::call::Call;
-use crate::call::PROBE;
-use crate::call::PROPAGATE;
-use crate::call::PROPAGATE_ROW;
-use crate::call::REMOVE_ROW;
-use crate::call::TIGHTEN_COEFFICIENT;
-use probing::is_free;
+use crate::Call;
+use crate::PROBE;
+use crate::PROPAGATE;
+use crate::PROPAGATE_ROW;
+use crate::REMOVE_ROW;
+use crate::TIGHTEN_COEFFICIENT;
+use model::boxes::is_free;
 use propagation::MAX_BUDGET;
 ghost use mathlib.Core.List.{[]};
 ghost use mathlib.Core.Path.{_≡_};
@@ -16,8 +16,8 @@ ghost use Rattle.semantics.specs.CallChecks.{recordChecks};
 ghost use Rattle.semantics.specs.Call.{kindOf};
 ghost use Rattle.model.specs.Rows.{rowsOf};
 ghost use Rattle.model.specs.State.{stateOf};
-ghost use Rattle.step.specs.Calls.{callOn};
-ghost use Rattle.step.specs.FieldChecks.{budgetChecks, rowChecks, variableChecks};
+ghost use Rattle.call.specs.Calls.{callOn};
+ghost use Rattle.call.specs.FieldChecks.{budgetChecks, rowChecks, variableChecks};
 
 // 12: the row is not below m.
 fn row_fault(m: usize, row: u32) -> u32

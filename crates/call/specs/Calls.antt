@@ -2,7 +2,7 @@
 use Rattle.model.specs.State.{State}
 use Rattle.semantics.specs.Call as semantics
 use Rattle.semantics.specs.Call.{callOf}
-use Rattle.step.specs.declared.call.Call.{Call}
+use Rattle.call.specs.declared.Call.{Call}
 
 -- the record's four numbers, with the n, m and buffers of s
 abbrev pub callOn : State → Call → semantics.Call

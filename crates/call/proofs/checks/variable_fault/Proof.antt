@@ -1,4 +1,4 @@
--- `step::checks::variable_fault`: the code's three tests are those of the two checks, in their order. Assumes nothing.
+-- `call::checks::variable_fault`: the code's three tests are those of the two checks, in their order. Assumes nothing.
 use Prim.Native.Nat.{_<_}
 use borrow.Author.Needs.{needs}
 use lib.Dec.{ltb}
@@ -8,9 +8,9 @@ use native.Mathlib.Omega.{arith}
 use Rattle.integer.proofs.Tests.{ltb-test, test-false, test-true, told-false, told-true}
 use Rattle.model.specs.Box.{isEmpty}
 use Rattle.model.proofs.CheckLaws.{ends, fails, past}
-use Rattle.step.specs.FieldChecks.{variableChecks}
-use Rattle.step.proofs.checks.variable_fault.Statement.{statement}
-use Rattle.step.proofs.checks.variable_fault.Tie as tie
+use Rattle.call.specs.FieldChecks.{variableChecks}
+use Rattle.call.proofs.checks.variable_fault.Statement.{statement}
+use Rattle.call.proofs.checks.variable_fault.Tie as tie
 
 returns : tie.Need-returns
 unfolding variableChecks

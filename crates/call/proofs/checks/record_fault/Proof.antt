@@ -1,4 +1,4 @@
--- `step::checks::record_fault`: of the checks of a record, each kind leaves those of its own fields, and the code makes just those.
+-- `call::checks::record_fault`: of the checks of a record, each kind leaves those of its own fields, and the code makes just those.
 -- Assumes nothing.
 use borrow.Author.Needs.{needs}
 use mathlib.Core.Logic.{inl, inr, ⊎-elim}
@@ -7,10 +7,10 @@ use Rattle.model.proofs.CheckLaws.{goes, stops}
 use Rattle.semantics.specs.CallChecks.{recordChecks}
 use Rattle.semantics.specs.Call.{callOf, hasBudget, hasRow, hasVariable, isUnknown, kindOf}
 use Rattle.model.specs.State.{stateOf}
-use Rattle.step.specs.FieldChecks.{budgetChecks, rowChecks, variableChecks}
-use Rattle.step.proofs.StepLaws.{kind-other}
-use Rattle.step.proofs.checks.record_fault.Statement.{statement}
-use Rattle.step.proofs.checks.record_fault.Tie as tie
+use Rattle.call.specs.FieldChecks.{budgetChecks, rowChecks, variableChecks}
+use Rattle.call.proofs.KindLaws.{kind-other}
+use Rattle.call.proofs.checks.record_fault.Statement.{statement}
+use Rattle.call.proofs.checks.record_fault.Tie as tie
 
 row-fault-requires : tie.Need-row-fault-requires
 row-fault-requires c κs = search needs

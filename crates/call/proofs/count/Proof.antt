@@ -1,9 +1,9 @@
--- `step::count`: the class names the count that grows. Assumes nothing.
+-- `call::count`: the class names the count that grows. Assumes nothing.
 use borrow.Author.Needs.{needs}
 use Rattle.semantics.specs.Run.{countCall}
-use Rattle.step.specs.Classes.{classIs, countsOf}
-use Rattle.step.proofs.count.Statement.{statement}
-use Rattle.step.proofs.count.Tie as tie
+use Rattle.call.specs.Classes.{classIs, countsOf}
+use Rattle.call.proofs.count.Statement.{statement}
+use Rattle.call.proofs.count.Tie as tie
 
 enum-told : tie.Need-enum-told
 enum-told c = search needs

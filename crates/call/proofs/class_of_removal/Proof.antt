@@ -1,9 +1,9 @@
--- `step::class_of_removal`: each outcome has its class. Assumes nothing.
+-- `call::class_of_removal`: each outcome has its class. Assumes nothing.
 use borrow.Author.Needs.{needs}
 use Rattle.row_change.specs.Answers.{removalOutcome}
-use Rattle.step.specs.Classes.{classIs, outcomeClass}
-use Rattle.step.proofs.class_of_removal.Statement.{statement}
-use Rattle.step.proofs.class_of_removal.Tie as tie
+use Rattle.call.specs.Classes.{classIs, outcomeClass}
+use Rattle.call.proofs.class_of_removal.Statement.{statement}
+use Rattle.call.proofs.class_of_removal.Tie as tie
 
 enum-told : tie.Need-enum-told
 enum-told c = search needs

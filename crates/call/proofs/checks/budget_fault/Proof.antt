@@ -1,4 +1,4 @@
--- `step::checks::budget_fault`: the code's two tests are the check's. Assumes nothing.
+-- `call::checks::budget_fault`: the code's two tests are the check's. Assumes nothing.
 use Prim.Native.Nat.{_≤_, ℕ}
 use lib.Dec.{T, leb}
 use mathlib.Core.Bool.{_&&_}
@@ -7,9 +7,9 @@ use native.Mathlib.Omega.{arith}
 use Rattle.integer.proofs.Tests.{both, leb-test, test-false, test-true}
 use Rattle.model.proofs.CheckLaws.{ends, fails, past}
 use Rattle.semantics.specs.CallChecks.{maxBudget}
-use Rattle.step.specs.FieldChecks.{budgetChecks}
-use Rattle.step.proofs.checks.budget_fault.Statement.{statement}
-use Rattle.step.proofs.checks.budget_fault.Tie as tie
+use Rattle.call.specs.FieldChecks.{budgetChecks}
+use Rattle.call.proofs.checks.budget_fault.Statement.{statement}
+use Rattle.call.proofs.checks.budget_fault.Tie as tie
 
 abbrev Within : ℕ → Type 0
 Within b = (1 ≤ b) × (b ≤ maxBudget)

@@ -1,4 +1,4 @@
--- `step::class_of_propagation`: each ending has its class; Converged and BudgetSpent by the number of bounds moved. Assumes nothing.
+-- `call::class_of_propagation`: each ending has its class; Converged and BudgetSpent by the number of bounds moved. Assumes nothing.
 use borrow.Author.Needs.{needs}
 use lib.Dec.{eqb}
 use mathlib.Core.Bool.{cond}
@@ -6,9 +6,9 @@ use mathlib.Core.Logic.{⊎-elim}
 use mathlib.Core.Path.{_∙_, _≡_, sym}
 use Rattle.integer.proofs.Tests.{eqb-test, test-false}
 use Rattle.semantics.specs.Run.{changedCall, unchangedCall}
-use Rattle.step.specs.Classes.{classIs, propagationClass}
-use Rattle.step.proofs.class_of_propagation.Statement.{statement}
-use Rattle.step.proofs.class_of_propagation.Tie as tie
+use Rattle.call.specs.Classes.{classIs, propagationClass}
+use Rattle.call.proofs.class_of_propagation.Statement.{statement}
+use Rattle.call.proofs.class_of_propagation.Tie as tie
 
 enum-told : tie.Need-enum-told
 enum-told c = search needs

@@ -1,11 +1,11 @@
--- `step::checks::row_fault`: the code's one test is the check's. Assumes nothing.
+-- `call::checks::row_fault`: the code's one test is the check's. Assumes nothing.
 use Prim.Native.Nat.{_<_}
 use native.Mathlib.Omega.{arith}
 use Rattle.integer.proofs.Tests.{ltb-test, test-false, test-true}
 use Rattle.model.proofs.CheckLaws.{ends, fails, past}
-use Rattle.step.specs.FieldChecks.{rowChecks}
-use Rattle.step.proofs.checks.row_fault.Statement.{statement}
-use Rattle.step.proofs.checks.row_fault.Tie as tie
+use Rattle.call.specs.FieldChecks.{rowChecks}
+use Rattle.call.proofs.checks.row_fault.Statement.{statement}
+use Rattle.call.proofs.checks.row_fault.Tie as tie
 
 returns : tie.Need-returns
 unfolding rowChecks
