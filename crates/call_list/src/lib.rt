@@ -1,7 +1,7 @@
-// A call list as records (01's run sheet): the calls that `reducer::list` reads from flat numbers, one struct each.
+// A call list as records (01's run sheet): the calls that `flat_list` reads from flat numbers, one struct each.
 // No function over a slice of structs is covered, so reading a record and the loop over them are proved by hand; all
 // else is in covered functions.
-use reducer::list::RunAnswer;
+use flat_list::RunAnswer;
 use call::Call;
 use call::count;
 use step::run_record;
@@ -14,7 +14,7 @@ ghost use Rattle.model.specs.Rows.{rowsOf};
 ghost use Rattle.model.specs.State.{stateOf};
 ghost use Rattle.semantics.specs.TwoLists.{CountsAddUp, Demand3Lists, ListMeans};
 ghost use Rattle.semantics.specs.TwoRuns.{EveryModelHandedIn};
-ghost use Rattle.reducer.specs.CallLists.{listRun};
+ghost use Rattle.flat_list.specs.ListAnswers.{listRun};
 ghost use Rattle.call_list.specs.Records.{Runs, noCall, numbersOf, runNext};
 
 // Record i.
@@ -43,7 +43,7 @@ fn run_none<'a>(
         ⌜ listRun r r' ≡ runList s [] ⌝ }
 {
     let none: [u32; 0] = [];
-    reducer::list::run(n, m, bounds, coefs, rhs, kinds, table, &none)
+    flat_list::run(n, m, bounds, coefs, rhs, kinds, table, &none)
 }
 
 // The answer with one record more. A list that is refused stays refused.

@@ -6,9 +6,9 @@ use mathlib.Core.Bool.{Bool, cond}
 use mathlib.Core.List.{List}
 use mathlib.Core.Path.{_∙_, _≡_, ap, ap₂, refl, sym}
 use Rattle.model.specs.Checks.{sizeChecks}
-use Rattle.reducer.specs.CallLists.{listAnswer, listRun}
+use Rattle.flat_list.specs.ListAnswers.{listAnswer, listRun}
 use Rattle.reducer.specs.OpenCalls.{RestVerdict, performed, rest}
-use Rattle.reducer.specs.declared.list.RunAnswer.{RunAnswer}
+use Rattle.flat_list.specs.declared.RunAnswer.{RunAnswer}
 use Rattle.rounds.specs.Rounds.{RoundsAnswer, runRounds}
 use Rattle.semantics.specs.CallList.{ListRun, runList}
 use Rattle.semantics.specs.Perform.{Answer, Performed, perform}

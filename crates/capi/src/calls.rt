@@ -213,7 +213,7 @@ pub extern "C" fn astrolabe_run(
         return answer_fault(n, m);
     }
     put(
-        run_reply(reducer::list::run(n, m, bounds, coefs, rhs, kinds, table, calls)),
+        run_reply(flat_list::run(n, m, bounds, coefs, rhs, kinds, table, calls)),
         answer,
     )
 }

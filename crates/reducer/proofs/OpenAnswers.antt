@@ -1,8 +1,6 @@
 -- No answer of an open call hides another: each reading of the code's enums is injective.
 use mathlib.Core.Path.{_≡_, ap, refl}
 use Rattle.semantics.specs.Probe as semantic
-use Rattle.semantics.specs.Run as lists
-use Rattle.reducer.specs.CallLists.{listAnswer}
 use Rattle.reducer.specs.OpenCalls.{probeAnswer, propagateAnswer, removeAnswer, restVerdict, rowAnswer, tightenAnswer}
 use Rattle.probing.specs.Results.{reportOf}
 use Rattle.reducer.specs.declared.calls.ProbeAnswer.{ProbeAnswer}
@@ -17,11 +15,7 @@ use Rattle.reducer.specs.declared.calls.RestAnswer.{RestAnswer}
 use Rattle.reducer.specs.declared.calls.RestAnswer.the-variants as rests
 use Rattle.reducer.specs.declared.calls.TightenAnswer.{TightenAnswer}
 use Rattle.reducer.specs.declared.calls.TightenAnswer.the-variants as tightens
-use Rattle.reducer.specs.declared.list.RunAnswer.{RunAnswer}
-use Rattle.reducer.specs.declared.list.RunAnswer.the-variants as runs
 use Rattle.probing.specs.declared.sides.Side.{Side}
-use Rattle.call.specs.Classes.{countsOf}
-use Rattle.call.specs.declared.Counts.{Counts}
 
 rowAnswer-injective : (r s : PropagateRowAnswer) → rowAnswer r ≡ rowAnswer s → r ≡ s
 unfolding rowAnswer
@@ -134,17 +128,6 @@ restVerdict-injective rests.Yes (rests.Refused y) e = cc
 restVerdict-injective rests.Yes rests.No e = cc
 restVerdict-injective rests.Yes rests.Yes e = refl
 
-countsOf-injective : (x y : Counts) → countsOf x ≡ countsOf y → x ≡ y
-unfolding countsOf
-countsOf-injective x y e = ap (λ (k : lists.Counts). let r : Counts = record { refused = k .refusals; infeasible = k .infeasibles; changed = k .changes; unchanged = k .unchanges } in r) e
-
-listAnswer-injective : (r s : RunAnswer) → listAnswer r ≡ listAnswer s → r ≡ s
-unfolding listAnswer
-listAnswer-injective (runs.Refused x) (runs.Refused y) e = cc
-listAnswer-injective (runs.Refused x) (runs.Ran y) e = cc
-listAnswer-injective (runs.Ran x) (runs.Refused y) e = cc
-listAnswer-injective (runs.Ran x) (runs.Ran y) e = cc (countsOf-injective x y cc)
-
 pub open-answers-injective :
     ((r s : PropagateRowAnswer) → rowAnswer r ≡ rowAnswer s → r ≡ s)
     × ((r s : PropagateAnswer) → propagateAnswer r ≡ propagateAnswer s → r ≡ s)
@@ -152,5 +135,4 @@ pub open-answers-injective :
     × ((r s : TightenAnswer) → tightenAnswer r ≡ tightenAnswer s → r ≡ s)
     × ((r s : RemoveAnswer) → removeAnswer r ≡ removeAnswer s → r ≡ s)
     × ((r s : RestAnswer) → restVerdict r ≡ restVerdict s → r ≡ s)
-    × ((r s : RunAnswer) → listAnswer r ≡ listAnswer s → r ≡ s)
-open-answers-injective = (rowAnswer-injective, propagateAnswer-injective, probeAnswer-injective, tightenAnswer-injective, removeAnswer-injective, restVerdict-injective, listAnswer-injective)
+open-answers-injective = (rowAnswer-injective, propagateAnswer-injective, probeAnswer-injective, tightenAnswer-injective, removeAnswer-injective, restVerdict-injective)

@@ -16,7 +16,6 @@ use Rattle.row.specs.Outcome.{Outcome}
 use Rattle.row_change.specs.KindChanges.{ChangedRow}
 use Rattle.row.specs.Kinds.{propagateRowOf}
 use Rattle.row.specs.Propagation.{PropagatedRow}
-use Rattle.semantics.specs.CallList.{ListRun, runList}
 use Rattle.semantics.specs.CallChecks.{callFault, lentTable, recordChecks}
 use Rattle.semantics.specs.Convergence.{RestIsTested}
 use Rattle.semantics.specs.Demand2.{CallMeans, Demand2}
@@ -29,14 +28,10 @@ use Rattle.semantics.specs.Run.{answersNone, isRefused, step}
 use Rattle.semantics.specs.Call.{Call, Kind, callOf, hasRow, hasTable, kindOf}
 use Rattle.model.specs.State.{State, stateOf, withBox, withRow}
 use Rattle.model.specs.Model.{modelOf}
-use Rattle.semantics.specs.TwoLists.{CountsAddUp, Demand3Lists, ListMeans}
-use Rattle.semantics.specs.TwoRuns.{EveryModelHandedIn}
 use Rattle.semantics.proofs.Accepted.{accepted, fault-of-own, modelFaultOf}
 use Rattle.semantics.proofs.CallLaws.{perform-accepted}
-use Rattle.semantics.proofs.CallLists.{counts-add-up, demand-3-lists, list-means}
 use Rattle.semantics.proofs.Convergence.{rest-test}
 use Rattle.semantics.proofs.Demand2.{demand-2}
-use Rattle.semantics.proofs.Demand3.{handed-in}
 use Rattle.semantics.proofs.Preserved.{Preserves, step-preserves}
 use Rattle.reducer.specs.OpenCalls.{Ends, Means, RestVerdict, atRest, notAtRest, performed, refusedRest, rest}
 
@@ -186,10 +181,3 @@ rest-promised s e =
       e,
       ((λ g. let h = y .0 (sym e ∙ g) in (z .0 (h .0), t (z .0 (h .0)) .0 (h .1))), (λ h. e ∙ y .1 (z .1 (h .0), t (h .0) .1 (h .1)))),
     )
-
--- ---- a call list
-
--- all promises, from the first
-pub list-promised : (s : State) (xs : List ℕ) (w : ListRun) → w ≡ runList s xs
-    → (w ≡ runList s xs) × (ListMeans s w × ((EveryModelHandedIn × Demand3Lists) × CountsAddUp))
-list-promised s xs w e = (e, (subst (ListMeans s) (sym e) (list-means s xs), ((handed-in, demand-3-lists), counts-add-up)))

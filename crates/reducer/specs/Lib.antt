@@ -1,2 +1,1 @@
 pub mod OpenCalls
-pub mod CallLists

@@ -11,7 +11,7 @@ use reducer::calls::PropagateRowAnswer;
 use reducer::calls::RemoveAnswer;
 use reducer::calls::RestAnswer;
 use reducer::calls::TightenAnswer;
-use reducer::list::RunAnswer;
+use flat_list::RunAnswer;
 
 // A number behind a word.
 fn item(word: &[u8], number: u32) {

@@ -27,7 +27,7 @@ pub fn execute(
     fill_naturals(words, len.next, all, &mut calls);
     let list = naturals_part(&calls, all);
     text(b":");
-    ran(reducer::list::run(n, m, bounds, coefs, rhs, kinds, table, list));
+    ran(flat_list::run(n, m, bounds, coefs, rhs, kinds, table, list));
     line();
 }
 

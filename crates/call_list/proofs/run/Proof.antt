@@ -54,10 +54,10 @@ use Rattle.model.specs.State.{State}
 use Rattle.semantics.specs.TwoLists.{ListMeans}
 use Rattle.semantics.proofs.CallLists.{counts-add-up, demand-3-lists, list-means}
 use Rattle.semantics.proofs.Demand3.{handed-in}
-use Rattle.reducer.specs.CallLists.{listRun}
-use Rattle.reducer.specs.declared.list.RunAnswer.{RunAnswer}
-use Rattle.reducer.proofs.list.RunAnswer as S
-use Rattle.reducer.proofs.list.RunAnswer.Laws as S′
+use Rattle.flat_list.specs.ListAnswers.{listRun}
+use Rattle.flat_list.specs.declared.RunAnswer.{RunAnswer}
+use Rattle.flat_list.proofs.RunAnswer as S
+use Rattle.flat_list.proofs.RunAnswer.Laws as S′
 use Rattle.call_list.specs.Records.{Runs, noCall, numbersOf, runNext}
 use Rattle.call.specs.declared.Call.{Call}
 use Rattle.call_list.proofs.Buffers.{All, Buffer, Claims, Left, Lents, Long, Names, Owns, Refs, Rooms, Times, Tokens, Back, comes, give, left, lend, lists, locals, made, names, parts, refs, room, same, sliced, take, times, values}

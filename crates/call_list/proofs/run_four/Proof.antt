@@ -46,10 +46,10 @@ use denote.Exit.{yes}
 use Rattle.semantics.specs.CallList.{runList}
 use Rattle.semantics.specs.TwoLists.{CountsAddUp, Demand3Lists, ListMeans}
 use Rattle.semantics.specs.TwoRuns.{EveryModelHandedIn}
-use Rattle.reducer.specs.CallLists.{listRun}
-use Rattle.reducer.specs.declared.list.RunAnswer.{RunAnswer}
-use Rattle.reducer.proofs.list.RunAnswer as S
-use Rattle.reducer.proofs.list.RunAnswer.Laws as S′
+use Rattle.flat_list.specs.ListAnswers.{listRun}
+use Rattle.flat_list.specs.declared.RunAnswer.{RunAnswer}
+use Rattle.flat_list.proofs.RunAnswer as S
+use Rattle.flat_list.proofs.RunAnswer.Laws as S′
 use Rattle.call_list.specs.Records.{numbersOf}
 use Rattle.call.specs.declared.Call.{Call}
 use Rattle.call_list.proofs.Buffers.{All, Buffer, Finals, Leaves, Left, Owns, Refs, Rooms, Same, Times, Tokens, finals, give, last-token, left, lists, locals, made, names, parts, refs, sliced, take, times, values}

@@ -6,9 +6,9 @@ use Rattle.model.specs.Valid.{ValidState}
 use Rattle.model.specs.State.{State}
 use Rattle.call.specs.Classes.{countsOf}
 use Rattle.call.specs.declared.Counts.{Counts}
-use Rattle.reducer.specs.CallLists.{listAnswer, listRun}
-use Rattle.reducer.specs.declared.list.RunAnswer.{RunAnswer}
-use Rattle.reducer.specs.declared.list.RunAnswer.the-variants.{Ran}
+use Rattle.flat_list.specs.ListAnswers.{listAnswer, listRun}
+use Rattle.flat_list.specs.declared.RunAnswer.{RunAnswer}
+use Rattle.flat_list.specs.declared.RunAnswer.the-variants.{Ran}
 use Rattle.call_list.specs.Records.{Runs, RunsAt, nextOf, runNext}
 use Rattle.call_list.proofs.run_next.Statement.{statement}
 use Rattle.call_list.proofs.run_next.Tie as tie

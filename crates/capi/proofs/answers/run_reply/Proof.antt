@@ -1,6 +1,6 @@
 -- `capi::answers::run_reply`: each case has its numbers. Assumes nothing.
 use borrow.Author.Needs.{needs}
-use Rattle.reducer.specs.CallLists.{listAnswer}
+use Rattle.flat_list.specs.ListAnswers.{listAnswer}
 use Rattle.call.specs.Classes.{countsOf}
 use Rattle.capi.specs.Replies.{listReply, replyOf}
 use Rattle.capi.proofs.answers.run_reply.Statement.{statement}

@@ -1,9 +1,9 @@
--- What the call list's answer stands for in the semantics. The reading is injective (`open-answers-injective`).
+-- What the call list's answer stands for in the semantics. The reading is injective (`listAnswer-injective`).
 use Rattle.semantics.specs.CallList as lists
 use Rattle.model.specs.State.{State}
 use Rattle.call.specs.Classes.{countsOf}
-use Rattle.reducer.specs.declared.list.RunAnswer.{RunAnswer}
-use Rattle.reducer.specs.declared.list.RunAnswer.the-variants as answers
+use Rattle.flat_list.specs.declared.RunAnswer.{RunAnswer}
+use Rattle.flat_list.specs.declared.RunAnswer.the-variants as answers
 
 unfoldable pub listAnswer : RunAnswer → lists.ListAnswer
 listAnswer (answers.Refused number) = lists.refusedList number

@@ -1,4 +1,4 @@
--- `reducer::list::run`: refused by the list's number, or run record by record: before each, what is left gives the whole (`Along`).
+-- `flat_list::run`: refused by the list's number, or run record by record: before each, what is left gives the whole (`Along`).
 -- Assumes nothing.
 use Prim.Native.Nat.{_+_, _-_, _/_, _%_}
 use borrow.Author.Needs.{needs}
@@ -13,10 +13,10 @@ use Rattle.model.specs.Rows.{rowsOf}
 use Rattle.model.specs.State.{State, stateOf}
 use Rattle.semantics.proofs.CallLists.{Along, along-end, along-more, along-start, list-accepted, list-refused}
 use Rattle.call.specs.Classes.{countsOf}
-use Rattle.reducer.specs.CallLists.{listAnswer, listRun}
-use Rattle.reducer.proofs.OpenCallLaws.{list-promised}
-use Rattle.reducer.proofs.list.run.Statement.{statement}
-use Rattle.reducer.proofs.list.run.Tie as tie
+use Rattle.flat_list.specs.ListAnswers.{listAnswer, listRun}
+use Rattle.flat_list.proofs.ListLaws.{list-promised}
+use Rattle.flat_list.proofs.run.Statement.{statement}
+use Rattle.flat_list.proofs.run.Tie as tie
 
 abbrev Inv-loop : tie.InvT-loop
 Inv-loop n m bounds₀ coefs₀ rhs₀ kinds₀ table₀ calls fault counts₀ records i₀ bounds coefs rhs kinds table counts i =

@@ -10,7 +10,7 @@ ghost use Rattle.model.specs.Rows.{rowsOf};
 ghost use Rattle.model.specs.State.{stateOf};
 ghost use Rattle.semantics.specs.TwoLists.{CountsAddUp, Demand3Lists, ListMeans};
 ghost use Rattle.semantics.specs.TwoRuns.{EveryModelHandedIn};
-ghost use Rattle.reducer.specs.CallLists.{listRun};
+ghost use Rattle.flat_list.specs.ListAnswers.{listRun};
 
 // 01's answer of a run sheet: refused N as a whole, or the four counts.
 pub enum RunAnswer {

@@ -1,11 +1,11 @@
--- `reducer::list::list_fault`: the one chain of checks, of the model and the table, and of the list's own length with the others.
+-- `flat_list::list_fault`: the one chain of checks, of the model and the table, and of the list's own length with the others.
 -- Assumes nothing.
 use borrow.Author.Needs.{needs}
 use Rattle.model.specs.Checks.{modelFault}
 use Rattle.model.specs.State.{stateOf}
 use Rattle.semantics.specs.CallList.{listChecks, listFault}
-use Rattle.reducer.proofs.list.list_fault.Statement.{statement}
-use Rattle.reducer.proofs.list.list_fault.Tie as tie
+use Rattle.flat_list.proofs.list_fault.Statement.{statement}
+use Rattle.flat_list.proofs.list_fault.Tie as tie
 
 model-table-fault-requires : tie.Need-model-table-fault-requires
 model-table-fault-requires c κs = search needs
