@@ -27,7 +27,8 @@ use Rattle.book.specs.Book.{bookLength, boundsOf, coefsOf, decode, kindsOf, mod
 use Rattle.book.specs.BookChecks.{bookChecks, bookFault, givenLengthChecks, headChecks, layoutChecks, offsetChecks}
 use Rattle.book.specs.Bytes.{integerAt, integersAt, numberAt, numberOf, signedOf}
 use Rattle.book.specs.Pieces.{joined}
-use Rattle.rounds.specs.Rounds.{after, andThen, anyChange, isChange, probeCall, probes, propagateCall, removals, removeCall, round, roundsFault, roundsFrom, runRounds, tightenCall, tightenRow, tightenings, unlessEmpty, upwards}
+use Rattle.round.specs.Round.{andThen, anyChange, isChange, probeCall, probes, propagateCall, removals, removeCall, round, tightenCall, tightenRow, tightenings, unlessEmpty, upwards}
+use Rattle.rounds.specs.Rounds.{after, roundsFault, roundsFrom, runRounds}
 use Rattle.report.specs.Report.{byteLine, field, fields, implicationAt, implicationLine, isZeroRow, noneLine, reducedLine, refusedLine, report, rowAt, rowLine, variableAt, variableLine}
 use Rattle.report.specs.Decimal.{decimal, digits, signed}
 use Rattle.report.specs.Text.{texts}

@@ -10,8 +10,10 @@ use Rattle.model.specs.Rows.{rowsOf}
 use Rattle.model.specs.State.{State, stateOf}
 use Rattle.semantics.proofs.Accepted.{accepted-valid}
 use Rattle.rounds.specs.Answers.{roundsAnswer}
-use Rattle.rounds.specs.Rounds.{round, roundsFault}
-use Rattle.rounds.proofs.RoundsLaws.{Leads, Rest, SameLengths, at-limit, ends-empty, ends-unchanged, finished, goes-on, leads-valid, no-round, refuses, valid-lengths}
+use Rattle.round.specs.Round.{round}
+use Rattle.rounds.specs.Rounds.{roundsFault}
+use Rattle.round.proofs.RoundLaws.{Leads, SameLengths, leads-valid, valid-lengths}
+use Rattle.rounds.proofs.RoundsLaws.{Rest, at-limit, ends-empty, ends-unchanged, finished, goes-on, no-round, refuses}
 use Rattle.rounds.proofs.run.Statement.{statement}
 use Rattle.rounds.proofs.run.Tie as tie
 

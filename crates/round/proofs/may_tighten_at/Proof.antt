@@ -1,4 +1,4 @@
--- `rounds::may_tighten_at`: both tests, the second only where the variable is free. Assumes nothing.
+-- `round::may_tighten_at`: both tests, the second only where the variable is free. Assumes nothing.
 use borrow.Author.Needs.{needs}
 use mathlib.Core.Path.{_≡_, refl}
 use mir.Facts.{toZ-ofZ}
@@ -8,8 +8,8 @@ use Rattle.integer.proofs.RangeLaws.{within-fits}
 use Rattle.integer.proofs.Tests.{told-false, told-true}
 use Rattle.model.specs.Box.{at}
 use Prim.Native.Nat.{_*_, _+_}
-use Rattle.rounds.proofs.may_tighten_at.Statement.{statement}
-use Rattle.rounds.proofs.may_tighten_at.Tie as tie
+use Rattle.round.proofs.may_tighten_at.Statement.{statement}
+use Rattle.round.proofs.may_tighten_at.Tie as tie
 
 is-free-requires : tie.Need-is-free-requires
 is-free-requires c κs = search needs

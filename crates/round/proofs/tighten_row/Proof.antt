@@ -1,4 +1,4 @@
--- `rounds::tighten_row`: the invariant says that the calls so far were made and that `most` is Lmax of the row as it is. A variable that
+-- `round::tighten_row`: the invariant says that the calls so far were made and that `most` is Lmax of the row as it is. A variable that
 -- is not free is passed over, and the call for a coefficient that fails the test would change nothing (`quiet-turn`). Assumes nothing.
 use Prim.Native.Nat.{_*_, _+_, _-_}
 use mathlib.Core.Bool.{_&&_}
@@ -15,10 +15,10 @@ use Rattle.row.specs.Activity.{maxActivity}
 use Rattle.row_change.specs.Tightening.{mayTighten}
 use Rattle.semantics.specs.Call.{callOf}
 use Rattle.model.specs.State.{stateOf}
-use Rattle.rounds.specs.Rounds.{tightenCall, tightenRow}
-use Rattle.rounds.proofs.RoundsLaws.{Turns, all-turns, call-turn, flag-kept, flag-raised, leads-valid, looked-at, no-turn, one-call, quiet-turn, row-ready, turn, turns-lengths, turns-valid}
-use Rattle.rounds.proofs.tighten_row.Statement.{statement}
-use Rattle.rounds.proofs.tighten_row.Tie as tie
+use Rattle.round.specs.Round.{tightenCall, tightenRow}
+use Rattle.round.proofs.RoundLaws.{Turns, all-turns, call-turn, flag-kept, flag-raised, leads-valid, looked-at, no-turn, one-call, quiet-turn, row-ready, turn, turns-lengths, turns-valid}
+use Rattle.round.proofs.tighten_row.Statement.{statement}
+use Rattle.round.proofs.tighten_row.Tie as tie
 
 abbrev Inv-loop : tie.InvT-loop
 Inv-loop n m bounds₀ coefs₀ rhs₀ kinds₀ table₀ row most₀ changed₀ k₀ bounds coefs rhs kinds table most changed k =

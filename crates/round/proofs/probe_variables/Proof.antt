@@ -1,9 +1,9 @@
--- `rounds::probe_variables`: nothing is known yet. Assumes nothing.
+-- `round::probe_variables`: nothing is known yet. Assumes nothing.
 use borrow.Author.Needs.{needs}
 use Rattle.model.specs.State.{stateOf}
 use Rattle.probing.proofs.MarkedLaws.{marked-none}
-use Rattle.rounds.proofs.probe_variables.Statement.{statement}
-use Rattle.rounds.proofs.probe_variables.Tie as tie
+use Rattle.round.proofs.probe_variables.Statement.{statement}
+use Rattle.round.proofs.probe_variables.Tie as tie
 
 slice-aggregate-probe-variables-marked : tie.Need-slice-aggregate-probe-variables-marked
 slice-aggregate-probe-variables-marked c = search needs

@@ -1,4 +1,4 @@
--- `rounds::probe_variables_marked`: the invariant says that the calls so far were made, and that the marks are those of the box; a variable
+-- `round::probe_variables_marked`: the invariant says that the calls so far were made, and that the marks are those of the box; a variable
 -- that is not free is passed over. Assumes nothing.
 use Prim.Native.Nat.{_-_}
 use lib.ListN.{length}
@@ -10,10 +10,10 @@ use Rattle.probing.specs.Marked.{Marked}
 use Rattle.semantics.specs.Call.{callOf}
 use Rattle.model.specs.Rows.{rowsOf}
 use Rattle.model.specs.State.{stateOf}
-use Rattle.rounds.specs.Rounds.{probeCall, probes}
-use Rattle.rounds.proofs.RoundsLaws.{Turns, all-turns, call-turn, flag-kept, flag-raised, no-turn, skip-turn, turns-lengths, turns-valid}
-use Rattle.rounds.proofs.probe_variables_marked.Statement.{statement}
-use Rattle.rounds.proofs.probe_variables_marked.Tie as tie
+use Rattle.round.specs.Round.{probeCall, probes}
+use Rattle.round.proofs.RoundLaws.{Turns, all-turns, call-turn, flag-kept, flag-raised, no-turn, skip-turn, turns-lengths, turns-valid}
+use Rattle.round.proofs.probe_variables_marked.Statement.{statement}
+use Rattle.round.proofs.probe_variables_marked.Tie as tie
 
 abbrev Inv-loop : tie.InvT-loop
 Inv-loop n m bounds₀ coefs rhs kinds table₀ across₀ signs₀ marks₀ changed₀ k₀ bounds table across signs marks changed k =

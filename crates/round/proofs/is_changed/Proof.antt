@@ -1,4 +1,4 @@
--- `rounds::is_changed`: the class's tag is that of a change. Assumes nothing.
+-- `round::is_changed`: the class's tag is that of a change. Assumes nothing.
 use Prim.Native.Nat.{ℕ}
 use borrow.Author.Needs.{needs}
 use denote.Enum.Declared.{tagOf}
@@ -12,9 +12,9 @@ use Rattle.call.specs.Classes.{classIs}
 use Rattle.call.specs.declared.CallClass.{CallClass}
 use Rattle.call.specs.declared.CallClass.the-variants.{Changed, Infeasible, Refused, Unchanged}
 use Rattle.call.proofs.CallClass.{the-type}
-use Rattle.rounds.specs.Rounds.{isChange}
-use Rattle.rounds.proofs.is_changed.Statement.{statement}
-use Rattle.rounds.proofs.is_changed.Tie as tie
+use Rattle.round.specs.Round.{isChange}
+use Rattle.round.proofs.is_changed.Statement.{statement}
+use Rattle.round.proofs.is_changed.Tie as tie
 
 -- what the else of `let CallClass::Changed = class else` knows: the tag is another's
 not-changed : (k : CallClass) → OneOf (0 ∷ 1 ∷ 3 ∷ []) (tagOf the-type k) → false ≡ isChange (classIs k)

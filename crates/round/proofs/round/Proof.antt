@@ -1,4 +1,4 @@
--- `rounds::round`: each phase goes on from where the phases before it led, and the flag says whether one of them changed something.
+-- `round::round`: each phase goes on from where the phases before it led, and the flag says whether one of them changed something.
 -- Assumes nothing.
 use mathlib.Core.Bool.{Bool, _||_}
 use mathlib.Core.Logic.{⊎-elim}
@@ -6,10 +6,10 @@ use mathlib.Core.Path.{_≡_, refl}
 use Rattle.semantics.specs.Call.{callOf}
 use Rattle.model.specs.Rows.{rowsOf}
 use Rattle.model.specs.State.{State, stateOf}
-use Rattle.rounds.specs.Rounds.{andThen, removals, probes, round, propagateCall, tightenings}
-use Rattle.rounds.proofs.RoundsLaws.{Leads, SameLengths, flag-kept, flag-raised, in-order, leads-then, leads-valid, one-call, same-lengths}
-use Rattle.rounds.proofs.round.Statement.{statement}
-use Rattle.rounds.proofs.round.Tie as tie
+use Rattle.round.specs.Round.{andThen, removals, probes, round, propagateCall, tightenings}
+use Rattle.round.proofs.RoundLaws.{Leads, SameLengths, flag-kept, flag-raised, in-order, leads-then, leads-valid, one-call, same-lengths}
+use Rattle.round.proofs.round.Statement.{statement}
+use Rattle.round.proofs.round.Tie as tie
 
 abbrev entry : tie.Start → State
 entry s = let a = s .args in stateOf (a .n) (a .m) (a .bounds .now) (rowsOf (a .coefs .now) (a .rhs .now) (a .kinds .now)) (a .table .now)

@@ -1,4 +1,4 @@
--- `rounds::remove_rows`: the invariant says that the rows so far had their turn, and that the box, which a removal leaves, is not empty.
+-- `round::remove_rows`: the invariant says that the rows so far had their turn, and that the box, which a removal leaves, is not empty.
 -- Assumes nothing.
 use Prim.Native.Nat.{_-_}
 use mathlib.Core.Bool.{false}
@@ -9,10 +9,10 @@ use Rattle.model.specs.Box.{isEmpty}
 use Rattle.semantics.specs.Call.{callOf}
 use Rattle.model.specs.Rows.{rowsOf}
 use Rattle.model.specs.State.{stateOf}
-use Rattle.rounds.specs.Rounds.{removeCall, removals}
-use Rattle.rounds.proofs.RoundsLaws.{Turns, all-turns, remove-turn, flag-kept, flag-raised, no-removals, no-turn, turns-lengths, turns-valid}
-use Rattle.rounds.proofs.remove_rows.Statement.{statement}
-use Rattle.rounds.proofs.remove_rows.Tie as tie
+use Rattle.round.specs.Round.{removeCall, removals}
+use Rattle.round.proofs.RoundLaws.{Turns, all-turns, remove-turn, flag-kept, flag-raised, no-removals, no-turn, turns-lengths, turns-valid}
+use Rattle.round.proofs.remove_rows.Statement.{statement}
+use Rattle.round.proofs.remove_rows.Tie as tie
 
 abbrev Inv-loop : tie.InvT-loop
 Inv-loop n m bounds₀ coefs₀ rhs₀ kinds₀ table₀ changed₀ r₀ bounds coefs rhs kinds table changed r =

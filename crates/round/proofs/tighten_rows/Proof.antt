@@ -1,13 +1,13 @@
--- `rounds::tighten_rows`: the invariant says that the rows so far were tightened. Assumes nothing.
+-- `round::tighten_rows`: the invariant says that the rows so far were tightened. Assumes nothing.
 use Prim.Native.Nat.{_-_}
 use mathlib.Core.Logic.{⊎-elim}
 use native.Mathlib.Omega.{arith}
 use Rattle.model.specs.Rows.{rowsOf}
 use Rattle.model.specs.State.{stateOf}
-use Rattle.rounds.specs.Rounds.{tightenRow, tightenings}
-use Rattle.rounds.proofs.RoundsLaws.{Turns, all-turns, flag-kept, flag-raised, no-turn, turn, turns-lengths, turns-valid}
-use Rattle.rounds.proofs.tighten_rows.Statement.{statement}
-use Rattle.rounds.proofs.tighten_rows.Tie as tie
+use Rattle.round.specs.Round.{tightenRow, tightenings}
+use Rattle.round.proofs.RoundLaws.{Turns, all-turns, flag-kept, flag-raised, no-turn, turn, turns-lengths, turns-valid}
+use Rattle.round.proofs.tighten_rows.Statement.{statement}
+use Rattle.round.proofs.tighten_rows.Tie as tie
 
 abbrev Inv-loop : tie.InvT-loop
 Inv-loop n m bounds₀ coefs₀ rhs₀ kinds₀ table₀ changed₀ r₀ bounds coefs rhs kinds table changed r =

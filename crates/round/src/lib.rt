@@ -1,0 +1,319 @@
+// One round of `reduce`: propagate, remove redundant rows, tighten coefficients and probe. The model and the table are
+// valid before it, and each call leaves them valid.
+use call::Call;
+use call::CallClass;
+use call::PROPAGATE;
+use call::REMOVE_ROW;
+use call::TIGHTEN_COEFFICIENT;
+use model::MAX_ROWS;
+use model::MAX_VARIABLES;
+use probing::is_free;
+use row_change::tightening::may_tighten;
+use row_view::changes::maximum_activity_at;
+use step::run_probe_record;
+use step::run_record;
+ghost use mathlib.Core.Path.{_≡_};
+ghost use mathlib.Core.Bool.{_&&_};
+ghost use Prim.Native.Nat.{_*_, _+_, _<_};
+ghost use Rattle.model.specs.Box.{at, isFree};
+ghost use Rattle.probing.specs.Marked.{Marked};
+ghost use Rattle.row_change.specs.Tightening.{mayTighten};
+ghost use Rattle.model.specs.Valid.{ValidState};
+ghost use Rattle.semantics.specs.Run.{run as ran};
+ghost use Rattle.call.specs.Classes.{classIs};
+ghost use Rattle.model.specs.Rows.{rowsOf};
+ghost use Rattle.model.specs.State.{stateOf};
+ghost use Rattle.round.specs.TightenedAt.{TightenedAt};
+ghost use Rattle.round.specs.Round.{anyChange, isChange, probes, removals, round as roundOf};
+ghost use Rattle.round.specs.Round.{tightenRow, tightenings};
+
+// The passes of a round's propagation, and of each side of its probes.
+const PASSES: u32 = 1_000;
+
+// Whether a call changed a bound, row (its kind too) or table byte.
+fn is_changed(class: CallClass) -> bool
+    ensures { λ r. ⌜ r ≡ isChange (classIs class) ⌝ }
+{
+    let CallClass::Changed = class else {
+        return false;
+    };
+    true
+}
+
+// Removes each redundant row, upwards; says whether a number changed.
+fn remove_rows(
+    n: usize,
+    m: usize,
+    bounds: &mut [i32],
+    coefs: &mut [i32],
+    rhs: &mut [i32],
+    kinds: &mut [u8],
+    table: &mut [u8],
+) -> bool
+    requires { ⌜ ValidState (stateOf n m (now bounds) (rowsOf (now coefs) (now rhs) (now kinds)) (now table)) ⌝ }
+    ensures left { λ r.
+        let A = rowsOf (now (coefs .entry)) (now (rhs .entry)) (now (kinds .entry)) in
+        let A' = rowsOf (now (coefs .exit)) (now (rhs .exit)) (now (kinds .exit)) in
+        let s = stateOf n m (now (bounds .entry)) A (now (table .entry)) in
+        let r' = stateOf n m (now (bounds .exit)) A' (now (table .exit)) in
+        ⌜ r' ≡ ran s (removals s) ⌝ }
+    ensures changed { λ r.
+        let A = rowsOf (now (coefs .entry)) (now (rhs .entry)) (now (kinds .entry)) in
+        let s = stateOf n m (now (bounds .entry)) A (now (table .entry)) in
+        ⌜ r ≡ anyChange s (removals s) ⌝ }
+{
+    if model::is_empty(bounds) {
+        return false;
+    }
+    let mut changed = false;
+    let mut r: u32 = 0;
+    while (r as usize) < m {
+        let call = Call {
+            kind: REMOVE_ROW,
+            row: r,
+            variable: 0,
+            budget: 0,
+        };
+        if is_changed(run_record(n, m, bounds, coefs, rhs, kinds, table, call)) {
+            changed = true;
+        }
+        r += 1;
+    }
+    changed
+}
+
+// Whether variable k is free and its coefficient in the row, of which `most` is Lmax, passes the rule's test.
+fn may_tighten_at(
+    n: usize,
+    bounds: &[i32],
+    coefs: &[i32],
+    rhs: &[i32],
+    row: usize,
+    k: usize,
+    most: i64,
+) -> bool
+    requires { ⌜ TightenedAt n (now bounds) (now coefs) (now rhs) row k most ⌝ }
+    ensures { λ r.
+        let a = at (now (coefs .entry)) (row * n + k) in
+        let b = at (now (rhs .entry)) row in
+        ⌜ r ≡ (isFree (now (bounds .entry)) k && mayTighten a most b) ⌝ }
+{
+    if !is_free(bounds, k) {
+        return false;
+    }
+    may_tighten(coefs[row * n + k], rhs[row], most)
+}
+
+// Tightens row `row` at each variable that is free when its turn comes, upwards; says whether a number changed. A
+// coefficient that fails the rule's test stays, so only the others are called for; Lmax is found once, and anew after
+// each of them.
+fn tighten_row(
+    n: usize,
+    m: usize,
+    bounds: &mut [i32],
+    coefs: &mut [i32],
+    rhs: &mut [i32],
+    kinds: &mut [u8],
+    table: &mut [u8],
+    row: u32,
+) -> bool
+    requires { ⌜ row < m ⌝ }
+    requires { ⌜ ValidState (stateOf n m (now bounds) (rowsOf (now coefs) (now rhs) (now kinds)) (now table)) ⌝ }
+    ensures left { λ r.
+        let A = rowsOf (now (coefs .entry)) (now (rhs .entry)) (now (kinds .entry)) in
+        let A' = rowsOf (now (coefs .exit)) (now (rhs .exit)) (now (kinds .exit)) in
+        let s = stateOf n m (now (bounds .entry)) A (now (table .entry)) in
+        let r' = stateOf n m (now (bounds .exit)) A' (now (table .exit)) in
+        ⌜ r' ≡ ran s (tightenRow row s) ⌝ }
+    ensures changed { λ r.
+        let A = rowsOf (now (coefs .entry)) (now (rhs .entry)) (now (kinds .entry)) in
+        let s = stateOf n m (now (bounds .entry)) A (now (table .entry)) in
+        ⌜ r ≡ anyChange s (tightenRow row s) ⌝ }
+{
+    let mut most = maximum_activity_at(n, coefs, row as usize, bounds);
+    let mut changed = false;
+    let mut k: u32 = 0;
+    while (k as usize) < n {
+        if may_tighten_at(n, bounds, coefs, rhs, row as usize, k as usize, most) {
+            let call = Call {
+                kind: TIGHTEN_COEFFICIENT,
+                row,
+                variable: k,
+                budget: 0,
+            };
+            if is_changed(run_record(n, m, bounds, coefs, rhs, kinds, table, call)) {
+                changed = true;
+            }
+            most = maximum_activity_at(n, coefs, row as usize, bounds);
+        }
+        k += 1;
+    }
+    changed
+}
+
+// The same of each row, upwards.
+fn tighten_rows(
+    n: usize,
+    m: usize,
+    bounds: &mut [i32],
+    coefs: &mut [i32],
+    rhs: &mut [i32],
+    kinds: &mut [u8],
+    table: &mut [u8],
+) -> bool
+    requires { ⌜ ValidState (stateOf n m (now bounds) (rowsOf (now coefs) (now rhs) (now kinds)) (now table)) ⌝ }
+    ensures left { λ r.
+        let A = rowsOf (now (coefs .entry)) (now (rhs .entry)) (now (kinds .entry)) in
+        let A' = rowsOf (now (coefs .exit)) (now (rhs .exit)) (now (kinds .exit)) in
+        let s = stateOf n m (now (bounds .entry)) A (now (table .entry)) in
+        let r' = stateOf n m (now (bounds .exit)) A' (now (table .exit)) in
+        ⌜ r' ≡ ran s (tightenings s) ⌝ }
+    ensures changed { λ r.
+        let A = rowsOf (now (coefs .entry)) (now (rhs .entry)) (now (kinds .entry)) in
+        let s = stateOf n m (now (bounds .entry)) A (now (table .entry)) in
+        ⌜ r ≡ anyChange s (tightenings s) ⌝ }
+{
+    let mut changed = false;
+    let mut r: u32 = 0;
+    while (r as usize) < m {
+        if tighten_row(n, m, bounds, coefs, rhs, kinds, table, r) {
+            changed = true;
+        }
+        r += 1;
+    }
+    changed
+}
+
+// Probes each variable that is free when its turn comes, upwards, by the index of the rows and the marks of the box;
+// says whether a bound or a table byte changed.
+fn probe_variables_marked(
+    n: usize,
+    m: usize,
+    bounds: &mut [i32],
+    coefs: &[i32],
+    rhs: &[i32],
+    kinds: &[u8],
+    table: &mut [u8],
+    across: &mut [u8],
+    signs: &mut [u8],
+    marks: &mut [u8],
+) -> bool
+    requires { ⌜ ValidState (stateOf n m (now bounds) (rowsOf (now coefs) (now rhs) (now kinds)) (now table)) ⌝ }
+    requires { let A = rowsOf (now coefs) (now rhs) (now kinds) in
+        ⌜ Marked n m (now bounds) A (now across) (now signs) (now marks) ⌝ }
+    ensures left { λ r.
+        let A = rowsOf (now (coefs .entry)) (now (rhs .entry)) (now (kinds .entry)) in
+        let s = stateOf n m (now (bounds .entry)) A (now (table .entry)) in
+        let r' = stateOf n m (now (bounds .exit)) A (now (table .exit)) in
+        ⌜ r' ≡ ran s (probes s) ⌝ }
+    ensures changed { λ r.
+        let A = rowsOf (now (coefs .entry)) (now (rhs .entry)) (now (kinds .entry)) in
+        let s = stateOf n m (now (bounds .entry)) A (now (table .entry)) in
+        ⌜ r ≡ anyChange s (probes s) ⌝ }
+{
+    let mut changed = false;
+    let mut k: u32 = 0;
+    while (k as usize) < n {
+        if is_free(bounds, k as usize) {
+            if is_changed(run_probe_record(
+                n,
+                m,
+                bounds,
+                coefs,
+                rhs,
+                kinds,
+                table,
+                k,
+                PASSES,
+                across,
+                signs,
+                marks,
+            )) {
+                changed = true;
+            }
+        }
+        k += 1;
+    }
+    changed
+}
+
+// The same, of rows of which nothing is known yet. No probe changes a row, and each leaves a box inside the one
+// before: what is known is kept from probe to probe.
+fn probe_variables(
+    n: usize,
+    m: usize,
+    bounds: &mut [i32],
+    coefs: &mut [i32],
+    rhs: &mut [i32],
+    kinds: &mut [u8],
+    table: &mut [u8],
+) -> bool
+    requires { ⌜ ValidState (stateOf n m (now bounds) (rowsOf (now coefs) (now rhs) (now kinds)) (now table)) ⌝ }
+    ensures left { λ r.
+        let A = rowsOf (now (coefs .entry)) (now (rhs .entry)) (now (kinds .entry)) in
+        let A' = rowsOf (now (coefs .exit)) (now (rhs .exit)) (now (kinds .exit)) in
+        let s = stateOf n m (now (bounds .entry)) A (now (table .entry)) in
+        let r' = stateOf n m (now (bounds .exit)) A' (now (table .exit)) in
+        ⌜ r' ≡ ran s (probes s) ⌝ }
+    ensures changed { λ r.
+        let A = rowsOf (now (coefs .entry)) (now (rhs .entry)) (now (kinds .entry)) in
+        let s = stateOf n m (now (bounds .entry)) A (now (table .entry)) in
+        ⌜ r ≡ anyChange s (probes s) ⌝ }
+{
+    let mut across = [0u8; MAX_ROWS * MAX_VARIABLES];
+    let mut signs = [0u8; MAX_ROWS * MAX_VARIABLES];
+    let mut marks = [0u8; MAX_ROWS];
+    probe_variables_marked(
+        n,
+        m,
+        bounds,
+        coefs,
+        rhs,
+        kinds,
+        table,
+        &mut across,
+        &mut signs,
+        &mut marks,
+    )
+}
+
+// One round; says whether anything changed. After None the box is empty, and no further call is made.
+pub fn round(
+    n: usize,
+    m: usize,
+    bounds: &mut [i32],
+    coefs: &mut [i32],
+    rhs: &mut [i32],
+    kinds: &mut [u8],
+    table: &mut [u8],
+) -> bool
+    requires { ⌜ ValidState (stateOf n m (now bounds) (rowsOf (now coefs) (now rhs) (now kinds)) (now table)) ⌝ }
+    ensures left { λ r.
+        let A = rowsOf (now (coefs .entry)) (now (rhs .entry)) (now (kinds .entry)) in
+        let A' = rowsOf (now (coefs .exit)) (now (rhs .exit)) (now (kinds .exit)) in
+        let s = stateOf n m (now (bounds .entry)) A (now (table .entry)) in
+        let r' = stateOf n m (now (bounds .exit)) A' (now (table .exit)) in
+        ⌜ r' ≡ ran s (roundOf s) ⌝ }
+    ensures changed { λ r.
+        let A = rowsOf (now (coefs .entry)) (now (rhs .entry)) (now (kinds .entry)) in
+        let s = stateOf n m (now (bounds .entry)) A (now (table .entry)) in
+        ⌜ r ≡ anyChange s (roundOf s) ⌝ }
+{
+    let call = Call {
+        kind: PROPAGATE,
+        row: 0,
+        variable: 0,
+        budget: PASSES,
+    };
+    let mut changed = is_changed(run_record(n, m, bounds, coefs, rhs, kinds, table, call));
+    if remove_rows(n, m, bounds, coefs, rhs, kinds, table) {
+        changed = true;
+    }
+    if tighten_rows(n, m, bounds, coefs, rhs, kinds, table) {
+        changed = true;
+    }
+    if probe_variables(n, m, bounds, coefs, rhs, kinds, table) {
+        changed = true;
+    }
+    changed
+}
