@@ -14,18 +14,10 @@ use Rattle.model.specs.Box.{at}
 use Rattle.model.specs.Checks.{bits, inRange}
 use Rattle.model.proofs.CheckLaws.{bits-test}
 use Rattle.book.specs.Book.{boundsOf, coefsOf, kindsOf, rhsOf, rowPlace}
-use Rattle.book.specs.Bytes.{integerAt, integersAt}
-use Rattle.book.specs.Pieces.{joined}
-use Rattle.book.proofs.PieceLaws.{getD-grid, getD-listOf, length-grid, length-listOf}
-
-module _ (p step k : ℕ) (bs : List ℕ) where
-  pub length-integersAt : length (integersAt p step k bs) ≡ k
-  unfolding integersAt
-  length-integersAt = length-listOf k _
-
-  pub at-integersAt : (i : ℕ) → i < k → at (integersAt p step k bs) i ≡ integerAt (p + i * step) bs
-  unfolding integersAt
-  at-integersAt i h = getD-listOf k _ i (pos 0) h
+use Rattle.bytes.specs.Bytes.{integerAt, integersAt}
+use Rattle.bytes.specs.Pieces.{joined}
+use Rattle.bytes.proofs.ByteLaws.{at-integersAt, length-integersAt}
+use Rattle.bytes.proofs.PieceLaws.{getD-grid, getD-listOf, length-grid, length-listOf}
 
 module _ (n m : ℕ) (bs : List ℕ) where
   pub length-boundsOf : length (boundsOf n bs) ≡ 2 * n

@@ -11,10 +11,10 @@ use Rattle.model.specs.Model.{Model}
 use Rattle.model.specs.Rows.{Row, rowAt}
 use Rattle.model.proofs.RowsLaws.{at-rowOf}
 use Rattle.book.specs.Book.{bookLength, boundBytes, boundsOffset, encode, lengthGiven, rowBytes, rowBytesAt, rowPlace, rows, rowsOffset, trailerBytes, trailerOf, variables}
-use Rattle.book.specs.Bytes.{bytesOf, integerBytes, numberAt}
-use Rattle.book.specs.Pieces.{joined, overwrite, part}
-use Rattle.book.proofs.ByteLaws.{length-integerBytes, number-bytes}
-use Rattle.book.proofs.PieceLaws.{length-joined, overwrite-all, overwrite-next, part-joined, part-left, part-part, part-right, part-whole, piece-within}
+use Rattle.bytes.specs.Bytes.{bytesOf, integerBytes, numberAt}
+use Rattle.bytes.specs.Pieces.{joined, overwrite, part}
+use Rattle.bytes.proofs.ByteLaws.{length-integerBytes, number-bytes}
+use Rattle.bytes.proofs.PieceLaws.{length-joined, overwrite-all, overwrite-next, part-joined, part-left, part-part, part-right, part-whole, piece-within}
 
 -- the limits of n and m keep every place within 32 bits
 pub place-below : (n i : ℕ) → n ≤ 128 → i ≤ 120 → rowPlace n i ≤ 62_944

@@ -1,5 +1,3 @@
-pub mod PieceLaws
-pub mod ByteLaws
 pub mod EncodeLaws
 pub mod DecodeLaws
 pub mod AcceptLaws

@@ -20,15 +20,15 @@ use Rattle.model.proofs.RowsLaws.{at-rowOf}
 use Rattle.book.specs.Answers.{Answer, bookWritten, boundsRead, coefsRead, kindsRead, readCall, readFault, refused, rhsRead, sizesAre, unless, writeCall, writeFault, written}
 use Rattle.book.specs.Book.{bookLength, boundBytes, boundsOf, coefsOf, decode, encode, kindsOf, modelIn, rhsOf, rowBytes, rowBytesAt, rowPlace, rows, trailerBytes, trailerOf, variables}
 use Rattle.book.specs.BookChecks.{bookFault}
-use Rattle.book.specs.Bytes.{Bytes, bitsOf, bytesOf, integerBytes, integersAt}
-use Rattle.book.specs.Pieces.{joined, part}
+use Rattle.bytes.specs.Bytes.{Bytes, bitsOf, bytesOf, integerBytes, integersAt}
+use Rattle.bytes.specs.Pieces.{joined, part}
 use Rattle.book.specs.RoundTrips.{FirstEdition, OneBook, OneModel, ReadsWritten, WritesRead}
 use Rattle.book.proofs.AcceptLaws.{Head, Layout, book-test, read-passed, write-passed}
 use Rattle.book.proofs.AnswerLaws.{becomes}
-use Rattle.book.proofs.ByteLaws.{bytes-numberAt, integer-read, integer-written}
+use Rattle.bytes.proofs.ByteLaws.{bytes-numberAt, integer-read, integer-written}
 use Rattle.book.proofs.DecodeLaws.{at-boundsOf, at-coefsOf, at-rhsOf, kind-none, length-kindsOf}
 use Rattle.book.proofs.EncodeLaws.{bound-encode, coef-encode, length-encode, rhs-encode, trailer-bounds, trailer-encode, trailer-length, trailer-m, trailer-n, trailer-rows}
-use Rattle.book.proofs.PieceLaws.{grid-all, joined-cong, joined-parts, listOf-all, part-add, part-whole, piece-within}
+use Rattle.bytes.proofs.PieceLaws.{grid-all, joined-cong, joined-parts, listOf-all, part-add, part-whole, piece-within}
 
 -- ---- the bytes of a book are bytes
 

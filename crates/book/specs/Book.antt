@@ -6,8 +6,8 @@ use mathlib.Core.List.{List, _++_}
 use Rattle.model.specs.Box.{at}
 use Rattle.model.specs.Model.{Model, modelOf}
 use Rattle.model.specs.Rows.{Row, Rows, rowAt, rowsOf}
-use Rattle.book.specs.Bytes.{bytesOf, integerAt, integerBytes, integersAt, numberAt}
-use Rattle.book.specs.Pieces.{joined, listOf}
+use Rattle.bytes.specs.Bytes.{bytesOf, integerAt, integerBytes, integersAt, numberAt}
+use Rattle.bytes.specs.Pieces.{joined, listOf}
 
 -- "length of the book, 32 bits, 8n + m(4 + 4n) + 16"
 unfoldable pub bookLength : ℕ → ℕ → ℕ

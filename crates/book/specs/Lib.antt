@@ -1,5 +1,3 @@
-pub mod Pieces
-pub mod Bytes
 pub mod Book
 pub mod BookChecks
 pub mod RoundTrips

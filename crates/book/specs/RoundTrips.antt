@@ -9,7 +9,7 @@ use Rattle.model.specs.Rows.{isEquality, rowAt}
 use Rattle.model.specs.Valid.{ValidModel}
 use Rattle.book.specs.Book.{decode, encode}
 use Rattle.book.specs.BookChecks.{bookFault}
-use Rattle.book.specs.Bytes.{Bytes}
+use Rattle.bytes.specs.Bytes.{Bytes}
 
 -- a book that the checks accept
 pub record Accepted (bs : List ℕ) : Type 0 where

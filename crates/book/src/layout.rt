@@ -1,8 +1,8 @@
 // The trailer, the last 16 bytes of a book: where the bounds and the rows start, n, m, and the book's length.
-use crate::bytes::read_u16;
-use crate::bytes::read_u32;
-use crate::bytes::write_u16;
-use crate::bytes::write_u32;
+use bytes::read_u16;
+use bytes::read_u32;
+use bytes::write_u16;
+use bytes::write_u32;
 use model::size_fault;
 ghost use mathlib.Core.Path.{_≡_};
 ghost use Prim.Native.Nat.{_≤_};
@@ -10,7 +10,7 @@ ghost use lib.ListN.{length};
 ghost use Rattle.model.specs.Checks.{first};
 ghost use Rattle.book.specs.Answers.{sizesAnswer, trailerCall};
 ghost use Rattle.book.specs.Book.{bookLength, rowPlace, trailerBytes, trailerOf, variables, rows};
-ghost use Rattle.book.specs.Bytes.{numberAt};
+ghost use Rattle.bytes.specs.Bytes.{numberAt};
 ghost use Rattle.book.specs.BookChecks.{givenLengthChecks, headChecks, layoutChecks};
 
 pub const TRAILER: usize = 16;

@@ -4,8 +4,6 @@
 // model into a lent book. They are all that is open, and they require nothing: a book or a model that fails a check is
 // refused by the check's number, and then nothing is written. Reading a written book returns the same model, and
 // writing a book that was read returns the same bytes.
-mod bytes;
-mod integers;
 mod layout;
 pub mod reading;
 pub mod writing;

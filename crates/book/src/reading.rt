@@ -1,6 +1,6 @@
 // Reading a book: every check over the book's bytes, and only then the numbers into the lent buffers.
-use crate::integers::are_in_range;
-use crate::integers::read_integers;
+use bytes::integers::are_in_range;
+use bytes::integers::read_integers;
 use crate::layout::ROWS;
 use crate::layout::SizesAnswer;
 use crate::layout::VARIABLES;

@@ -1,6 +1,6 @@
 // Writing a model as a book: every check over the model and the lent book, and only then the bytes.
-use crate::bytes::write_i32;
-use crate::integers::write_integers;
+use bytes::write_i32;
+use bytes::integers::write_integers;
 use crate::layout::TRAILER;
 use crate::layout::book_length;
 use crate::layout::row_place;
@@ -18,7 +18,7 @@ ghost use Rattle.model.specs.Rows.{rowsOf};
 ghost use Rattle.book.specs.Answers.{bookWritten, writeAnswer, writeCall, writeFault, written};
 ghost use Rattle.book.specs.Book.{HoldsModel, bookLength, decode, rowBytesAt};
 ghost use Rattle.book.specs.BookChecks.{bookFault, firstEditionChecks, inequalities};
-ghost use Rattle.book.specs.Pieces.{joined, overwrite};
+ghost use Rattle.bytes.specs.Pieces.{joined, overwrite};
 
 pub enum WriteAnswer {
     // By the number of the first check that fails.

@@ -14,10 +14,10 @@ use Rattle.model.proofs.CheckLaws.{fails, first-none, past}
 use Rattle.book.specs.Answers.{Answer, refused, sizesAre, unless}
 use Rattle.book.specs.Book.{lengthGiven, rows, trailerOf, variables}
 use Rattle.book.specs.BookChecks.{givenLengthChecks, headChecks, layoutChecks, offsetChecks}
-use Rattle.book.specs.Bytes.{Bytes}
+use Rattle.bytes.specs.Bytes.{Bytes}
 use Rattle.book.proofs.AcceptLaws.{layout-test}
 use Rattle.book.proofs.AnswerLaws.{accepted-by, refused-by}
-use Rattle.book.proofs.ByteLaws.{numberAt-below, part-bytes}
+use Rattle.bytes.proofs.ByteLaws.{numberAt-below, part-bytes}
 use Rattle.book.proofs.EncodeLaws.{length-below, trailer-part}
 use Rattle.intake.specs.Checks.{SizedBook, TooLong, headCall, inputCall, inputChecks, tooLong}
 use Rattle.intake.specs.Intake.{lastBytes}

@@ -9,7 +9,7 @@ use Rattle.model.specs.Limits.{maxRows, maxVariables}
 use Rattle.book.specs.Answers.{Answer, refused, sizesAre, unless}
 use Rattle.book.specs.Book.{bookLength, rows, trailerOf, variables}
 use Rattle.book.specs.BookChecks.{givenLengthChecks, headChecks, layoutChecks}
-use Rattle.book.specs.Bytes.{Bytes}
+use Rattle.bytes.specs.Bytes.{Bytes}
 
 -- 1. The input has under 16 bytes. 5 where t is not as long as a trailer. Then 2, 3 and 4.
 unfoldable pub inputChecks : List ℕ → ℕ → List Check

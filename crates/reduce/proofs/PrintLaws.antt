@@ -7,8 +7,8 @@ use mathlib.Core.Path.{_∙_, _≡_, ap, sym}
 use native.Mathlib.Omega.{arith}
 use Rattle.model.specs.Limits.{maxRows, maxVariables}
 use Rattle.report.specs.Report.{lineCount}
-use Rattle.report.specs.Text.{Wrote, chunk}
-use Rattle.report.proofs.TextLaws.{chunk-chunk, wrote-length}
+use Rattle.text.specs.Text.{Wrote, chunk}
+use Rattle.text.proofs.TextLaws.{chunk-chunk, wrote-length}
 use Rattle.reduce.proofs.ReductionLaws.{table-fits}
 
 -- the part of a buffer up to the end of a text is as long as the text

@@ -25,13 +25,14 @@ use Rattle.semantics.specs.Call.{callOf, hasBudget, hasRow, hasTable, hasVariab
 use Rattle.model.specs.State.{stateOf, withBox, withRow}
 use Rattle.book.specs.Book.{bookLength, boundsOf, coefsOf, decode, kindsOf, modelIn, rhsOf, rowPlace, trailerOf}
 use Rattle.book.specs.BookChecks.{bookChecks, bookFault, givenLengthChecks, headChecks, layoutChecks, offsetChecks}
-use Rattle.book.specs.Bytes.{integerAt, integersAt, numberAt, numberOf, signedOf}
-use Rattle.book.specs.Pieces.{joined}
+use Rattle.bytes.specs.Bytes.{integerAt, integersAt, numberAt, numberOf, signedOf}
+use Rattle.bytes.specs.Pieces.{joined}
 use Rattle.round.specs.Round.{andThen, anyChange, isChange, probeCall, probes, propagateCall, removals, removeCall, round, tightenCall, tightenRow, tightenings, unlessEmpty, upwards}
 use Rattle.rounds.specs.Rounds.{after, roundsFault, roundsFrom, runRounds}
-use Rattle.report.specs.Report.{byteLine, field, fields, implicationAt, implicationLine, isZeroRow, noneLine, reducedLine, refusedLine, report, rowAt, rowLine, variableAt, variableLine}
-use Rattle.report.specs.Decimal.{decimal, digits, signed}
-use Rattle.report.specs.Text.{texts}
+use Rattle.text.specs.Fields.{field, fields}
+use Rattle.report.specs.Report.{byteLine, implicationAt, implicationLine, isZeroRow, noneLine, reducedLine, refusedLine, report, rowAt, rowLine, variableAt, variableLine}
+use Rattle.text.specs.Decimal.{decimal, digits, signed}
+use Rattle.text.specs.Text.{texts}
 use Rattle.reduce.specs.Output.{output, roundsText, stateRead, textOf, zeros}
 
 -- "The book with bounds 0, 1, 0, 1 and the row 4, 3, 2 (trailer 0, 16, 2, 1, 44)"

@@ -8,7 +8,7 @@ use Rattle.model.specs.Checks.{first}
 use Rattle.model.specs.Rows.{Rows}
 use Rattle.book.specs.Book.{decode}
 use Rattle.book.specs.BookChecks.{headChecks}
-use Rattle.book.specs.Bytes.{Bytes}
+use Rattle.bytes.specs.Bytes.{Bytes}
 use Rattle.intake.specs.Intake.{Held}
 use Rattle.report.specs.Report.{Printable, noneLine, refusedLine, report}
 use Rattle.reduce.specs.Output.{output, zeros}

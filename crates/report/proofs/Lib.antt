@@ -1,4 +1,2 @@
-pub mod DecimalLaws
-pub mod TextLaws
 pub mod ReportLaws
 pub mod WorkedReport

@@ -15,8 +15,8 @@ use Rattle.integer.proofs.IndexLaws.{all-test}
 use Rattle.integer.proofs.Tests.{both, eqZ→eq, eq→eqZ}
 use Rattle.model.specs.Box.{at}
 use Rattle.report.specs.Report.{byteLine, implicationAt, implicationLine, isZeroRow, lineAt, lineCount, reducedLine, report, rowAt, variableAt}
-use Rattle.report.specs.Text.{chunk, texts, then}
-use Rattle.report.proofs.TextLaws.{chunk-whole, texts-then, then-first, then-later}
+use Rattle.text.specs.Text.{chunk, texts, then}
+use Rattle.text.proofs.TextLaws.{chunk-whole, texts-then, then-first, then-later}
 
 pub report-lines : (n m rounds : ℕ) (B C R : List ℤ) (t : List ℕ) → texts (lineCount n m) (lineAt n m rounds B C R t) ≡ report n m rounds B C R t
 unfolding lineCount lineAt report texts

@@ -3,9 +3,10 @@ use lib.IntN.{negsuc, pos}
 use mathlib.Core.List.{List, [], _++_, _∷_}
 use mathlib.Core.Path.{_≡_, refl}
 use Prim.Native.Nat.{ℕ}
-use Rattle.report.specs.Decimal.{decimal, digits, signed}
-use Rattle.report.specs.Report.{byteLine, field, fields, implicationAt, implicationLine, isZeroRow, reducedLine, report, rowAt, rowLine, variableAt, variableLine}
-use Rattle.report.specs.Text.{texts}
+use Rattle.text.specs.Decimal.{decimal, digits, signed}
+use Rattle.text.specs.Fields.{field, fields}
+use Rattle.report.specs.Report.{byteLine, implicationAt, implicationLine, isZeroRow, reducedLine, report, rowAt, rowLine, variableAt, variableLine}
+use Rattle.text.specs.Text.{texts}
 use Rattle.integer.specs.Index.{all}
 use Rattle.integer.specs.Order.{eqZ}
 use Rattle.model.specs.Rows.{rowOf}

@@ -13,17 +13,10 @@ use Rattle.integer.specs.Order.{eqZ}
 use Rattle.model.specs.Box.{at, lower, upper}
 use Rattle.model.specs.Limits.{maxRows, maxVariables}
 use Rattle.model.specs.Rows.{rowOf}
-use Rattle.report.specs.Decimal.{signed}
-use Rattle.report.specs.Text.{texts, then}
+use Rattle.text.specs.Fields.{field, fields, maxField}
+use Rattle.text.specs.Text.{texts, then}
 
 -- ---- the lines
-
--- a number after one space
-unfoldable pub field : ℤ → List ℕ
-field z = 32 ∷ signed z
-
-unfoldable pub fields : List ℤ → List ℕ
-fields xs = texts (length xs) (λ j. field (at xs j))
 
 abbrev pub newline : List ℕ
 newline = 10 ∷ []
@@ -91,10 +84,7 @@ lineAt n m rounds B C R t =
 
 -- ---- room
 
--- the bytes of a number of 32 bits after its space, of any line but a row's, of a row's line with n coefficients, of any line
-abbrev pub maxField : ℕ
-maxField = 12
-
+-- the bytes of any line but a row's, of a row's line with n coefficients, of any line
 abbrev pub maxShortLine : ℕ
 maxShortLine = 2 + maxField * 4
 

@@ -2,7 +2,6 @@
 // writes as many of them as have room and says where to go on: a program prints a report by `fill`, writing out,
 // and `fill` again from there.
 mod line;
-mod number;
 mod report;
 
 pub use line::write_none;

@@ -4,12 +4,12 @@ ghost use Prim.Native.Nat.{_+_, _≤_};
 ghost use lib.ListN.{length};
 ghost use Rattle.report.specs.Report.{refusedLine, noneLine, reducedLine, variableLine, rowLine, implicationLine};
 ghost use Rattle.report.specs.Report.{isZeroRow, maxRowLine, maxShortLine};
-ghost use Rattle.report.specs.Text.{Wrote};
-use crate::number::write_byte;
-use crate::number::write_integer;
-use crate::number::write_integers;
-use crate::number::write_natural;
-use crate::number::write_text;
+ghost use Rattle.text.specs.Text.{Wrote};
+use text::number::write_byte;
+use text::number::write_integer;
+use text::number::write_integers;
+use text::number::write_natural;
+use text::number::write_text;
 
 // refused N
 pub fn write_refused(number: u32, buf: &mut [u8], at: usize) -> usize

@@ -4,7 +4,7 @@ ghost use Prim.Native.Nat.{ℕ, _+_, _-_, _*_, _<_, _≤_};
 ghost use lib.ListN.{getD, length};
 ghost use Rattle.model.specs.Limits.{maxRows, maxVariables};
 ghost use Rattle.report.specs.Report.{Printable, implicationAt, lineAt, lineCount, maxLine, maxShortLine, rowAt};
-ghost use Rattle.report.specs.Text.{Wrote, chunk};
+ghost use Rattle.text.specs.Text.{Wrote, chunk};
 use crate::line::is_zero_row;
 use crate::line::write_implication;
 use crate::line::write_reduced;

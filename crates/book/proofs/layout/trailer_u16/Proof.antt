@@ -3,7 +3,7 @@ use Prim.Native.Nat.{ℕ}
 use borrow.Author.Needs.{needs}
 use mathlib.Core.List.{List}
 use mathlib.Core.Path.{_∙_, ap}
-use Rattle.book.specs.Bytes.{numberAt}
+use Rattle.bytes.specs.Bytes.{numberAt}
 use Rattle.book.proofs.EncodeLaws.{trailer-part}
 use Rattle.book.proofs.layout.trailer_u16.Statement.{statement}
 use Rattle.book.proofs.layout.trailer_u16.Tie as tie

@@ -5,8 +5,8 @@ use borrow.Author.Needs.{needs}
 use mathlib.Core.List.{List}
 use mathlib.Core.Path.{_∙_, ap, ap₂}
 use native.Mathlib.Omega.{arith}
-use Rattle.book.specs.Bytes.{bytesOf}
-use Rattle.book.specs.Pieces.{overwrite}
+use Rattle.bytes.specs.Bytes.{bytesOf}
+use Rattle.bytes.specs.Pieces.{overwrite}
 use Rattle.book.proofs.EncodeLaws.{length-below, trailer-written}
 use Rattle.book.proofs.layout.write_trailer.Statement.{statement}
 use Rattle.book.proofs.layout.write_trailer.Tie as tie

@@ -9,7 +9,7 @@ use mathlib.Core.Path.{_∙_, _≡_, ap, sym}
 use native.Mathlib.Omega.{arith}
 use Rattle.model.specs.Checks.{boxChecks, first}
 use Rattle.book.specs.Book.{boundsOf}
-use Rattle.book.specs.Bytes.{integersAt}
+use Rattle.bytes.specs.Bytes.{integersAt}
 use Rattle.book.proofs.reading.bounds_fault.Statement.{statement}
 use Rattle.book.proofs.reading.bounds_fault.Tie as tie
 

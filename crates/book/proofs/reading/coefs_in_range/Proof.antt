@@ -12,7 +12,7 @@ use Rattle.integer.proofs.Tests.{told-false, told-true}
 use Rattle.model.specs.Checks.{inRange}
 use Rattle.model.specs.Limits.{maxCoef, minCoef}
 use Rattle.book.specs.Book.{coefsOf, rowPlace}
-use Rattle.book.specs.Bytes.{integersAt}
+use Rattle.bytes.specs.Bytes.{integersAt}
 use Rattle.book.proofs.DecodeLaws.{inRange-joined}
 use Rattle.book.proofs.EncodeLaws.{row-within}
 use Rattle.book.proofs.reading.coefs_in_range.Statement.{statement}

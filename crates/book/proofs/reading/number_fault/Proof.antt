@@ -11,7 +11,7 @@ use Rattle.model.specs.Checks.{Check, boxChecks, first, inRange, numberChecks}
 use Rattle.model.specs.Limits.{maxCoef, minCoef}
 use Rattle.model.proofs.CheckLaws.{ends, fails, goes, past, stops}
 use Rattle.book.specs.Book.{boundsOf, coefsOf, rhsOf, rowPlace}
-use Rattle.book.specs.Bytes.{integersAt}
+use Rattle.bytes.specs.Bytes.{integersAt}
 use Rattle.book.proofs.DecodeLaws.{bits-kindsOf}
 use Rattle.book.proofs.EncodeLaws.{row-within}
 use Rattle.book.proofs.reading.number_fault.Statement.{statement}

@@ -10,7 +10,7 @@ use Rattle.model.specs.Rows.{Rows, rowsOf}
 use Rattle.model.proofs.CheckLaws.{LengthsFit}
 use Rattle.book.specs.Answers.{boundsRead, coefsRead, kindsRead, readCall, readFault, rhsRead, sizesAnswer, sizesAre}
 use Rattle.book.specs.Book.{HoldsModel, boundsOf, coefsOf, decode, kindsOf, modelIn, rhsOf, rowPlace}
-use Rattle.book.specs.Bytes.{Bytes, integersAt}
+use Rattle.bytes.specs.Bytes.{Bytes, integersAt}
 use Rattle.book.proofs.AcceptLaws.{Head, head-holds, read-passed}
 use Rattle.book.proofs.AnswerLaws.{accepted-by, becomes, refused-by, stays}
 use Rattle.book.proofs.EncodeLaws.{row-within}

@@ -8,11 +8,12 @@ use mathlib.Core.List.{List}
 use mathlib.Core.Path.{_∙_, _≡_, ap₂, refl}
 use native.Mathlib.Omega.{arith}
 use Rattle.book.specs.Book.{coefsOf, rowPlace}
-use Rattle.book.specs.Bytes.{integersAt}
-use Rattle.book.specs.Pieces.{joined, overwrite, part}
-use Rattle.book.proofs.DecodeLaws.{length-coefsOf, length-integersAt}
+use Rattle.bytes.specs.Bytes.{integersAt}
+use Rattle.bytes.specs.Pieces.{joined, overwrite, part}
+use Rattle.bytes.proofs.ByteLaws.{length-integersAt}
+use Rattle.book.proofs.DecodeLaws.{length-coefsOf}
 use Rattle.book.proofs.EncodeLaws.{row-within}
-use Rattle.book.proofs.PieceLaws.{length-joined, length-part, overwrite-all, overwrite-part, overwrite-start, overwrite-turn, piece-within}
+use Rattle.bytes.proofs.PieceLaws.{length-joined, length-part, overwrite-all, overwrite-part, overwrite-start, overwrite-turn, piece-within}
 use Rattle.book.proofs.reading.read_coefs.Statement.{statement}
 use Rattle.book.proofs.reading.read_coefs.Tie as tie
 

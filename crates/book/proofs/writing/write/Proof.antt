@@ -12,12 +12,12 @@ use Rattle.model.specs.Rows.{rowsOf}
 use Rattle.model.specs.Valid.{ValidModel}
 use Rattle.book.specs.Answers.{bookWritten, writeAnswer, writeCall, writeFault, written}
 use Rattle.book.specs.Book.{bookLength, boundBytes, encode, rowBytes, rowBytesAt}
-use Rattle.book.specs.Bytes.{integerBytes, integersBytes}
-use Rattle.book.specs.Pieces.{joined, overwrite}
+use Rattle.bytes.specs.Bytes.{integerBytes, integersBytes}
+use Rattle.bytes.specs.Pieces.{joined, overwrite}
 use Rattle.book.proofs.AcceptLaws.{write-passed}
 use Rattle.book.proofs.AnswerLaws.{accepted-by, becomes, refused-by, stays}
 use Rattle.book.proofs.EncodeLaws.{book-assembled, length-trailerBytes}
-use Rattle.book.proofs.PieceLaws.{length-part, overwrite-part}
+use Rattle.bytes.proofs.PieceLaws.{length-part, overwrite-part}
 use Rattle.book.proofs.RoundTripLaws.{writes-back}
 use Rattle.book.proofs.writing.write.Statement.{statement}
 use Rattle.book.proofs.writing.write.Tie as tie

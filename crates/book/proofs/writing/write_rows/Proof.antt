@@ -12,11 +12,11 @@ use Rattle.model.specs.Box.{at}
 use Rattle.model.specs.Rows.{rowAt, rowOf, rowsOf}
 use Rattle.model.proofs.RowsLaws.{at-rowOf}
 use Rattle.book.specs.Book.{rowBytes, rowBytesAt, rowPlace}
-use Rattle.book.specs.Bytes.{integerBytes, integersBytes}
-use Rattle.book.specs.Pieces.{joined, overwrite, part}
-use Rattle.book.proofs.ByteLaws.{integersBytes-part, length-integerBytes}
+use Rattle.bytes.specs.Bytes.{integerBytes, integersBytes}
+use Rattle.bytes.specs.Pieces.{joined, overwrite, part}
+use Rattle.bytes.proofs.ByteLaws.{integersBytes-part, length-integerBytes}
 use Rattle.book.proofs.EncodeLaws.{length-rowBytes, row-within}
-use Rattle.book.proofs.PieceLaws.{joined-cong, length-joined, length-part, overwrite-next, overwrite-start, overwrite-turn, piece-within}
+use Rattle.bytes.proofs.PieceLaws.{joined-cong, length-joined, length-part, overwrite-next, overwrite-start, overwrite-turn, piece-within}
 use Rattle.book.proofs.writing.write_rows.Statement.{statement}
 use Rattle.book.proofs.writing.write_rows.Tie as tie
 

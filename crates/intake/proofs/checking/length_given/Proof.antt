@@ -1,7 +1,7 @@
 -- `intake::checking::length_given`: four bytes, the lowest first. Assumes nothing.
 use borrow.Author.Needs.{needs}
 use native.Mathlib.Omega.{arith}
-use Rattle.book.proofs.ByteLaws.{numberAt-add, numberAt-byte}
+use Rattle.bytes.proofs.ByteLaws.{numberAt-add, numberAt-byte}
 use Rattle.intake.proofs.checking.length_given.Statement.{statement}
 use Rattle.intake.proofs.checking.length_given.Tie as tie
 

@@ -2,7 +2,7 @@
 use borrow.Author.Needs.{needs}
 use lib.ListN.{length-take}
 use native.Mathlib.Omega.{arith}
-use Rattle.report.proofs.TextLaws.{wrote-length}
+use Rattle.text.proofs.TextLaws.{wrote-length}
 use Rattle.reduce.proofs.PrintLaws.{written-length}
 use Rattle.reduce.proofs.output.none.Statement.{statement}
 use Rattle.reduce.proofs.output.none.Tie as tie

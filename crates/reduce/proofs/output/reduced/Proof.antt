@@ -9,9 +9,9 @@ use mathlib.Core.List.{List}
 use mathlib.Core.Path.{_∙_, _≡_, ap, sym}
 use native.Mathlib.Omega.{arith}
 use Rattle.report.specs.Report.{lineAt, lineCount}
-use Rattle.report.specs.Text.{chunk}
+use Rattle.text.specs.Text.{chunk}
 use Rattle.report.proofs.ReportLaws.{report-chunks}
-use Rattle.report.proofs.TextLaws.{chunk-none, wrote-length}
+use Rattle.text.proofs.TextLaws.{chunk-none, wrote-length}
 use Rattle.reduce.proofs.PrintLaws.{chunks-length, lines-few, written-length}
 use Rattle.reduce.proofs.output.reduced.Statement.{statement}
 use Rattle.reduce.proofs.output.reduced.Tie as tie

@@ -2,7 +2,7 @@
 use borrow.Author.Needs.{needs}
 use native.Mathlib.Omega.{arith}
 use Rattle.report.specs.Report.{noneLine}
-use Rattle.report.proofs.TextLaws.{_⨾_}
+use Rattle.text.proofs.TextLaws.{_⨾_}
 use Rattle.report.proofs.line.write_none.Statement.{statement}
 use Rattle.report.proofs.line.write_none.Tie as tie
 

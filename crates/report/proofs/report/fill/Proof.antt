@@ -7,8 +7,8 @@ use mathlib.Core.Path.{_≡_, refl}
 use native.Mathlib.Omega.{arith}
 use Rattle.report.proofs.ReportLaws.{line-silent}
 use Rattle.report.specs.Report.{lineAt, lineCount}
-use Rattle.report.specs.Text.{Wrote, chunk}
-use Rattle.report.proofs.TextLaws.{_⨾_, chunk-more, chunk-none, chunk-silent, wrote-length, wrote-none}
+use Rattle.text.specs.Text.{Wrote, chunk}
+use Rattle.text.proofs.TextLaws.{_⨾_, chunk-more, chunk-none, chunk-silent, wrote-length, wrote-none}
 use Rattle.report.proofs.report.fill.Statement.{statement}
 use Rattle.report.proofs.report.fill.Tie as tie
 

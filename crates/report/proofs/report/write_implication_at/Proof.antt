@@ -5,7 +5,7 @@ use borrow.Author.Tests.{eq-eqb, ne-eqb}
 use native.Mathlib.Nat.{div-le-self, mod-lt, mul-le-mul-right}
 use native.Mathlib.Omega.{arith}
 use Rattle.report.specs.Report.{byteLine, implicationAt}
-use Rattle.report.proofs.TextLaws.{wrote-none}
+use Rattle.text.proofs.TextLaws.{wrote-none}
 use Rattle.report.proofs.report.write_implication_at.Statement.{statement}
 use Rattle.report.proofs.report.write_implication_at.Tie as tie
 

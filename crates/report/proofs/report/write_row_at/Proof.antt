@@ -9,7 +9,7 @@ use native.Mathlib.Omega.{arith}
 use Rattle.model.specs.Box.{at}
 use Rattle.model.specs.Rows.{rowOf}
 use Rattle.report.specs.Report.{isZeroRow, rowAt}
-use Rattle.report.proofs.TextLaws.{wrote-none}
+use Rattle.text.proofs.TextLaws.{wrote-none}
 use Rattle.report.proofs.report.write_row_at.Statement.{statement}
 use Rattle.report.proofs.report.write_row_at.Tie as tie
 
