@@ -46,9 +46,16 @@ fn say(
             moved: moved::agrees(made, before, bounds),
         };
     }
-    let RoundsAnswer::Infeasible(_) =
-        rounds::run(n, row_count(n), bounds, coefs, rhs, kinds, table, 8)
-    else {
+    let RoundsAnswer::Infeasible(_) = rounds::run(
+        n,
+        row_count(n),
+        bounds,
+        coefs,
+        rhs,
+        kinds,
+        table,
+        8,
+    ) else {
         return Said {
             none: false,
             moved: true,
@@ -101,5 +108,15 @@ pub fn attempt(n: usize, code: usize, call: [u32; 4], marks: &[u8], lie: u32) ->
     put_model(code, bounds, coefs, rhs, kinds);
     let said = say(n, code, bounds, coefs, rhs, kinds, table, call, lie);
     spoil(lie, code, call, bounds, coefs, rhs, kinds, table);
-    said.moved && agrees(n, bounds, coefs, rhs, kinds, table, marks, said.none || lie == 5)
+    said.moved
+        && agrees(
+            n,
+            bounds,
+            coefs,
+            rhs,
+            kinds,
+            table,
+            marks,
+            said.none || lie == 5,
+        )
 }

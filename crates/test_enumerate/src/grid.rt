@@ -110,14 +110,7 @@ fn is_point(
 }
 
 // Marks the integer points of a model.
-pub fn mark(
-    n: usize,
-    bounds: &[i32],
-    coefs: &[i32],
-    rhs: &[i32],
-    kinds: &[u8],
-    marks: &mut [u8],
-) {
+pub fn mark(n: usize, bounds: &[i32], coefs: &[i32], rhs: &[i32], kinds: &[u8], marks: &mut [u8]) {
     let mut k = 0;
     while k < marks.len() {
         marks[k] = is_point(n, bounds, coefs, rhs, kinds, grid_point(k));

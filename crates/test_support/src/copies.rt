@@ -133,7 +133,14 @@ pub fn one(
     let new_table = copied_bytes(table, &mut table_room);
     label(call[0]);
     in_words::answer(made::make(
-        n, m, new_bounds, new_coefs, new_rhs, new_kinds, new_table, call,
+        n,
+        m,
+        new_bounds,
+        new_coefs,
+        new_rhs,
+        new_kinds,
+        new_table,
+        call,
     ));
     all_changes(
         bounds,

@@ -42,12 +42,12 @@ enum-told c = search needs
 returns : tie.Need-returns
 unfolding sizesAnswer
 returns c =
-    let p = c .before .before .before .before .before .before .before .before in same-number (sym (ap sizesAnswer (c .before .number .given .1)) ∙ read-nowhere (p .before .before .before .before .before .before .args .book .now) (p .read .ensures .0))
+    let p = c .before .before .before .before .before .before .before in same-number (sym (ap sizesAnswer (c .before .number .given .1)) ∙ read-nowhere (p .before .before .before .before .before .before .args .book .now) (p .read .ensures .0))
 
 returns-2 : tie.Need-returns-2
 unfolding sizesAnswer
 returns-2 c =
-    let p = c .before .before .before .before .before .before .before in
+    let p = c .before .before .before .before .before .before in
     absurd (no-sizes (sym (ap sizesAnswer (c .enum-told .given .1)) ∙ read-nowhere (p .before .before .before .before .before .before .args .book .now) (p .read .ensures .0)))
 
 pub read-fault-spec : {M : Type 1} → statement M
