@@ -17,8 +17,8 @@ use Rattle.model.specs.Checks.{Check, first, lengthChecks, must}
 use Rattle.model.proofs.CheckLaws.{fails, first-go, first-stop, first-zero-append, numbered}
 use Rattle.model.specs.Model.{modelOf}
 use Rattle.model.specs.Rows.{Rows, rowsOf}
-use Rattle.capi.specs.Exports.{bookAnswered, bookExported, lentTo, wrongLength}
-use Rattle.capi.specs.Replies.{Reply, answerLength, returned, written}
+use Rattle.replies.specs.Replies.{Reply, answerLength, returned, written, wrongLength}
+use Rattle.capi.specs.Exports.{bookAnswered, bookExported, lentTo}
 
 pub book-refused : (A : List ℕ) (before : List Check) (q : Reply) {number : ℕ} → (length A ≡ answerLength → ⊥) → number ≡ wrongLength before
     → bookExported number A ≡ bookAnswered A before q

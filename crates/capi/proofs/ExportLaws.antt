@@ -15,8 +15,8 @@ use Rattle.semantics.specs.Perform.{Answer, Performed, perform}
 use Rattle.semantics.specs.Run.{run}
 use Rattle.model.specs.State.{State}
 use Rattle.semantics.specs.Call.{callOf}
-use Rattle.capi.specs.Exports.{answered, callExport, exported, listExport, restExport, roundsExport, wrongLength}
-use Rattle.capi.specs.Replies.{Reply, answerLength, callReply, listReply, restReply, returned, roundsReply, written}
+use Rattle.replies.specs.Replies.{Reply, answerLength, callReply, listReply, restReply, returned, roundsReply, written, wrongLength}
+use Rattle.capi.specs.Exports.{answered, callExport, exported, listExport, restExport, roundsExport}
 
 -- the answer's length is wrong: refused by 3 or 5, and everything stays
 pub length-refused : (A : List ℕ) (s : State) (q : Reply) (r : State) {number : ℕ} → (length A ≡ answerLength → ⊥) → number ≡ wrongLength (sizeChecks (s .model .n) (s .model .m))

@@ -5,11 +5,11 @@ use Prim.Native.Nat.{ℕ}
 use lib.Dec.{eqb, leb}
 use lib.IntN.{ℤ}
 use lib.ListN.{length}
-use mathlib.Core.Bool.{cond, false}
-use mathlib.Core.List.{List, [], _++_, _∷_}
+use mathlib.Core.Bool.{cond}
+use mathlib.Core.List.{List, [], _∷_}
 use Rattle.book.specs.Answers.{readCall, trailerCall}
 use Rattle.book.specs.BookChecks.{headChecks}
-use Rattle.model.specs.Checks.{Check, first, must, sizeChecks}
+use Rattle.model.specs.Checks.{Check, must, sizeChecks}
 use Rattle.model.specs.Rows.{Rows}
 use Rattle.reducer.specs.OpenCalls.{rest}
 use Rattle.rounds.specs.Rounds.{runRounds}
@@ -18,11 +18,7 @@ use Rattle.semantics.specs.Perform.{perform}
 use Rattle.semantics.specs.Run.{run}
 use Rattle.model.specs.State.{State}
 use Rattle.semantics.specs.Call.{callOf}
-use Rattle.capi.specs.Replies.{Reply, answerLength, bookReply, callReply, listReply, restReply, returned, roundsReply, written}
-
--- the number that a wrong answer length is refused by: of the checks that come before 5 the first that fails, else 5
-unfoldable pub wrongLength : List Check → ℕ
-wrongLength before = first (before ++ (must false 5 ∷ []))
+use Rattle.replies.specs.Replies.{Reply, answerLength, bookReply, callReply, listReply, restReply, returned, roundsReply, written, wrongLength}
 
 -- ---- calls on a model
 

@@ -1,7 +1,7 @@
 // The calls on books.
-use crate::answers::sizes_reply;
-use crate::reply::ANSWER;
-use crate::reply::put;
+use replies::answers::sizes_reply;
+use crate::ANSWER;
+use replies::reply::put;
 use book::SizesAnswer;
 use book::reading::read;
 use book::trailer;
@@ -12,8 +12,8 @@ ghost use Rattle.book.specs.Answers.{bookWritten, boundsRead, coefsRead, kindsR
 ghost use Rattle.model.specs.Model.{modelOf};
 ghost use Rattle.model.specs.Rows.{rowsOf};
 ghost use Rattle.book.specs.BookChecks.{headChecks};
-ghost use Rattle.capi.specs.Exports.{bookExported, lentTo, readExport, trailerExport, wrongLength};
-ghost use Rattle.capi.specs.Replies.{bookReply, returned};
+ghost use Rattle.replies.specs.Replies.{bookReply, returned, wrongLength};
+ghost use Rattle.capi.specs.Exports.{bookExported, lentTo, readExport, trailerExport};
 
 // The length of a book's trailer.
 const TRAILER: usize = 16;

@@ -1,16 +1,16 @@
 // The calls on a model in memory. Every call is refused by the model's checks first, 3, 5, 6, 7, 23, 8, 9 and 16, and
 // then by those that its own comment names. Only removing a row, a list and the rounds write kinds.
-use crate::answers::probe_reply;
-use crate::answers::propagate_reply;
-use crate::answers::remove_reply;
-use crate::answers::rest_reply;
-use crate::answers::rounds_reply;
-use crate::answers::row_reply;
-use crate::answers::run_reply;
-use crate::answers::tighten_reply;
-use crate::reply::ANSWER;
-use crate::reply::answer_fault;
-use crate::reply::put;
+use replies::answers::probe_reply;
+use replies::answers::propagate_reply;
+use replies::answers::remove_reply;
+use replies::answers::rest_reply;
+use replies::answers::rounds_reply;
+use replies::answers::row_reply;
+use replies::answers::run_reply;
+use replies::answers::tighten_reply;
+use crate::ANSWER;
+use replies::reply::answer_fault;
+use replies::reply::put;
 use reducer::calls::is_probing_fixpoint;
 use reducer::calls::probe;
 use reducer::calls::propagate;

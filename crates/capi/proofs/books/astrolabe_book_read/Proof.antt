@@ -2,7 +2,7 @@
 use borrow.Author.Needs.{needs}
 use mathlib.Core.Path.{_∙_, ap}
 use Rattle.capi.specs.Exports.{readExport}
-use Rattle.capi.specs.Replies.{bookReply}
+use Rattle.replies.specs.Replies.{bookReply}
 use Rattle.capi.proofs.BookLaws.{book-refused, book-replied, lent-after, lent-stays}
 use Rattle.capi.proofs.books.astrolabe_book_read.Statement.{statement}
 use Rattle.capi.proofs.books.astrolabe_book_read.Tie as tie

@@ -4,8 +4,8 @@ use borrow.Author.Tests.{le-leb, lt-leb}
 use mathlib.Core.Bool.{false}
 use mathlib.Core.Path.{_∙_, ap, refl}
 use Rattle.model.proofs.CheckLaws.{fails, past}
-use Rattle.capi.specs.Exports.{trailerExport, wrongLength}
-use Rattle.capi.specs.Replies.{bookReply}
+use Rattle.replies.specs.Replies.{bookReply, wrongLength}
+use Rattle.capi.specs.Exports.{trailerExport}
 use Rattle.capi.proofs.BookLaws.{book-refused, book-replied}
 use Rattle.capi.proofs.books.astrolabe_book_trailer.Statement.{statement}
 use Rattle.capi.proofs.books.astrolabe_book_trailer.Tie as tie

@@ -2,7 +2,7 @@
 use borrow.Author.Needs.{needs}
 use mathlib.Core.Path.{_∙_, ap}
 use Rattle.book.specs.Answers.{Answer}
-use Rattle.capi.specs.Replies.{bookReply, returned}
+use Rattle.replies.specs.Replies.{bookReply, returned}
 use Rattle.capi.proofs.books.astrolabe_book_write.Statement.{statement}
 use Rattle.capi.proofs.books.astrolabe_book_write.Tie as tie
 

@@ -1,7 +1,7 @@
 -- `capi::books::write_number`: each case has its number. Assumes nothing.
 use borrow.Author.Needs.{needs}
 use Rattle.book.specs.Answers.{writeAnswer}
-use Rattle.capi.specs.Replies.{bookReply, returned}
+use Rattle.replies.specs.Replies.{bookReply, returned}
 use Rattle.capi.proofs.books.write_number.Statement.{statement}
 use Rattle.capi.proofs.books.write_number.Tie as tie
 

@@ -1,0 +1,59 @@
+-- `replies::answers::rounds_reply`: each case has its numbers. Assumes nothing.
+use borrow.Author.Needs.{needs}
+use Rattle.rounds.specs.Answers.{roundsAnswer}
+use Rattle.replies.specs.Replies.{replyOf, roundsCase, roundsReply}
+use Rattle.replies.proofs.answers.rounds_reply.Statement.{statement}
+use Rattle.replies.proofs.answers.rounds_reply.Tie as tie
+
+enum-known-a : tie.Need-enum-known-a
+enum-known-a c = search needs
+
+enum-known-a-2 : tie.Need-enum-known-a-2
+enum-known-a-2 c = search needs
+
+cast-t7 : tie.Need-cast-t7
+cast-t7 c = search needs
+
+enum-known-a-3 : tie.Need-enum-known-a-3
+enum-known-a-3 c = search needs
+
+cast-t8 : tie.Need-cast-t8
+cast-t8 c = search needs
+
+enum-known-a-4 : tie.Need-enum-known-a-4
+enum-known-a-4 c = search needs
+
+cast-t9 : tie.Need-cast-t9
+cast-t9 c = search needs
+
+returns : tie.Need-returns
+unfolding roundsReply roundsAnswer roundsCase replyOf
+returns c = rw (c .before .a .given .1)
+
+returns-2 : tie.Need-returns-2
+unfolding roundsReply roundsAnswer roundsCase replyOf
+returns-2 c = rw (c .before .a2 .given .1)
+
+returns-3 : tie.Need-returns-3
+unfolding roundsReply roundsAnswer roundsCase replyOf
+returns-3 c = rw (c .before .a3 .given .1)
+
+returns-4 : tie.Need-returns-4
+unfolding roundsReply roundsAnswer roundsCase replyOf
+returns-4 c = rw (c .before .a4 .given .1)
+
+pub rounds-reply-spec : {M : Type 1} → statement M
+rounds-reply-spec =
+    tie.close
+    (tie.spec
+    enum-known-a
+    enum-known-a-2
+    cast-t7
+    enum-known-a-3
+    cast-t8
+    enum-known-a-4
+    cast-t9
+    returns
+    returns-2
+    returns-3
+    returns-4)
