@@ -1,12 +1,12 @@
 // Reading a book: every check over the book's bytes, and only then the numbers into the lent buffers.
-use bytes::integers::are_in_range;
-use bytes::integers::read_integers;
 use crate::layout::ROWS;
 use crate::layout::SizesAnswer;
 use crate::layout::VARIABLES;
 use crate::layout::head_fault;
 use crate::layout::row_place;
 use crate::layout::trailer_u16;
+use bytes::integers::are_in_range;
+use bytes::integers::read_integers;
 use model::MAX_COEF;
 use model::MAX_RHS;
 use model::MAX_VARIABLES;

@@ -1,10 +1,10 @@
 // Writing a model as a book: every check over the model and the lent book, and only then the bytes.
-use bytes::write_i32;
-use bytes::integers::write_integers;
 use crate::layout::TRAILER;
 use crate::layout::book_length;
 use crate::layout::row_place;
 use crate::layout::write_trailer;
+use bytes::integers::write_integers;
+use bytes::write_i32;
 use model::model_fault;
 use model::size_fault;
 ghost use mathlib.Core.List.{[]};

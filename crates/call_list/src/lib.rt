@@ -1,9 +1,9 @@
 // A call list as records (01's run sheet): the calls that `flat_list` reads from flat numbers, one struct each.
 // No function over a slice of structs is covered, so reading a record and the loop over them are proved by hand; all
 // else is in covered functions.
-use flat_list::RunAnswer;
 use call::Call;
 use call::count;
+use flat_list::RunAnswer;
 use step::run_record;
 ghost use mathlib.Core.List.{[]};
 ghost use mathlib.Core.Path.{_≡_};

@@ -1,12 +1,12 @@
 // The calls on books.
-use replies::answers::sizes_reply;
 use crate::ANSWER;
-use replies::reply::put;
 use book::SizesAnswer;
 use book::reading::read;
 use book::trailer;
 use book::writing::WriteAnswer;
 use book::writing::write;
+use replies::answers::sizes_reply;
+use replies::reply::put;
 ghost use mathlib.Core.Path.{_≡_};
 ghost use Rattle.book.specs.Answers.{bookWritten, boundsRead, coefsRead, kindsRead, rhsRead, writeAnswer, writeCall};
 ghost use Rattle.model.specs.Model.{modelOf};

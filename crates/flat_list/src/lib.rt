@@ -1,7 +1,7 @@
 // Call lists (01's run sheet): many calls on one model. The model and the table are checked once, before the first
 // record; each call leaves them valid, so only a record's own checks are made after that.
-use call::Counts;
 use call::Call;
+use call::Counts;
 use call::count;
 use step::run_record;
 ghost use mathlib.Core.Path.{_≡_};

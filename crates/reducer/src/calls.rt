@@ -6,6 +6,11 @@
 // 6, 7, 23, 8 and 9 (`model_fault`), and then by those that its own comment names.
 use crate::checks::call_fault;
 use crate::checks::probe_fault;
+use call::Call;
+use call::PROPAGATE;
+use call::PROPAGATE_ROW;
+use call::REMOVE_ROW;
+use call::TIGHTEN_COEFFICIENT;
 use probing::sides::Probing;
 use probing::sides::Side;
 use propagation::Propagation;
@@ -15,11 +20,6 @@ use row_change::tightening::CoefficientTightening;
 use row_view::changes::remove_redundant_row_at;
 use row_view::changes::tighten_coefficient_at;
 use row_view::propagate_row_at;
-use call::Call;
-use call::PROPAGATE;
-use call::PROPAGATE_ROW;
-use call::REMOVE_ROW;
-use call::TIGHTEN_COEFFICIENT;
 ghost use mathlib.Core.List.{[]};
 ghost use mathlib.Core.Logic.{_↔_};
 ghost use mathlib.Core.Path.{_≡_};

@@ -1,13 +1,13 @@
 // The reply to each answer of the open calls.
 use crate::reply::Reply;
 use book::SizesAnswer;
+use flat_list::RunAnswer;
 use reducer::calls::ProbeAnswer;
 use reducer::calls::PropagateAnswer;
 use reducer::calls::PropagateRowAnswer;
 use reducer::calls::RemoveAnswer;
 use reducer::calls::RestAnswer;
 use reducer::calls::TightenAnswer;
-use flat_list::RunAnswer;
 use rounds::RoundsAnswer;
 ghost use mathlib.Core.Path.{_≡_};
 ghost use Rattle.book.specs.Answers.{sizesAnswer};

@@ -4,6 +4,7 @@ use crate::print::count;
 use crate::print::text;
 use book::SizesAnswer;
 use book::writing::WriteAnswer;
+use flat_list::RunAnswer;
 use reducer::Side;
 use reducer::calls::ProbeAnswer;
 use reducer::calls::PropagateAnswer;
@@ -11,7 +12,6 @@ use reducer::calls::PropagateRowAnswer;
 use reducer::calls::RemoveAnswer;
 use reducer::calls::RestAnswer;
 use reducer::calls::TightenAnswer;
-use flat_list::RunAnswer;
 
 // A number behind a word.
 fn item(word: &[u8], number: u32) {

@@ -6,9 +6,9 @@ use crate::print::line;
 use crate::print::text;
 use crate::words::fill_naturals;
 use crate::words::number;
+use call::Call;
 use call_list::run_four;
 use reducer::calls::RestAnswer;
-use call::Call;
 
 // Runs a list of numbers, four a record.
 pub fn execute(
