@@ -18,8 +18,8 @@ use Rattle.semantics.proofs.ProbeLaws.{fix-inside, probe-narrower}
 use Rattle.row_marks.specs.Index.{ColumnSigns, Index}
 use Rattle.row_marks.specs.Marks.{Unread, Watched}
 use Rattle.row_marks.proofs.MarkLaws.{clean-narrower, clean-remarked, unread-at}
-use Rattle.row_marks.proofs.LocalBox.{blank}
-use Rattle.row_marks.proofs.LocalIndex.{clean-none, index-none}
+use Rattle.marked_row.proofs.LocalBox.{blank}
+use Rattle.marked_row.proofs.LocalIndex.{clean-none, index-none}
 use Rattle.row.proofs.KindLaws.{kinded-stays}
 use Rattle.semantics.specs.RestTest.{isFixpoint}
 use Rattle.semantics.proofs.Convergence.{fixpoint-test}

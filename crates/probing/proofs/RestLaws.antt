@@ -15,7 +15,7 @@ use Rattle.model.proofs.BoxLaws.{box-ext, length-boxOf, lower-boxOf, sameList-r
 use Rattle.row.specs.Outcome.{isUnchanged}
 use Rattle.row.specs.Kinds.{propagateRowOf, rowMovesOf}
 use Rattle.row.proofs.KindLaws.{kinded-stays}
-use Rattle.row_marks.proofs.MarkLaws.{moves-none}
+use Rattle.marked_row.proofs.MarkedRowLaws.{moves-none}
 use Rattle.semantics.specs.Probe.{hull}
 use Rattle.semantics.specs.Propagate.{Propagated, isNone}
 use Rattle.propagation.specs.Results.{propagationOf}

@@ -1,5 +1,6 @@
 // Probe a free binary variable (01's probe): propagate with it at 0 and at 1, and keep what both sides say.
 use crate::implications::record_implications;
+use marked_row::clean::find_clean;
 use model::MAX_BOX;
 use model::MAX_MATRIX;
 use model::MAX_ROWS;
@@ -7,7 +8,6 @@ use model::boxes::copy_box;
 use model::boxes::hull;
 use propagation::Propagation;
 use propagation::propagate_marked;
-use row_marks::clean::find_clean;
 use row_marks::marks::copy_marks;
 use row_marks::marks::remark_all;
 use row_marks::marks::remark_at;

@@ -2,13 +2,13 @@
 // budget is spent or a row is infeasible. Each row is read in place through its view. What is known of the rows from
 // earlier visits is kept beside the box while a call runs: their index and which of them are clean
 // (crate `row_marks`).
+use marked_row::propagate_row_marked;
 use model::MAX_BOX;
 use model::MAX_MATRIX;
 use model::MAX_ROWS;
 use model::boxes::copy_box;
 use row::propagation::RowPropagation;
 use row_marks::marks::next_row;
-use row_marks::marks::propagate_row_marked;
 ghost use mathlib.Core.Path.{_≡_};
 ghost use Rattle.model.specs.Valid.{ValidModel};
 ghost use Rattle.model.specs.Rows.{rowsOf};

@@ -1,4 +1,2 @@
 pub mod IndexLoops
 pub mod MarkLaws
-pub mod LocalBox
-pub mod LocalIndex

@@ -30,7 +30,7 @@ use Rattle.semantics.proofs.ClassLaws.{addsNone, classBy, probe-class, remove-c
 use Rattle.call.proofs.KindLaws.{kind-other}
 use Rattle.call.specs.Classes.{outcomeClass, propagationClass}
 use Rattle.propagation.specs.Results.{propagationOf}
-use Rattle.row_marks.proofs.MarkLaws.{left-by}
+use Rattle.marked_row.proofs.MarkedRowLaws.{left-by}
 use Rattle.propagation.specs.declared.Propagation.{Propagation}
 use Rattle.propagation.specs.declared.Propagation.the-variants.{Infeasible, Converged, BudgetSpent}
 

@@ -4,8 +4,8 @@ use lib.IntN.{ℤ}
 use lib.ListN.{drop, length, take}
 use mathlib.Core.List.{List, _++_}
 use mathlib.Core.Path.{_∙_, _≡_, ap, sym}
-use Rattle.row_marks.proofs.LocalBox.{blank, box-room, held, held-fits, held-length}
-use Rattle.row_marks.proofs.LocalIndex.{watched-none}
+use Rattle.marked_row.proofs.LocalBox.{blank, box-room, held, held-fits, held-length}
+use Rattle.marked_row.proofs.LocalIndex.{watched-none}
 use Rattle.propagation.proofs.propagate.Statement.{statement}
 use Rattle.propagation.proofs.propagate.Tie as tie
 

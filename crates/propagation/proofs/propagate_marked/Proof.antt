@@ -26,7 +26,7 @@ use Rattle.propagation.specs.declared.Propagation.the-variants as code
 use Rattle.propagation.proofs.PropagationLoops.{PassIs, budget-spent, pass-begins, pass-converged, pass-infeasible, pass-moved, pass-over, pass-width, row-feasible, row-infeasible, sum-fits}
 use Rattle.row.proofs.ImpliedBoxLaws.{valid-nonEmpty}
 use Rattle.row_marks.specs.Marks.{Watched}
-use Rattle.row_marks.proofs.MarkLaws.{Ready, left-by, model-at, ready, ready-trans, ready-visit, tightened, unmoved}
+use Rattle.marked_row.proofs.MarkedRowLaws.{Ready, left-by, model-at, ready, ready-trans, ready-visit, tightened, unmoved}
 use Rattle.propagation.proofs.propagate_marked.Statement.{statement}
 use Rattle.propagation.proofs.propagate_marked.Tie as tie
 

@@ -20,7 +20,7 @@ use Rattle.call.specs.Classes.{classIs}
 use Rattle.probing.specs.Results.{probingOf}
 use Rattle.probing.specs.declared.sides.Probing.{Probing}
 use Rattle.step.proofs.StepLaws.{Ran, ran-probe}
-use Rattle.row_marks.proofs.LocalBox.{box-room, box-small, held, held-fits, held-length}
+use Rattle.marked_row.proofs.LocalBox.{box-room, box-small, held, held-fits, held-length}
 use Rattle.step.proofs.run_probe_marked.Statement.{statement}
 use Rattle.step.proofs.run_probe_marked.Tie as tie
 

@@ -14,7 +14,7 @@ use Rattle.semantics.specs.Probe.{fix, hull}
 use Rattle.semantics.specs.Propagate.{Propagated, isNone, propagate}
 use Rattle.semantics.specs.RestTest.{sidesSpan}
 use Rattle.propagation.specs.Results.{propagationOf}
-use Rattle.row_marks.proofs.LocalBox.{blank, box-room, held, held-fits, held-length}
+use Rattle.marked_row.proofs.LocalBox.{blank, box-room, held, held-fits, held-length}
 use Rattle.probing.proofs.RestLaws.{answered}
 use Rattle.probing.proofs.rest.sides_span.Statement.{statement}
 use Rattle.probing.proofs.rest.sides_span.Tie as tie

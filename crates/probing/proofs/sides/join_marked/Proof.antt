@@ -5,7 +5,7 @@ use lib.ListN.{drop, length, take}
 use mathlib.Core.List.{List, _++_}
 use mathlib.Core.Path.{_∙_, _≡_, ap, sym}
 use native.Mathlib.Omega.{arith}
-use Rattle.row_marks.proofs.LocalBox.{blank, held, held-fits, held-length}
+use Rattle.marked_row.proofs.LocalBox.{blank, held, held-fits, held-length}
 use Rattle.probing.proofs.MarkedLaws.{front-room, marks-from}
 use Rattle.probing.proofs.sides.join_marked.Statement.{statement}
 use Rattle.probing.proofs.sides.join_marked.Tie as tie

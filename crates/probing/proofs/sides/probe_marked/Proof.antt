@@ -18,7 +18,7 @@ use Rattle.semantics.specs.Probe.{fix, probe}
 use Rattle.semantics.specs.Propagate.{propagate}
 use Rattle.row_marks.specs.Index.{Index}
 use Rattle.propagation.specs.Results.{propagationOf}
-use Rattle.row_marks.proofs.LocalBox.{blank, box-room}
+use Rattle.marked_row.proofs.LocalBox.{blank, box-room}
 use Rattle.probing.specs.Marked.{Marked}
 use Rattle.probing.specs.Results.{probingOf, reportOf}
 use Rattle.probing.proofs.sides.probe_marked.Statement.{statement}

@@ -14,7 +14,7 @@ use Rattle.model.specs.Box.{withBounds}
 use Rattle.model.specs.Rows.{rowsOf}
 use Rattle.semantics.specs.Probe.{fix}
 use Rattle.semantics.specs.Propagate.{propagate}
-use Rattle.row_marks.proofs.LocalBox.{blank, box-room}
+use Rattle.marked_row.proofs.LocalBox.{blank, box-room}
 use Rattle.probing.proofs.MarkedLaws.{side-ready}
 use Rattle.probing.proofs.ProbingLoops.{fix-stores}
 use Rattle.probing.proofs.sides.try_side.Statement.{statement}

@@ -1,13 +1,13 @@
--- `row_marks::clean::find_clean`: the marks stay those of the box, row by row. Assumes nothing.
+-- `marked_row::clean::find_clean`: the marks stay those of the box, row by row. Assumes nothing.
 use Prim.Native.Nat.{_-_, _≤_}
 use lib.ListN.{length}
 use mathlib.Core.Path.{_∙_, _≡_, refl}
 use native.Mathlib.Omega.{arith}
 use Rattle.model.specs.Rows.{rowsOf}
 use Rattle.row_marks.specs.Index.{RowSteps}
 use Rattle.row_marks.specs.Marks.{Clean}
-use Rattle.row_marks.proofs.clean.find_clean.Statement.{statement}
-use Rattle.row_marks.proofs.clean.find_clean.Tie as tie
+use Rattle.marked_row.proofs.clean.find_clean.Statement.{statement}
+use Rattle.marked_row.proofs.clean.find_clean.Tie as tie
 
 abbrev Inv-loop : tie.InvT-loop
 Inv-loop n m bounds coefs rhs kinds across₀ marks₀ r₀ across marks r =

@@ -1,9 +1,9 @@
--- `row_marks::clean::test_row`: both tests are of the whole row. Assumes nothing.
+-- `marked_row::clean::test_row`: both tests are of the whole row. Assumes nothing.
 use borrow.Author.Needs.{needs}
 use Rattle.row_marks.proofs.IndexLoops.{row-end}
-use Rattle.row_marks.proofs.MarkLaws.{steps-in}
-use Rattle.row_marks.proofs.clean.test_row.Statement.{statement}
-use Rattle.row_marks.proofs.clean.test_row.Tie as tie
+use Rattle.marked_row.proofs.MarkedRowLaws.{steps-in}
+use Rattle.marked_row.proofs.clean.test_row.Statement.{statement}
+use Rattle.marked_row.proofs.clean.test_row.Tie as tie
 
 row-moves-at-requires : tie.Need-row-moves-at-requires
 row-moves-at-requires c κs = search needs

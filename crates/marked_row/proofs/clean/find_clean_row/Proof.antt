@@ -1,12 +1,12 @@
--- `row_marks::clean::find_clean_row`: a row that moves nothing is clean. Assumes nothing.
+-- `marked_row::clean::find_clean_row`: a row that moves nothing is clean. Assumes nothing.
 use borrow.Author.Needs.{needs}
 use mathlib.Core.Path.{_∙_, sym}
 use native.Mathlib.Omega.{arith}
 use Rattle.model.specs.Rows.{rowAt, rowsOf}
 use Rattle.row_view.proofs.RowInLaws.{row-in, valid-row}
-use Rattle.row_marks.proofs.MarkLaws.{clean-set, moves-none}
-use Rattle.row_marks.proofs.clean.find_clean_row.Statement.{statement}
-use Rattle.row_marks.proofs.clean.find_clean_row.Tie as tie
+use Rattle.marked_row.proofs.MarkedRowLaws.{clean-set, moves-none}
+use Rattle.marked_row.proofs.clean.find_clean_row.Statement.{statement}
+use Rattle.marked_row.proofs.clean.find_clean_row.Tie as tie
 
 slice-read-mark : tie.Need-slice-read-mark
 slice-read-mark c = let s = c .before .before .before .before in omega (arith, s .pre .0 .room, s .pre .1)

@@ -1,8 +1,8 @@
--- `row_marks::marks::propagate_row_marked` is propagateRowOf: read whole or by its steps. Assumes nothing.
+-- `marked_row::propagate_row_marked` is propagateRowOf: read whole or by its steps. Assumes nothing.
 use borrow.Author.Needs.{needs}
 use native.Mathlib.Omega.{arith}
-use Rattle.row_marks.proofs.marks.propagate_row_marked.Statement.{statement}
-use Rattle.row_marks.proofs.marks.propagate_row_marked.Tie as tie
+use Rattle.marked_row.proofs.propagate_row_marked.Statement.{statement}
+use Rattle.marked_row.proofs.propagate_row_marked.Tie as tie
 
 slice-read-if1 : tie.Need-slice-read-if1
 slice-read-if1 c = let s = c .before .before .before .before .before in omega (arith, s .pre .0 .room, s .pre .1)

@@ -1,0 +1,3 @@
+pub mod MarkedRowLaws
+pub mod LocalBox
+pub mod LocalIndex
