@@ -5,7 +5,7 @@ use crate::PROPAGATE;
 use crate::PROPAGATE_ROW;
 use crate::REMOVE_ROW;
 use crate::TIGHTEN_COEFFICIENT;
-use model::boxes::is_free;
+use boxes::is_free;
 use propagation::MAX_BUDGET;
 ghost use mathlib.Core.List.{[]};
 ghost use mathlib.Core.Path.{_≡_};
@@ -38,7 +38,7 @@ fn variable_fault(n: usize, bounds: &[i32], variable: u32) -> u32
     if n <= k {
         return 13;
     }
-    if model::is_empty(bounds) {
+    if boxes::is_empty(bounds) {
         return 0;
     }
     if !is_free(bounds, k) {

@@ -3,10 +3,6 @@
 // checks write nothing and require nothing: each answers for every n, m and buffer length. `in_range`, `is_ordered`,
 // `is_narrow` and `is_bits` go to the buffer's end and keep a flag: a loop without a branch for each number is compiled
 // to take 4 to 16 numbers at a time.
-pub mod boxes;
-
-pub use crate::boxes::is_empty;
-pub use crate::boxes::make_empty;
 ghost use mathlib.Core.Bool.{true};
 ghost use mathlib.Core.Path.{_≡_};
 ghost use Prim.Native.Nat.{_*_};

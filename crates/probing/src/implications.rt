@@ -1,5 +1,5 @@
 // The implication table: what the two sides of a probe say of the other free binary variables.
-use model::boxes::is_free;
+use boxes::is_free;
 ghost use mathlib.Core.Path.{_≡_};
 ghost use Prim.Native.Nat.{_+_, _*_, _<_};
 ghost use lib.ListN.{length};

@@ -4,4 +4,4 @@ mod implications;
 pub mod rest;
 pub mod sides;
 
-pub use model::boxes::is_free;
+pub use boxes::is_free;

@@ -1,11 +1,11 @@
 // The probing fixpoint (01's rest): a box that no row and no probe carried to its end would change.
 use crate::sides::try_side;
+use boxes::greater;
+use boxes::is_free;
+use boxes::lesser;
 use model::MAX_BOX;
 use model::MAX_MATRIX;
 use model::MAX_ROWS;
-use model::boxes::greater;
-use model::boxes::is_free;
-use model::boxes::lesser;
 use propagation::MAX_BUDGET;
 use propagation::Propagation;
 use row_view::row_moves_at;
@@ -251,7 +251,7 @@ pub fn is_probing_fixpoint(
         let A = rowsOf (now (coefs .entry)) (now (rhs .entry)) (now (kinds .entry)) in
         ⌜ r ≡ isProbingFixpoint n m A (now (bounds .entry)) ⌝ }
 {
-    if model::is_empty(bounds) {
+    if boxes::is_empty(bounds) {
         return true;
     }
     if !is_fixpoint(n, m, bounds, coefs, rhs, kinds) {

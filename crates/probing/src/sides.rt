@@ -1,11 +1,11 @@
 // Probe a free binary variable (01's probe): propagate with it at 0 and at 1, and keep what both sides say.
 use crate::implications::record_implications;
+use boxes::copy_box;
+use boxes::hull;
 use marked_row::clean::find_clean;
 use model::MAX_BOX;
 use model::MAX_MATRIX;
 use model::MAX_ROWS;
-use model::boxes::copy_box;
-use model::boxes::hull;
 use propagation::Propagation;
 use propagation::propagate_marked;
 use row_marks::marks::copy_marks;
@@ -173,7 +173,7 @@ fn survivor<'a>(zero: &'a [i32], one: &'a [i32], len: usize) -> &'a [i32]
         ≡ cond (isEmpty n (take len (now (zero .entry)))) (take len (now (one .entry)))
         (take len (now (zero .entry)))) ⌝ }
 {
-    if model::is_empty(&zero[..len]) {
+    if boxes::is_empty(&zero[..len]) {
         return &one[..len];
     }
     &zero[..len]
@@ -213,7 +213,7 @@ fn join<'a>(
         copy_box(survivor(zero, one, len), bounds);
         return Probing::Fixed(1, side0, side1);
     };
-    model::make_empty(bounds);
+    boxes::make_empty(bounds);
     Probing::Infeasible(side0, side1)
 }
 
@@ -366,7 +366,7 @@ pub fn probe_marked(
         ⌜ Marked n m (now (bounds .exit)) A (now (across .exit))
         (now (signs .exit)) (now (marks .exit)) ⌝ }
 {
-    if model::is_empty(bounds) {
+    if boxes::is_empty(bounds) {
         return Probing::Infeasible(untried(), untried());
     }
     find_clean(n, m, bounds, coefs, rhs, kinds, across, marks);

@@ -2,11 +2,11 @@
 // budget is spent or a row is infeasible. Each row is read in place through its view. What is known of the rows from
 // earlier visits is kept beside the box while a call runs: their index and which of them are clean
 // (crate `row_marks`).
+use boxes::copy_box;
 use marked_row::propagate_row_marked;
 use model::MAX_BOX;
 use model::MAX_MATRIX;
 use model::MAX_ROWS;
-use model::boxes::copy_box;
 use row::propagation::RowPropagation;
 use row_marks::marks::next_row;
 ghost use mathlib.Core.Path.{_≡_};
@@ -74,7 +74,7 @@ pub fn propagate_marked(
         ⌜ Watched n m A (now (bounds .exit)) (now (across .exit))
         (now (signs .exit)) (now (seen .exit)) (now (marks .exit)) ⌝ }
 {
-    if model::is_empty(bounds) {
+    if boxes::is_empty(bounds) {
         return Propagation::Infeasible(1, 0);
     }
     let mut passes: u32 = 0;

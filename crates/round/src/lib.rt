@@ -62,7 +62,7 @@ fn remove_rows(
         let s = stateOf n m (now (bounds .entry)) A (now (table .entry)) in
         ⌜ r ≡ anyChange s (removals s) ⌝ }
 {
-    if model::is_empty(bounds) {
+    if boxes::is_empty(bounds) {
         return false;
     }
     let mut changed = false;

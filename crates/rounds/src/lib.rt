@@ -54,7 +54,7 @@ pub fn run(
     while made < limit {
         made += 1;
         let changed = round(n, m, bounds, coefs, rhs, kinds, table);
-        if model::is_empty(bounds) {
+        if boxes::is_empty(bounds) {
             return RoundsAnswer::Infeasible(made);
         }
         if !changed {

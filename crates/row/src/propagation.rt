@@ -119,7 +119,7 @@ fn form_moves(coefs: &[i32], sign: i32, b: i32, bounds: &[i32]) -> bool
         let A = now (coefs .entry) in
         ⌜ r ≡ rowMoves (length A) (signed sign A) b (now (bounds .entry)) ⌝ }
 {
-    if model::is_empty(bounds) {
+    if boxes::is_empty(bounds) {
         return true;
     }
     let r = reach_of(coefs, sign, bounds);
@@ -152,7 +152,7 @@ fn propagate_form(coefs: &[i32], sign: i32, b: i32, bounds: &mut [i32]) -> RowPr
         let A = now (coefs .entry) in
         ⌜ propagatedRowOf r (now (bounds .exit)) ≡ propagateRow (length A) (signed sign A) b (now (bounds .entry)) ⌝ }
 {
-    if model::is_empty(bounds) {
+    if boxes::is_empty(bounds) {
         return RowPropagation::Infeasible;
     }
     let rhs = b as i64;
@@ -162,7 +162,7 @@ fn propagate_form(coefs: &[i32], sign: i32, b: i32, bounds: &mut [i32]) -> RowPr
         return RowPropagation::Unchanged;
     }
     if rhs < least {
-        model::make_empty(bounds);
+        boxes::make_empty(bounds);
         return RowPropagation::Infeasible;
     }
     RowPropagation::Tightened(tighten_bounds(coefs, sign, rhs, least, bounds))

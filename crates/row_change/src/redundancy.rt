@@ -102,7 +102,7 @@ pub fn remove_redundant_row(
         let q' = rowWith (now (coefs .exit)) (now (b .exit)) (now (kind .exit)) in
         ⌜ q' ≡ removeRowOf (length A) q (now (bounds .entry)) .row ⌝ }
 {
-    if model::is_empty(bounds) {
+    if boxes::is_empty(bounds) {
         return RowRemoval::Infeasible;
     }
     if *kind == 1 {

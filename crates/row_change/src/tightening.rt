@@ -58,7 +58,7 @@ pub fn tighten_coefficient(
         let q = rowWith A (now (b .entry)) kind in
         ⌜ rowWith (now (coefs .exit)) (now (b .exit)) kind ≡ tightenRowOf (length A) q (now (bounds .entry)) k .row ⌝ }
 {
-    if model::is_empty(bounds) {
+    if boxes::is_empty(bounds) {
         return CoefficientTightening::Infeasible;
     }
     if kind == 1 {

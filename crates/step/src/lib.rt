@@ -1,5 +1,7 @@
 // One call of a list: its own checks, then what its kind asks for, on a model that passed its checks. Each call
 // leaves the model valid, so a list or a round of calls checks the model once.
+use boxes::copy_box;
+use boxes::same_box;
 use call::Call;
 use call::CallClass;
 use call::PROBE;
@@ -13,8 +15,6 @@ use call::class_of_row;
 use call::class_of_tightening;
 use model::MAX_ROWS;
 use model::MAX_VARIABLES;
-use model::boxes::copy_box;
-use model::boxes::same_box;
 use probing::sides::Probing;
 use probing::sides::probe_marked;
 use propagation::propagate;

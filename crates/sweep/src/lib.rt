@@ -52,7 +52,7 @@ fn form_moves_by(coefs: &[i32], steps: &[u8], sign: i32, b: i32, bounds: &[i32])
         let A = now (coefs .entry) in
         ⌜ r ≡ rowMoves (length A) (signed sign A) b (now (bounds .entry)) ⌝ }
 {
-    if model::is_empty(bounds) {
+    if boxes::is_empty(bounds) {
         return true;
     }
     let r = reach_by(coefs, steps, sign, bounds);
@@ -122,7 +122,7 @@ fn propagate_form_by(
         let A = now (coefs .entry) in
         ⌜ propagatedRowOf r (now (bounds .exit)) ≡ propagateRow (length A) (signed sign A) b (now (bounds .entry)) ⌝ }
 {
-    if model::is_empty(bounds) {
+    if boxes::is_empty(bounds) {
         return RowPropagation::Infeasible;
     }
     let rhs = b as i64;
@@ -132,7 +132,7 @@ fn propagate_form_by(
         return RowPropagation::Unchanged;
     }
     if rhs < least {
-        model::make_empty(bounds);
+        boxes::make_empty(bounds);
         return RowPropagation::Infeasible;
     }
     RowPropagation::Tightened(tighten_bounds_by(coefs, steps, sign, rhs, least, bounds))

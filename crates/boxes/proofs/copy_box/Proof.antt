@@ -1,4 +1,4 @@
--- `model::boxes::copy_box`: the invariant says that the numbers so far are the same, and lists of one length with the same numbers
+-- `boxes::copy_box`: the invariant says that the numbers so far are the same, and lists of one length with the same numbers
 -- are the same (`ext-getD`). Assumes nothing.
 use Prim.Native.Nat.{_-_, _<_, _≤_, ℕ}
 use borrow.Author.Count.{below-more, below-none}
@@ -10,9 +10,9 @@ use mir.Facts.{toZ-ofZ}
 use mir.Syntax.{w32}
 use mir.Val.{SFits}
 use native.Mathlib.Omega.{arith}
 use Rattle.model.specs.Box.{at}
-use Rattle.model.proofs.boxes.copy_box.Statement.{statement}
-use Rattle.model.proofs.boxes.copy_box.Tie as tie
+use Rattle.boxes.proofs.copy_box.Statement.{statement}
+use Rattle.boxes.proofs.copy_box.Tie as tie
 
 abbrev Inv-loop : tie.InvT-loop
 Inv-loop from to₀ i₀ to i = (i ≤ length from) × (length to ≡ length from) × ((q : ℕ) → q < i → at to q ≡ at from q)

@@ -1,13 +1,13 @@
--- `model::boxes::make_empty`: the loop writes l = 1 and u = 0 of one variable after the other (`writeTo`). Assumes nothing.
+-- `boxes::make_empty`: the loop writes l = 1 and u = 0 of one variable after the other (`writeTo`). Assumes nothing.
 use mathlib.Core.Path.{_≡_, _∙_, sym, refl}
 use Prim.Native.Nat.{_/_, _-_, _≤_}
 use lib.IntN.{pos}
 use lib.ListN.{length, length-set}
 use Rattle.model.proofs.BoxLoops.{writeTo, writeTo-all, writeTo-more}
 use Rattle.model.specs.Box.{emptyBox, withBounds}
 use native.Mathlib.Omega.{arith}
-use Rattle.model.proofs.boxes.make_empty.Statement.{statement}
-use Rattle.model.proofs.boxes.make_empty.Tie as tie
+use Rattle.boxes.proofs.make_empty.Statement.{statement}
+use Rattle.boxes.proofs.make_empty.Tie as tie
 
 abbrev Inv-loop : tie.InvT-loop
 Inv-loop bounds₀ half j₀ bounds j = (j ≤ length bounds₀ / 2) × (length bounds ≡ length bounds₀) × (bounds ≡ writeTo j (λ _. pos 1) (λ _. pos 0) bounds₀)

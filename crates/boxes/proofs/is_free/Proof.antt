@@ -1,14 +1,14 @@
--- `model::boxes::is_free` is isFree: a test of the bits of two bounds is the test of the bounds. Assumes nothing.
+-- `boxes::is_free` is isFree: a test of the bits of two bounds is the test of the bounds. Assumes nothing.
 use borrow.Author.Needs.{needs}
 use lib.IntN.{pos}
 use mathlib.Core.Path.{refl}
 use mir.Facts.{sfits-lit}
 use mir.Syntax.{w32}
 use mir.Val.{SFits}
 use Rattle.model.specs.Box.{isFree, lower, upper}
 use Rattle.model.proofs.BitTests.{eq-bits, other-bits, same-bits}
-use Rattle.model.proofs.boxes.is_free.Statement.{statement}
-use Rattle.model.proofs.boxes.is_free.Tie as tie
+use Rattle.boxes.proofs.is_free.Statement.{statement}
+use Rattle.boxes.proofs.is_free.Tie as tie
 
 mul-if1 : tie.Need-mul-if1
 mul-if1 c = search needs

@@ -1,4 +1,4 @@
--- `model::boxes::same_box`: the loop passes the numbers that are equal, and two lists of one length are equal by their numbers.
+-- `boxes::same_box`: the loop passes the numbers that are equal, and two lists of one length are equal by their numbers.
 -- Assumes nothing.
 use Prim.Native.Nat.{_-_, _<_, _≤_, ℕ}
 use borrow.Author.Count.{below-more, below-none}
@@ -9,10 +9,10 @@ use mir.Val.{ofZ}
 use native.Mathlib.Omega.{arith}
 use Rattle.integer.proofs.Reading.{eq-read}
 use Rattle.integer.proofs.Tests.{test-false, test-true}
 use Rattle.model.specs.Box.{at}
 use Rattle.model.proofs.BoxLaws.{same-numbers}
-use Rattle.model.proofs.boxes.same_box.Statement.{statement}
-use Rattle.model.proofs.boxes.same_box.Tie as tie
+use Rattle.boxes.proofs.same_box.Statement.{statement}
+use Rattle.boxes.proofs.same_box.Tie as tie
 
 abbrev Inv-loop : tie.InvT-loop
 Inv-loop xs ys i₀ i = (i ≤ length xs) × ((k : ℕ) → k < i → at xs k ≡ at ys k)

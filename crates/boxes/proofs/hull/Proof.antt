@@ -1,4 +1,4 @@
--- `model::boxes::hull`: the loop writes the lesser of the lower and the greater of the upper bounds of one variable after the
+-- `boxes::hull`: the loop writes the lesser of the lower and the greater of the upper bounds of one variable after the
 -- other (`writeTo`). Assumes nothing.
 use Prim.Native.Nat.{_-_, _/_, _≤_, ℕ}
 use lib.IntN.{ℤ}
@@ -11,10 +11,10 @@ use mir.Val.{SFits}
 use native.Mathlib.Omega.{arith}
 use Rattle.integer.specs.Order.{maxZ, minZ}
 use Rattle.integer.proofs.Reading.{read}
 use Rattle.model.specs.Box.{hull, lower, upper, withBounds}
 use Rattle.model.proofs.BoxLoops.{writeTo, writeTo-all, writeTo-more}
-use Rattle.model.proofs.boxes.hull.Statement.{statement}
-use Rattle.model.proofs.boxes.hull.Tie as tie
+use Rattle.boxes.proofs.hull.Statement.{statement}
+use Rattle.boxes.proofs.hull.Tie as tie
 
 abbrev lows : List ℤ → List ℤ → ℕ → ℤ
 lows P Q j = minZ (lower P j) (lower Q j)

@@ -1,4 +1,4 @@
--- `model::boxes::is_empty`: only the empty box has its first lower bound above the upper (`empty-first`). Assumes nothing.
+-- `boxes::is_empty`: only the empty box has its first lower bound above the upper (`empty-first`). Assumes nothing.
 use mathlib.Core.Path.{sym}
 use borrow.Author.Needs.{needs}
 use lib.IntN.{pos}
@@ -6,9 +6,9 @@ use lib.ListN.{getD}
 use mir.Facts.{toZ-ofZ}
 use mir.Syntax.{w32}
 use mir.Val.{SFits}
 use Rattle.model.proofs.BoxLaws.{empty-first}
-use Rattle.model.proofs.boxes.is_empty.Statement.{statement}
-use Rattle.model.proofs.boxes.is_empty.Tie as tie
+use Rattle.boxes.proofs.is_empty.Statement.{statement}
+use Rattle.boxes.proofs.is_empty.Tie as tie
 
 shared-slice-copy-out-result : tie.Need-shared-slice-copy-out-result
 shared-slice-copy-out-result c = search needs

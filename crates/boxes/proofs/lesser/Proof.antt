@@ -1,10 +1,10 @@
--- `model::boxes::lesser` is minZ: its test is the definition's. Assumes nothing.
+-- `boxes::lesser` is minZ: its test is the definition's. Assumes nothing.
 use mir.Facts.{toZ-ofZ}
 use mir.Syntax.{w32}
 use Rattle.integer.specs.Order.{minZ}
 use Rattle.model.proofs.BitTests.{le-bits}
-use Rattle.model.proofs.boxes.lesser.Statement.{statement}
-use Rattle.model.proofs.boxes.lesser.Tie as tie
+use Rattle.boxes.proofs.lesser.Statement.{statement}
+use Rattle.boxes.proofs.lesser.Tie as tie
 
 returns : tie.Need-returns
 unfolding minZ

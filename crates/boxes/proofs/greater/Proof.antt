@@ -1,10 +1,10 @@
--- `model::boxes::greater` is maxZ: its test is the definition's. Assumes nothing.
+-- `boxes::greater` is maxZ: its test is the definition's. Assumes nothing.
 use mir.Facts.{toZ-ofZ}
 use mir.Syntax.{w32}
 use Rattle.integer.specs.Order.{maxZ}
 use Rattle.model.proofs.BitTests.{le-bits}
-use Rattle.model.proofs.boxes.greater.Statement.{statement}
-use Rattle.model.proofs.boxes.greater.Tie as tie
+use Rattle.boxes.proofs.greater.Statement.{statement}
+use Rattle.boxes.proofs.greater.Tie as tie
 
 returns : tie.Need-returns
 unfolding maxZ
