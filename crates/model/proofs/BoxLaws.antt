@@ -14,7 +14,7 @@ use native.Mathlib.Omega.{arith}
 use Rattle.integer.specs.Order.{eqZ, maxZ, minZ}
 use Rattle.integer.proofs.Parts.{lt-isn't, zarith, zify}
 use Rattle.integer.proofs.Tests.{T→false, T→true, and-i, and-l, and-r, eqZ→eq, eq→eqZ, true→T}
-use Rattle.model.specs.Box.{Inside, NonEmpty, at, boxOf, emptyBox, isEmpty, isFree, lower, sameList, upper}
+use Rattle.model.specs.Box.{Inside, NonEmpty, at, boxOf, emptyBox, hull, isEmpty, isFree, lower, sameList, upper}
 
 -- ---- order
 
@@ -165,6 +165,30 @@ pub empty-first : (n : ℕ) (B : List ℤ) → 0 < n → (B ≡ emptyBox n) ⊎ 
 unfolding emptyBox
 empty-first n B h (inl e) = rw e (T→true (isEmpty n (emptyBox n)) (isEmpty-empty n) ∙ sym (ap₂ ltZ (upper-boxOf n _ _ 0 h) (lower-boxOf n _ _ 0 h)))
 empty-first n B h (inr p) = nonEmpty-isn't h p ∙ sym (lt-isn't (p .order 0 h))
+
+-- ---- the smallest box that contains two
+
+pub in-hull-left : (P′ : List ℤ) {n : ℕ} {P Q : List ℤ} → Inside n Q P → Inside n Q (hull n P P′)
+unfolding hull
+in-hull-left P′ {n} {P} {Q} i =
+    inside-boxOf n Q _ _ (λ j h. ≤ℤ-trans (min-l _ _) (i .low j h)) (λ j h. ≤ℤ-trans (i .high j h) (max-l _ _))
+
+pub in-hull-right : (P : List ℤ) {n : ℕ} {P′ Q : List ℤ} → Inside n Q P′ → Inside n Q (hull n P P′)
+unfolding hull
+in-hull-right P {n} {P′} {Q} i =
+    inside-boxOf n Q _ _ (λ j h. ≤ℤ-trans (min-r _ _) (i .low j h)) (λ j h. ≤ℤ-trans (i .high j h) (max-r _ _))
+
+module _ {n : ℕ} {P P′ : List ℤ} where
+  pub hull-inside : {B : List ℤ} → Inside n P B → Inside n P′ B → Inside n (hull n P P′) B
+  unfolding hull
+  hull-inside i i′ = record {
+    low = λ j h. rw (lower-boxOf n _ _ j h) (min-i _ _ _ (i .low j h) (i′ .low j h));
+    high = λ j h. rw (upper-boxOf n _ _ j h) (max-i _ _ _ (i .high j h) (i′ .high j h));
+  }
+
+  pub hull-nonEmpty : NonEmpty n P → NonEmpty n P′ → NonEmpty n (hull n P P′)
+  unfolding hull
+  hull-nonEmpty p q = nonEmpty-boxOf n _ _ (λ j k. ≤ℤ-trans (min-l _ _) (≤ℤ-trans (p .order j k) (max-l _ _)))
 
 -- ---- free binary variables
 

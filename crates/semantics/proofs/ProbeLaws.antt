@@ -13,7 +13,7 @@ use Rattle.integer.proofs.Tests.{T→true, cond-ind, decide, lt-or-ge, or-r}
 use Rattle.model.specs.Box.{Inside, NonEmpty, emptyBox, isEmpty, isFree, lower, upper}
 use Rattle.model.specs.Rows.{Rows}
 use Rattle.model.specs.Valid.{ValidBox, ValidTable}
-use Rattle.model.proofs.BoxLaws.{boxOf-inside, free-i, free-lower, free-upper, inside-boxOf, inside-refl, inside-trans, isEmpty-empty, isEmpty→eq, lower-boxOf, max-i, max-l, max-r, min-i, min-l, min-r, nonEmpty-boxOf, not-in-empty, upper-boxOf, ≤ℤ-trans}
+use Rattle.model.proofs.BoxLaws.{boxOf-inside, free-i, free-lower, free-upper, hull-inside, hull-nonEmpty, in-hull-left, in-hull-right, inside-boxOf, inside-refl, inside-trans, isEmpty-empty, isEmpty→eq, nonEmpty-boxOf, not-in-empty, ≤ℤ-trans}
 use Rattle.row.proofs.ImpliedBoxLaws.{valid-empty, valid-inside, valid-nonEmpty}
 use Rattle.semantics.specs.Fixpoint.{Fixpoint, ProbedFixpoint, SidesSpan}
 use Rattle.semantics.specs.Probe.{Probed, bothFeasible, fix, fixed, hull, infeasible, joinSides, probe, recordTo, sideOf}
@@ -68,28 +68,7 @@ module _ (k v : ℕ) {n : ℕ} {B : List ℤ} (f : T (isFree B k)) (b : v < 2) w
 
 -- ---- the smallest box that contains two
 
-pub in-hull-left : (P′ : List ℤ) {n : ℕ} {P Q : List ℤ} → Inside n Q P → Inside n Q (hull n P P′)
-unfolding hull
-in-hull-left P′ {n} {P} {Q} i =
-    inside-boxOf n Q _ _ (λ j h. ≤ℤ-trans (min-l _ _) (i .low j h)) (λ j h. ≤ℤ-trans (i .high j h) (max-l _ _))
-
-pub in-hull-right : (P : List ℤ) {n : ℕ} {P′ Q : List ℤ} → Inside n Q P′ → Inside n Q (hull n P P′)
-unfolding hull
-in-hull-right P {n} {P′} {Q} i =
-    inside-boxOf n Q _ _ (λ j h. ≤ℤ-trans (min-r _ _) (i .low j h)) (λ j h. ≤ℤ-trans (i .high j h) (max-r _ _))
-
 module _ {n : ℕ} {P P′ : List ℤ} where
-  pub hull-inside : {B : List ℤ} → Inside n P B → Inside n P′ B → Inside n (hull n P P′) B
-  unfolding hull
-  hull-inside i i′ = record {
-    low = λ j h. rw (lower-boxOf n _ _ j h) (min-i _ _ _ (i .low j h) (i′ .low j h));
-    high = λ j h. rw (upper-boxOf n _ _ j h) (max-i _ _ _ (i .high j h) (i′ .high j h));
-  }
-
-  pub hull-nonEmpty : NonEmpty n P → NonEmpty n P′ → NonEmpty n (hull n P P′)
-  unfolding hull
-  hull-nonEmpty p q = nonEmpty-boxOf n _ _ (λ j k. ≤ℤ-trans (min-l _ _) (≤ℤ-trans (p .order j k) (max-l _ _)))
-
   pub hull-valid : {B : List ℤ} → ValidBox n B → NonEmpty n P → NonEmpty n P′ → Inside n P B → Inside n P′ B → ValidBox n (hull n P P′)
   hull-valid v p q i j = valid-inside v (hull-nonEmpty p q) (hull-inside i j)
 
