@@ -200,9 +200,11 @@ writes-read bs a =
     let t = trailerOf bs in
     let l = h .0 .layout in
     let k : length t ≡ 16 = omega (arith, length-drop (length bs - 16) bs, h .0 .long) in
-    let tb : Bytes t = record { below = λ i. rw (getD-drop (length bs - 16) bs i 0) (a .bytes .below (length bs - 16 + i)) } in
-    (book-inequalities bs (h .1), book-again (variables t) (rows t) bs (a .bytes) (sym (h .0 .whole) ∙ l .ends)
-    (ap (trailerBytes (variables t) (rows t)) (sym (l .ends)) ∙ trailer-back t tb k (l .boundsStart) (l .rowsStart)))
+    let tb : Bytes t = record { below = λ i. rw (getD-drop (length bs - 16) bs i 0) (a .bytes .below (length bs - 16 + i)) } in (
+      book-inequalities bs (h .1),
+      book-again (variables t) (rows t) bs (a .bytes) (sym (h .0 .whole) ∙ l .ends)
+          (ap (trailerBytes (variables t) (rows t)) (sym (l .ends)) ∙ trailer-back t tb k (l .boundsStart) (l .rowsStart)),
+    )
 
 -- ---- and so
 

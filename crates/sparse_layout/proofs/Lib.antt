@@ -1,0 +1,6 @@
+pub mod SpanLaws
+pub mod RowLaws
+pub mod SparseEncodeLaws
+pub mod SparseAcceptLaws
+pub mod SparseTripLaws
+pub mod SparseCases
