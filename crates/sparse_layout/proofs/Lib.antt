@@ -4,3 +4,5 @@ pub mod SparseEncodeLaws
 pub mod SparseAcceptLaws
 pub mod SparseTripLaws
 pub mod SparseCases
+pub mod CheckingLaws
+pub mod WritingLaws

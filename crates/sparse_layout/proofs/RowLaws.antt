@@ -35,11 +35,11 @@ nonzeros-some : (n : ℕ) (f : ℕ → ℤ) → isZero (f n) ≡ false → nonze
 unfolding nonzeros
 nonzeros-some n f e = rw e (omega arith)
 
-entry-none : (f : ℕ → ℤ) (j : ℕ) → isZero (f j) ≡ true → entryBytes f j ≡ []
+pub entry-none : (f : ℕ → ℤ) (j : ℕ) → isZero (f j) ≡ true → entryBytes f j ≡ []
 unfolding entryBytes
 entry-none f j e = rw e
 
-entry-some : (f : ℕ → ℤ) (j : ℕ) → isZero (f j) ≡ false → entryBytes f j ≡ bytesOf 2 j ++ integerBytes (f j)
+pub entry-some : (f : ℕ → ℤ) (j : ℕ) → isZero (f j) ≡ false → entryBytes f j ≡ bytesOf 2 j ++ integerBytes (f j)
 unfolding entryBytes
 entry-some f j e = rw e
 
@@ -85,15 +85,15 @@ pub record Entries (n p : ℕ) (bs : List ℕ) (c : ℕ) : Type 0 where
   pub some : (e : ℕ) → e < c → valueAt p bs e ≡ pos 0 → ⊥
 
 module _ (p : ℕ) (bs : List ℕ) where
-  dense-hit : (c x : ℕ) → columnAt p bs c ≡ x → denseAt p bs (suc c) x ≡ valueAt p bs c
+  pub dense-hit : (c x : ℕ) → columnAt p bs c ≡ x → denseAt p bs (suc c) x ≡ valueAt p bs c
   unfolding denseAt
   dense-hit c x e = rw (test-true (eqb (columnAt p bs c) x) (eqb-test (columnAt p bs c) x) e)
 
-  dense-miss : (c x : ℕ) → (columnAt p bs c ≡ x → ⊥) → denseAt p bs (suc c) x ≡ denseAt p bs c x
+  pub dense-miss : (c x : ℕ) → (columnAt p bs c ≡ x → ⊥) → denseAt p bs (suc c) x ≡ denseAt p bs c x
   unfolding denseAt
   dense-miss c x n = rw (test-false (eqb (columnAt p bs c) x) (eqb-test (columnAt p bs c) x) n)
 
-  dense-none : (x : ℕ) → denseAt p bs 0 x ≡ pos 0
+  pub dense-none : (x : ℕ) → denseAt p bs 0 x ≡ pos 0
   unfolding denseAt
   dense-none x = refl
 

@@ -85,7 +85,7 @@ sparse-head-test bs =
 -- ---- the entries
 
 module _ (n p : ℕ) (bs : List ℕ) where
-  entry-numbered : (e : ℕ) → T (numbered (entryChecks n p bs e))
+  pub entry-numbered : (e : ℕ) → T (numbered (entryChecks n p bs e))
   unfolding entryChecks
   entry-numbered e = tt
 
@@ -139,7 +139,7 @@ module _ (n p : ℕ) (bs : List ℕ) where
 abbrev pub AllEntries : ℕ → ℕ → List ℕ → Type 0
 AllEntries n m bs = (i : ℕ) → i < m → Entries n (rowStart n bs i) bs (countAt (rowStart n bs i) bs)
 
-row-numbered : (n : ℕ) (bs : List ℕ) (p : ℕ) → T (numbered (rowEntryChecks n bs p))
+pub row-numbered : (n : ℕ) (bs : List ℕ) (p : ℕ) → T (numbered (rowEntryChecks n bs p))
 unfolding rowEntryChecks
 row-numbered n bs p = numbered-joined (countAt p bs) (entryChecks n p bs) (entry-numbered n p bs)
 

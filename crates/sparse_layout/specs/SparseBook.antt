@@ -1,8 +1,9 @@
 -- The sparse book (02, C-18: "The second edition keeps the bounds and the 16-byte trailer."): the bytes of a model and the model of a
 -- book.
-use Prim.Native.Nat.{_*_, _+_, suc, zero, ℕ}
+use Prim.Native.Nat.{_*_, _+_, _≤_, suc, zero, ℕ}
 use lib.Dec.{eqb}
 use lib.IntN.{pos, ℤ}
+use lib.ListN.{length}
 use mathlib.Core.Bool.{Bool, cond}
 use mathlib.Core.List.{List, [], _++_}
 use Rattle.integer.specs.Order.{eqZ}
@@ -69,6 +70,12 @@ valueAt p bs e = integerAt (p + 9 + e * 6) bs
 unfoldable pub rowStart : ℕ → List ℕ → ℕ → ℕ
 rowStart n bs zero = 8 * n
 rowStart n bs (suc i) = rowStart n bs i + (7 + 6 * countAt (rowStart n bs i) bs)
+
+-- bytes within which the walk over m rows of n variables stays
+pub record HoldsRows (n m : ℕ) (bs : List ℕ) : Type 0 where
+  pub few : n ≤ 128
+  pub fewRows : m ≤ 120
+  pub body : rowStart n bs m ≤ length bs
 
 -- coefficient j of the row that starts at p, by its first c entries
 unfoldable pub denseAt : ℕ → List ℕ → ℕ → ℕ → ℤ

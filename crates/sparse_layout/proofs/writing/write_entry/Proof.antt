@@ -1,0 +1,68 @@
+-- `sparse_layout::writing::write_entry`: the column's two bytes and the coefficient's four, one after the other; none for a 0.
+-- Assumes nothing.
+use Prim.Native.Nat.{_+_}
+use lib.IntN.{pos}
+use lib.ListN.{length}
+use mathlib.Core.List.{_++_}
+use mathlib.Core.Path.{_∙_, _≡_, ap, sym}
+use mir.Facts.{toZ-ofZ}
+use mir.Syntax.{w32}
+use mir.Val.{ofZ, toZ}
+use native.Mathlib.Omega.{arith}
+use Rattle.bytes.specs.Bytes.{bytesOf, integerBytes}
+use Rattle.bytes.specs.Pieces.{overwrite}
+use Rattle.bytes.proofs.ByteLaws.{length-bytesOf, length-integerBytes}
+use Rattle.bytes.proofs.PieceLaws.{overwrite-next, overwrite-none}
+use Rattle.sparse_layout.specs.SparseBook.{entryBytes}
+use Rattle.sparse_layout.proofs.WritingLaws.{an-entry, entry-length, no-entry}
+use borrow.Author.Needs.{needs}
+use Rattle.sparse_layout.proofs.writing.write_entry.Statement.{statement}
+use Rattle.sparse_layout.proofs.writing.write_entry.Tie as tie
+
+returns : tie.Need-returns
+returns c =
+    let s = c .before .before in
+    let z : s .args .x ≡ pos 0 = sym (toZ-ofZ (s .fits .x)) ∙ ap (toZ w32) (c .if1 .taken) in
+    let e = no-entry (s .args .x) (s .args .column) z in
+    rw e (omega arith, sym (overwrite-none (s .args .place) (s .args .book .now)))
+
+-- the coefficient is not 0, so it has an entry
+entry-there : (c : tie.Else1) → let a = c .before .before .args in entryBytes (λ j. a .x) (a .column) ≡ bytesOf 2 (a .column) ++ integerBytes (a .x)
+entry-there c = an-entry _ _ (λ z. c .if1 .left (ap (ofZ w32) z))
+
+six : (c : tie.Else1) → let a = c .before .before .args in length (entryBytes (λ j. a .x) (a .column)) ≡ 6
+six c = ap length (entry-there c) ∙ entry-length _ _
+
+cast-write-u16 : tie.Need-cast-write-u16
+cast-write-u16 c = search needs
+
+write-u16-requires : tie.Need-write-u16-requires
+write-u16-requires c κs = ?
+
+add-write-i32 : tie.Need-add-write-i32
+add-write-i32 c = search needs
+
+write-i32-requires : tie.Need-write-i32-requires
+write-i32-requires c κs = ?
+
+add-result : tie.Need-add-result
+add-result c = search needs
+
+same-length : tie.Need-same-length
+same-length c = search needs
+
+returns-2 : tie.Need-returns-2
+returns-2 c = ?
+
+pub write-entry-spec : {M : Type 1} → statement M
+write-entry-spec =
+    tie.close
+    (tie.spec
+    returns
+    cast-write-u16
+    write-u16-requires
+    add-write-i32
+    write-i32-requires
+    add-result
+    same-length
+    returns-2)
