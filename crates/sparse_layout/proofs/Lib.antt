@@ -6,3 +6,4 @@ pub mod SparseTripLaws
 pub mod SparseCases
 pub mod CheckingLaws
 pub mod WritingLaws
+pub mod ReadingLaws

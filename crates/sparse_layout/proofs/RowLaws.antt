@@ -18,7 +18,7 @@ use Rattle.bytes.proofs.ByteLaws.{bytes-numberAt, integer-read, integer-written
 use Rattle.bytes.proofs.PieceLaws.{getD-listOf, joined-cong, length-part, part-add}
 use Rattle.model.specs.Box.{at}
 use Rattle.model.specs.Rows.{Row}
-use Rattle.sparse_layout.specs.SparseBook.{columnAt, countAt, denseAt, entryBytes, isZero, kindAt, nonzeros, rowIn, sparseRowBytes, valueAt}
+use Rattle.sparse_layout.specs.SparseBook.{columnAt, countAt, denseAt, entryBytes, entryOf, isZero, kindAt, nonzeros, rowIn, sparseRowBytes, valueAt}
 use Rattle.sparse_layout.proofs.SpanLaws.{joined-stop, joined-suc, joined-zero, part-split}
 
 pub zero-test : (z : ℤ) → T (isZero z) ↔ (z ≡ pos 0)
@@ -36,15 +36,15 @@ unfolding nonzeros
 nonzeros-some n f e = rw e (omega arith)
 
 pub entry-none : (f : ℕ → ℤ) (j : ℕ) → isZero (f j) ≡ true → entryBytes f j ≡ []
-unfolding entryBytes
+unfolding entryOf
 entry-none f j e = rw e
 
 pub entry-some : (f : ℕ → ℤ) (j : ℕ) → isZero (f j) ≡ false → entryBytes f j ≡ bytesOf 2 j ++ integerBytes (f j)
-unfolding entryBytes
+unfolding entryOf
 entry-some f j e = rw e
 
 pub entry-cong : (f g : ℕ → ℤ) (j : ℕ) → f j ≡ g j → entryBytes f j ≡ entryBytes g j
-unfolding entryBytes
+unfolding entryOf
 entry-cong f g j e = rw e
 
 pub nonzeros-cong : (n : ℕ) (f g : ℕ → ℤ) → ((j : ℕ) → j < n → f j ≡ g j) → nonzeros n f ≡ nonzeros n g

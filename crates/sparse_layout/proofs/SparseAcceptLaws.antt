@@ -143,7 +143,7 @@ pub row-numbered : (n : ℕ) (bs : List ℕ) (p : ℕ) → T (numbered (rowEntry
 unfolding rowEntryChecks
 row-numbered n bs p = numbered-joined (countAt p bs) (entryChecks n p bs) (entry-numbered n p bs)
 
-row-test : (n : ℕ) (bs : List ℕ) (p : ℕ) → (first (rowEntryChecks n bs p) ≡ 0) ↔ Entries n p bs (countAt p bs)
+pub row-test : (n : ℕ) (bs : List ℕ) (p : ℕ) → (first (rowEntryChecks n bs p) ≡ 0) ↔ Entries n p bs (countAt p bs)
 unfolding rowEntryChecks
 row-test n bs p = entries-test n p bs (countAt p bs)
 

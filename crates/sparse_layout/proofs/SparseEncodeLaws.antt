@@ -17,7 +17,7 @@ use Rattle.bytes.proofs.PieceLaws.{overwrite-all, overwrite-next, part-joined, 
 use Rattle.book.specs.Book.{boundBytes, trailerBytes, trailerOf}
 use Rattle.book.proofs.EncodeLaws.{length-boundBytes, length-trailerBytes}
 use Rattle.book.proofs.RoundTripLaws.{bytes-append, bytes-bytesOf, bytes-joined}
-use Rattle.sparse_layout.specs.SparseBook.{encodeSparse, entryBytes, isZero, nonzeros, rowsLength, sparseLength, sparseRowBytes, sparseRowBytesAt}
+use Rattle.sparse_layout.specs.SparseBook.{encodeSparse, entryBytes, entryOf, isZero, nonzeros, rowsLength, sparseLength, sparseRowBytes, sparseRowBytesAt}
 use Rattle.sparse_layout.proofs.RowLaws.{length-row, nonzeros-le}
 use Rattle.sparse_layout.proofs.SpanLaws.{part-span}
 
@@ -96,7 +96,7 @@ module _ (M : Model) where
 -- ---- they are bytes
 
 bytes-entry : (f : ℕ → ℤ) (j : ℕ) → Bytes (entryBytes f j)
-unfolding entryBytes integerBytes
+unfolding entryOf integerBytes
 bytes-entry f j =
     cond-ind (isZero (f j)) [] (bytesOf 2 j ++ bytesOf 4 (bitsOf (f j))) Bytes
     (λ t. record { below = λ i. omega arith }) (λ t. bytes-append _ _ (bytes-bytesOf 2 j) (bytes-bytesOf 4 (bitsOf (f j))))

@@ -1,6 +1,6 @@
 -- The sparse book (02, C-18: "The second edition keeps the bounds and the 16-byte trailer."): the bytes of a model and the model of a
 -- book.
-use Prim.Native.Nat.{_*_, _+_, _≤_, suc, zero, ℕ}
+use Prim.Native.Nat.{_*_, _+_, _<_, _≤_, suc, zero, ℕ}
 use lib.Dec.{eqb}
 use lib.IntN.{pos, ℤ}
 use lib.ListN.{length}
@@ -24,9 +24,12 @@ unfoldable pub nonzeros : ℕ → (ℕ → ℤ) → ℕ
 nonzeros zero f = 0
 nonzeros (suc n) f = nonzeros n f + cond (isZero (f n)) 0 1
 
--- "then column (16) and coefficient (32) for each nonzero": the entry of column j, if it has one
-unfoldable pub entryBytes : (ℕ → ℤ) → ℕ → List ℕ
-entryBytes f j = cond (isZero (f j)) [] (bytesOf 2 j ++ integerBytes (f j))
+-- "then column (16) and coefficient (32) for each nonzero": the entry of column j, whose coefficient is x
+unfoldable pub entryOf : ℕ → ℤ → List ℕ
+entryOf j x = cond (isZero x) [] (bytesOf 2 j ++ integerBytes x)
+
+abbrev pub entryBytes : (ℕ → ℤ) → ℕ → List ℕ
+entryBytes f j = entryOf j (f j)
 
 -- "A row is b (32 bits), kind (8), a count (16), then column (16) and coefficient (32) for each nonzero, columns rising."
 unfoldable pub sparseRowBytes : ℕ → Row → List ℕ
@@ -71,11 +74,12 @@ unfoldable pub rowStart : ℕ → List ℕ → ℕ → ℕ
 rowStart n bs zero = 8 * n
 rowStart n bs (suc i) = rowStart n bs i + (7 + 6 * countAt (rowStart n bs i) bs)
 
--- bytes within which the walk over m rows of n variables stays
+-- bytes, of a length of 32 bits, within which the walk over m rows of n variables stays
 pub record HoldsRows (n m : ℕ) (bs : List ℕ) : Type 0 where
   pub few : n ≤ 128
   pub fewRows : m ≤ 120
   pub body : rowStart n bs m ≤ length bs
+  pub short : length bs < 4_294_967_296
 
 -- coefficient j of the row that starts at p, by its first c entries
 unfoldable pub denseAt : ℕ → List ℕ → ℕ → ℕ → ℤ

@@ -9,7 +9,7 @@ ghost use Rattle.bytes.specs.Pieces.{joined, overwrite};
 ghost use Rattle.model.specs.Box.{at as nth};
 ghost use Rattle.model.specs.Model.{modelOf};
 ghost use Rattle.model.specs.Rows.{rowWith, rowsOf};
-ghost use Rattle.sparse_layout.specs.SparseBook.{entryBytes, nonzeros as howMany, rowsLength, sparseLength};
+ghost use Rattle.sparse_layout.specs.SparseBook.{entryBytes, entryOf, nonzeros as howMany, rowsLength, sparseLength};
 ghost use Rattle.sparse_layout.specs.SparseBook.{sparseRowBytes, sparseRowBytesAt};
 
 // How many numbers of xs are not 0.
@@ -35,9 +35,9 @@ pub fn sparse_length(n: usize, m: usize, coefs: &[i32]) -> usize
 
 // Writes the entry of a column at `place`, if its coefficient is not 0, and answers where it ends.
 fn write_entry(book: &mut [u8], place: usize, column: usize, x: i32) -> usize
-    requires { ⌜ (place + length (entryBytes (λ j. x) column) ≤ length (now book)) × (column < 65_536) ⌝ }
-    ensures end { λ r. ⌜ r ≡ place + length (entryBytes (λ j. x) column) ⌝ }
-    ensures written { λ r. ⌜ now (book .exit) ≡ overwrite place (entryBytes (λ j. x) column) (now (book .entry)) ⌝ }
+    requires { ⌜ (place + length (entryOf column x) ≤ length (now book)) × (column < 65_536) ⌝ }
+    ensures end { λ r. ⌜ r ≡ place + length (entryOf column x) ⌝ }
+    ensures written { λ r. ⌜ now (book .exit) ≡ overwrite place (entryOf column x) (now (book .entry)) ⌝ }
 {
     if x == 0 {
         return place;

@@ -37,7 +37,12 @@ same-length : tie.Need-same-length
 same-length c = search needs
 
 returns : tie.Need-returns
-returns c = ?
+returns c =
+    let d = c .before .before .before .before .before in
+    let s = d .before .before .before in
+    let bs = s .args .book .now in
+    c .before .store-entries .ensures
+    ∙ ap₂ (λ (k l : ℕ). listOf k (denseAt (s .args .p) bs l)) (d .clear .kept .0) (c .before .before .before .row-count .ensures)
 
 pub read-row-spec : {M : Type 1} → statement M
 read-row-spec =

@@ -1,12 +1,10 @@
 -- `sparse_layout::reading::store_entries`: after e turns the row is what the first e entries say (`dense-stored`). Assumes nothing.
-use Prim.Native.Nat.{_-_, _<_, _≤_, ℕ}
-use lib.IntN.{ℤ}
+use Prim.Native.Nat.{_-_, _<_, _≤_}
 use lib.ListN.{length, length-set}
-use mathlib.Core.List.{List}
-use mathlib.Core.Path.{_∙_, _≡_, ap, refl, sym}
+use mathlib.Core.Path.{_∙_, _≡_, refl}
 use mir.Facts.{toZ-ofZ}
 use mir.Syntax.{w32}
-use mir.Val.{SFits}
+use mir.Val.{SFits, ofZ, toZ}
 use native.Mathlib.Omega.{arith}
 use Rattle.bytes.specs.Pieces.{listOf}
 use Rattle.sparse_layout.specs.SparseBook.{columnAt, denseAt, valueAt}
@@ -49,8 +47,22 @@ read-i32-requires c κs = omega arith
 mul-x : tie.Need-mul-x Inv-loop μ-loop
 mul-x c = omega arith
 
+-- the entry that is read
+column-read : (c : tie.After-read-u16 Inv-loop μ-loop)
+    → let a = c .before .before .before .before .args in c .read-u16 .result ≡ columnAt (a .p) (a .book .now) (c .before .before .loop .e)
+unfolding columnAt
+column-read c = c .read-u16 .ensures
+
+-- its column lies within the row
+column-within : (c : tie.After-read-u16 Inv-loop μ-loop)
+    → let a = c .before .before .before .before .args in columnAt (a .p) (a .book .now) (c .before .before .loop .e) < length (a .row .now)
+column-within c =
+    let s = c .before .before .before .before in
+    let a = s .args in
+    entries-test (length (a .row .now)) (a .p) (a .book .now) (a .count) .0 (s .pre .0 .1) .below (c .before .before .loop .e) (c .before .loop-test .taken)
+
 slice-set-from-x : tie.Need-slice-set-from-x Inv-loop μ-loop
-slice-set-from-x c = ?
+slice-set-from-x c = omega (arith, column-read (c .before), column-within (c .before), c .before .before .before .loop .inv .1)
 
 add-e : tie.Need-add-e Inv-loop μ-loop
 add-e c = omega arith
@@ -59,7 +71,17 @@ loop-less : tie.Need-loop-less Inv-loop μ-loop
 loop-less c = omega arith
 
 loop-again : tie.Need-loop-again Inv-loop μ-loop
-loop-again c = ?
+loop-again c =
+    let d = c .before in
+    let a = d .before .before .before .before .args in
+    let at-loop = d .before .before .loop in
+    let bs = a .book .now in
+    let fx : SFits w32 (c .read-i32 .result) = record { sfits = c .read-i32 .ok } in
+    let x : toZ w32 (ofZ w32 (c .read-i32 .result)) ≡ valueAt (a .p) bs (at-loop .e) = toZ-ofZ fx ∙ c .read-i32 .ensures ∙ entry-value (a .p) (at-loop .e) bs in (
+      omega arith,
+      simp length-set (at-loop .inv .1),
+      rw (x, column-read d, at-loop .inv .2) (dense-stored (length (a .row .now)) (a .p) bs (at-loop .e) (column-within d)),
+    )
 
 same-length : tie.Need-same-length Inv-loop μ-loop
 same-length c = omega arith

@@ -1,9 +1,9 @@
 -- `sparse_layout::writing::nonzeros`: the invariant counts the numbers so far. Assumes nothing.
-use Prim.Native.Nat.{_+_, _-_, _≤_, ℕ}
+use Prim.Native.Nat.{_-_, _≤_}
 use lib.Dec.{eqb}
 use lib.ListN.{length}
 use mathlib.Core.Bool.{cond, not}
-use mathlib.Core.Path.{_∙_, _≡_, ap, refl, sym}
+use mathlib.Core.Path.{_≡_, refl}
 use mir.Syntax.{w32}
 use mir.Val.{boolByte, ofZ}
 use native.Mathlib.Omega.{arith}
@@ -39,7 +39,7 @@ one-more : (c : tie.After-count Inv-loop μ-loop)
 one-more c = counted _ (record { sfits = c .count .given })
 
 add-count : tie.Need-add-count Inv-loop μ-loop
-add-count c = rw (one-more c) (omega (arith, at-most-one _, nonzeros-le (c .before .before .loop .i) (at (c .before .before .before .args .xs .now))))
+add-count c = rw (one-more c) (omega (arith, at-most-one (isZero (at (c .before .before .before .args .xs .now) (c .before .before .loop .i))), nonzeros-le (c .before .before .loop .i) (at (c .before .before .before .args .xs .now))))
 
 add-i : tie.Need-add-i Inv-loop μ-loop
 add-i c = omega arith
@@ -48,7 +48,10 @@ loop-less : tie.Need-loop-less Inv-loop μ-loop
 loop-less c = omega arith
 
 loop-again : tie.Need-loop-again Inv-loop μ-loop
-loop-again c = (omega arith, rw (one-more c) (ap (λ (k : ℕ). k + _) (c .before .before .loop .inv .1) ∙ sym (nonzeros-more _ (c .before .before .loop .i))))
+loop-again c =
+    let f = at (c .before .before .before .args .xs .now) in
+    let i = c .before .before .loop .i in
+    (omega arith, omega (arith, one-more c, nonzeros-more f i))
 
 returns : tie.Need-returns Inv-loop μ-loop
 returns c =
