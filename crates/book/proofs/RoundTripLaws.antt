@@ -217,7 +217,7 @@ one-book bs cs a c e = sym (writes-read bs a .1) ∙ ap encode e ∙ writes-read
 -- ---- the round trips of the calls
 
 -- an answer that is no refusal comes of no fault
-unless-accepted : (fault : ℕ) (a b : Answer) → ((k : ℕ) → refused k ≡ b → ⊥) → unless fault a ≡ b → (fault ≡ 0) × (a ≡ b)
+pub unless-accepted : (fault : ℕ) (a b : Answer) → ((k : ℕ) → refused k ≡ b → ⊥) → unless fault a ≡ b → (fault ≡ 0) × (a ≡ b)
 unfolding unless
 unless-accepted fault a b n =
     cond-ind (eqb fault 0) a (refused fault) (λ (r : Answer). r ≡ b → (fault ≡ 0) × (a ≡ b))

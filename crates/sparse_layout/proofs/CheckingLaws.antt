@@ -22,7 +22,7 @@ use Rattle.book.proofs.AcceptLaws.{size-passed}
 use Rattle.sparse_layout.specs.SparseBook.{HoldsRows, columnAt, countAt, isZero, rowStart, valueAt}
 use Rattle.sparse_layout.specs.SparseChecks.{allEntryChecks, entryChecks, risesAt, rowEntryChecks, sparseFrameChecks, sparseOffsetChecks}
 use Rattle.sparse_layout.proofs.RowLaws.{zero-test}
-use Rattle.sparse_layout.proofs.SparseAcceptLaws.{first-joined, numbered-joined, row-numbered}
+use Rattle.sparse_layout.proofs.SparseAcceptLaws.{SparseHead, first-joined, numbered-joined, row-numbered}
 use Rattle.sparse_layout.proofs.SparseTripLaws.{row-inside, start-next, start-rises}
 
 -- ---- checks of a list of pieces, piece by piece
@@ -150,3 +150,11 @@ pub walk-next : (n : ℕ) (bs : List ℕ) (p i c : ℕ) → p ≡ rowStart n bs 
 walk-next n bs p i c e d =
     let k : countAt p bs ≡ countAt (rowStart n bs i) bs = ap (λ (q : ℕ). countAt q bs) e in
     omega (arith, start-more n bs i, k)
+
+-- a book with a head holds its rows
+pub head-rows : (bs : List ℕ) → Bytes bs → SparseHead bs → HoldsRows (variables (trailerOf bs)) (rows (trailerOf bs)) bs
+unfolding givenLengthChecks
+head-rows bs b h =
+    let t = trailerOf bs in
+    let g = first-none (givenLengthChecks t (length bs)) tt .1 (eqb-test (lengthGiven t) (length bs) .1 (h .whole), tt) in
+    record { few = h .few; fewRows = h .fewRows; body = omega (arith, h .walk); short = given-passed bs b (h .long) g }

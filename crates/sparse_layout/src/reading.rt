@@ -1,6 +1,11 @@
-// The numbers of a sparse book that has passed checks 1 to 4, 19 and 20: the checks over them, one row at a time, and
-// then the numbers themselves into lent buffers.
+// Checks 1 to 4, 19 and 20 of a sparse book in turn; past them the checks over its numbers, one row at a time, and the
+// numbers themselves into lent buffers.
+use crate::entries::entries_fault;
 use crate::entries::row_count;
+use crate::head::head_fault;
+use book::layout::ROWS;
+use book::layout::VARIABLES;
+use book::layout::trailer_u16;
 use book::reading::bounds_fault;
 use bytes::integers::are_in_range;
 use bytes::read_i32;
@@ -17,6 +22,20 @@ ghost use Rattle.model.specs.Checks.{first, numberChecks};
 ghost use Rattle.sparse_layout.specs.SparseBook.{HoldsRows, countAt, denseAt, sparseCoefsOf, sparseKindsOf};
 ghost use Rattle.sparse_layout.specs.SparseBook.{sparseRhsOf, sparseRowsOf};
 ghost use Rattle.sparse_layout.specs.SparseChecks.{allEntryChecks, entryChecks, rowEntryChecks};
+ghost use Rattle.sparse_layout.specs.SparseChecks.{sparseLayoutChecks};
+
+// Checks 1 to 4, 19 and 20 of a book: the number of the first that fails, else 0.
+pub fn layout_fault(book: &[u8]) -> u32
+    ensures { λ r. ⌜ r ≡ first (sparseLayoutChecks (now (book .entry))) ⌝ }
+{
+    let head = head_fault(book);
+    if head != 0 {
+        return head;
+    }
+    let n = trailer_u16(book, VARIABLES);
+    let m = trailer_u16(book, ROWS);
+    entries_fault(n, m, book)
+}
 
 // Checks 6, 7, 23, 8, 9 and 16 over the book's numbers: the number of the first that fails, else 0. Coefficients that
 // have no entry are 0, which is in range.
