@@ -4,7 +4,7 @@
 // require nothing: what fails a check is refused by the check's number, and then nothing is written. Reading a written
 // book returns the same model, writing a book that was read returns the same bytes, and so does converting there and
 // back.
-// pub mod conversion;
+pub mod conversion;
 pub mod reading;
 pub mod writing;
 

@@ -182,18 +182,18 @@ module _ (n m : ℕ) (bs : List ℕ) where
       let k = getD-listOf m (λ r. rowIn n bs (rowStart n bs r) .kind) i 0 h in
       rw (a, b, k)
 
-pub decoded-lengths : (bs : List ℕ) → first (lengthChecks (decodeSparse bs)) ≡ 0
+pub sparse-lengths : (bs : List ℕ) → first (lengthChecks (decodeSparse bs)) ≡ 0
 unfolding lengthChecks decodeSparse sparseModelIn
-decoded-lengths bs =
+sparse-lengths bs =
     let t = trailerOf bs in
     let n = variables t in
     let m = rows t in
     first-none (lengthChecks (decodeSparse bs)) tt .1
     (length-test (decodeSparse bs) .1 (length-boundsOf n m bs, length-sparseCoefs n m bs, length-sparseRhs n m bs, length-sparseKinds n m bs), tt)
 
-decoded-sizes : (bs : List ℕ) → SparseHead bs → first (sizeChecks (decodeSparse bs .n) (decodeSparse bs .m)) ≡ 0
+pub sparse-sizes : (bs : List ℕ) → SparseHead bs → first (sizeChecks (decodeSparse bs .n) (decodeSparse bs .m)) ≡ 0
 unfolding sizeChecks decodeSparse sparseModelIn
-decoded-sizes bs l =
+sparse-sizes bs l =
     let t = trailerOf bs in
     first-none (sizeChecks (variables t) (rows t)) tt .1 (size-test (variables t) (rows t) .1 (l .some, l .few, l .fewRows), tt)
 
@@ -229,6 +229,6 @@ sparse-test bs =
     let v = valid-checks M in (
       (λ e. let x = d .0 e in
           let k = l .0 (x .0) in
-          (k, v .1 (decoded-sizes bs (k .head), decoded-lengths bs, x .1))),
+          (k, v .1 (sparse-sizes bs (k .head), sparse-lengths bs, x .1))),
       (λ h. d .1 (l .1 (h .0), v .0 (h .1) .2)),
     )
