@@ -137,8 +137,8 @@ pub fn to_sparse_length(from: &[u8]) -> LengthAnswer
     )
 }
 
-// A first-edition book as a sparse one. Refused as reading the book is, with 5 for the length of the book to be written;
-// then nothing is written. Converting back gives the same bytes (`round_trip`).
+// A first-edition book as a sparse one. Refused as reading the book is, with 5 for the length of the book to be
+// written; then nothing is written. Converting back gives the same bytes (`round_trip`).
 pub fn to_sparse(from: &[u8], to: &mut [u8]) -> WriteAnswer
     ensures answer { λ r. ⌜ writeAnswer r ≡ toSparseCall (now (from .entry)) (now (to .entry)) ⌝ }
     ensures book_written { λ r. ⌜ now (to .exit) ≡ toSparseWritten (now (from .entry)) (now (to .entry)) ⌝ }
@@ -170,8 +170,8 @@ pub fn to_sparse(from: &[u8], to: &mut [u8]) -> WriteAnswer
     )
 }
 
-// A sparse book as a first-edition one. Refused as reading the book is, with 5 for the length of the book to be written,
-// and then an = row by 17; then nothing is written. Converting back gives the same bytes (`round_trip`).
+// A sparse book as a first-edition one. Refused as reading the book is, with 5 for the length of the book to be
+// written, and then an = row by 17; then nothing is written. Converting back gives the same bytes (`round_trip`).
 pub fn to_first(from: &[u8], to: &mut [u8]) -> WriteAnswer
     ensures answer { λ r. ⌜ writeAnswer r ≡ toFirstCall (now (from .entry)) (now (to .entry)) ⌝ }
     ensures book_written { λ r. ⌜ now (to .exit) ≡ toFirstWritten (now (from .entry)) (now (to .entry)) ⌝ }

@@ -64,8 +64,8 @@ fn write_fault(
     model_fault(n, m, bounds, coefs, rhs, kinds, fits)
 }
 
-// Writes a model as a sparse book. Refused by 3, 5 to 9, 23 and 16; then nothing is written. Reading what was written is
-// not refused, and gives the same model (`round_trip`).
+// Writes a model as a sparse book. Refused by 3, 5 to 9, 23 and 16; then nothing is written. Reading what was written
+// is not refused, and gives the same model (`round_trip`).
 pub fn write(
     n: usize,
     m: usize,

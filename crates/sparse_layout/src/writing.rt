@@ -9,8 +9,8 @@ ghost use Rattle.bytes.specs.Pieces.{joined, overwrite};
 ghost use Rattle.model.specs.Box.{at as nth};
 ghost use Rattle.model.specs.Model.{modelOf};
 ghost use Rattle.model.specs.Rows.{rowWith, rowsOf};
-ghost use Rattle.sparse_layout.specs.SparseBook.{entryBytes, entryOf, nonzeros as howMany, rowsLength, sparseLength};
-ghost use Rattle.sparse_layout.specs.SparseBook.{sparseRowBytes, sparseRowBytesAt};
+ghost use Rattle.sparse_layout.specs.SparseBook.{entryBytes, entryOf, nonzeros as howMany, rowsLength};
+ghost use Rattle.sparse_layout.specs.SparseBook.{sparseLength, sparseRowBytes, sparseRowBytesAt};
 
 // How many numbers of xs are not 0.
 pub fn nonzeros(xs: &[i32]) -> usize
@@ -49,7 +49,8 @@ fn write_entry(book: &mut [u8], place: usize, column: usize, x: i32) -> usize
 
 // Writes an entry for each coefficient of a row that is not 0, one after the other from `place` on.
 fn write_entries(book: &mut [u8], place: usize, row: &[i32])
-    requires { ⌜ (place + howMany (length (now row)) (nth (now row)) * 6 ≤ length (now book)) × (length (now row) ≤ 128) ⌝ }
+    requires { ⌜ (place + howMany (length (now row)) (nth (now row)) * 6 ≤ length (now book))
+        × (length (now row) ≤ 128) ⌝ }
     ensures { λ r.
         let R = now (row .entry) in
         ⌜ now (book .exit) ≡ overwrite place (joined (length R) (entryBytes (nth R))) (now (book .entry)) ⌝ }
