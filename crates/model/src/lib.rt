@@ -1,6 +1,6 @@
 // A model in memory: n variables and m rows over flat lent buffers, and the checks that it passes before anything reads
-// it. bounds: l and u of each variable in turn, 2n; coefs: row after row, m · n; rhs and kinds: m; table: 4n² bytes. The
-// checks write nothing and require nothing: each answers for every n, m and buffer length. `in_range`, `is_ordered`,
+// it. bounds: l and u of each variable in turn, 2n; coefs: row after row, m · n; rhs and kinds: m; table: 4n² bytes.
+// The checks write nothing and require nothing: each answers for every n, m and buffer length. `in_range`, `is_ordered`,
 // `is_narrow` and `is_bits` go to the buffer's end and keep a flag: a loop without a branch for each number is compiled
 // to take 4 to 16 numbers at a time.
 ghost use mathlib.Core.Bool.{true};

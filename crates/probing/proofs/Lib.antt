@@ -1,4 +1,3 @@
 pub mod MarkedLaws
 pub mod ImplicationLoops
 pub mod ProbingLoops
-pub mod RestLaws

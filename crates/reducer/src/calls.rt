@@ -324,7 +324,7 @@ pub fn is_probing_fixpoint(
     if fault != 0 {
         return RestAnswer::Refused(fault);
     }
-    if probing::rest::is_probing_fixpoint(n, m, bounds, coefs, rhs, kinds) {
+    if rest::is_probing_fixpoint(n, m, bounds, coefs, rhs, kinds) {
         return RestAnswer::Yes;
     }
     RestAnswer::No

@@ -82,10 +82,17 @@ pub fn lowered(xs: &mut [i32], code: usize) {
     digits(xs, &LOWERED, code / 2_441_406_250_000);
 }
 
-// The same model with = rows: bit r of 1 to 7 says that row r is one; with two variables 1 to 3.
+// The same model with other kinds: bit r says that row r is an = row.
+fn with_bits(code: usize, bits: usize) -> usize {
+    code % 837_402_343_750_000 + bits % 8 * 837_402_343_750_000
+}
+
+// The same model with = rows: the bits 1 to 7 in turn; with two rows 1 to 3.
 pub fn with_kinds(n: usize, i: usize, code: usize) -> usize {
-    let bits = if n == 2 { i % 3 } else { i % 7 };
-    code % 837_402_343_750_000 + (bits + 1) * 837_402_343_750_000
+    if n == 2 {
+        return with_bits(code, i % 3 + 1);
+    }
+    with_bits(code, i % 7 + 1)
 }
 
 // The kind of each row.

@@ -1,8 +1,8 @@
--- `probing::rest::every_side_spans`: every row of a fixpoint is clean. Assumes nothing.
+-- `rest::every_side_spans`: every row of a fixpoint is clean. Assumes nothing.
 use borrow.Author.Needs.{needs}
 use Rattle.probing.proofs.MarkedLaws.{marked-all}
-use Rattle.probing.proofs.rest.every_side_spans.Statement.{statement}
-use Rattle.probing.proofs.rest.every_side_spans.Tie as tie
+use Rattle.rest.proofs.every_side_spans.Statement.{statement}
+use Rattle.rest.proofs.every_side_spans.Tie as tie
 
 slice-aggregate-all-span : tie.Need-slice-aggregate-all-span
 slice-aggregate-all-span c = search needs

@@ -1,4 +1,4 @@
--- `probing::rest::sides_span`: each side's array holds what `propagate` makes of the side, and the three tests are the definition's.
+-- `rest::sides_span`: each side's array holds what `propagate` makes of the side, and the three tests are the definition's.
 -- Assumes nothing.
 use Prim.Native.Nat.{ℕ}
 use borrow.Author.Needs.{needs}
@@ -15,9 +15,9 @@ use Rattle.semantics.specs.Propagate.{Propagated, isNone, propagate}
 use Rattle.semantics.specs.RestTest.{sidesSpan}
 use Rattle.propagation.specs.Results.{propagationOf}
 use Rattle.marked_row.proofs.LocalBox.{blank, box-room, held, held-fits, held-length}
-use Rattle.probing.proofs.RestLaws.{answered}
-use Rattle.probing.proofs.rest.sides_span.Statement.{statement}
-use Rattle.probing.proofs.rest.sides_span.Tie as tie
+use Rattle.rest.proofs.RestLaws.{answered}
+use Rattle.rest.proofs.sides_span.Statement.{statement}
+use Rattle.rest.proofs.sides_span.Tie as tie
 
 -- side v of k, propagated
 abbrev side : tie.Start → ℕ → Propagated

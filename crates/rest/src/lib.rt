@@ -1,18 +1,18 @@
 // The probing fixpoint (01's rest): a box that no row and no probe carried to its end would change.
-use crate::sides::try_side;
 use boxes::greater;
 use boxes::is_free;
 use boxes::lesser;
 use model::MAX_BOX;
 use model::MAX_MATRIX;
 use model::MAX_ROWS;
+use probing::sides::try_side;
 use propagation::MAX_BUDGET;
 use propagation::Propagation;
 use row_view::row_moves_at;
 ghost use mathlib.Core.Bool.{_||_, not};
 ghost use mathlib.Core.Path.{_≡_};
 ghost use Rattle.integer.specs.Index.{all};
 ghost use Rattle.probing.specs.Marked.{Marked};
 ghost use Prim.Native.Nat.{ℕ, _*_, _<_};
 ghost use lib.Dec.{T};
 ghost use lib.ListN.{length};

@@ -1,12 +1,12 @@
--- `probing::rest::is_infeasible`: the answer's tag is the ending. Assumes nothing.
+-- `rest::is_infeasible`: the answer's tag is the ending. Assumes nothing.
 use borrow.Author.Needs.{needs}
 use mathlib.Core.List.{[]}
 use mathlib.Core.Path.{sym}
 use Rattle.semantics.specs.Propagate.{isNone}
 use Rattle.propagation.specs.Results.{propagationOf}
 use Rattle.probing.proofs.ProbingLoops.{is-some}
-use Rattle.probing.proofs.rest.is_infeasible.Statement.{statement}
-use Rattle.probing.proofs.rest.is_infeasible.Tie as tie
+use Rattle.rest.proofs.is_infeasible.Statement.{statement}
+use Rattle.rest.proofs.is_infeasible.Tie as tie
 
 enum-told : tie.Need-enum-told
 enum-told c = search needs

@@ -1,4 +1,4 @@
--- `probing::rest::is_probing_fixpoint`: its tests are the definition's. Assumes nothing.
+-- `rest::is_probing_fixpoint`: its tests are the definition's. Assumes nothing.
 use mathlib.Core.Bool.{false}
 use mathlib.Core.Path.{_∙_, _≡_, sym}
 use Rattle.integer.proofs.Tests.{false→T, told-false, told-true, true→T}
@@ -6,8 +6,8 @@ use Rattle.model.specs.Box.{isEmpty}
 use Rattle.row.proofs.ImpliedBoxLaws.{valid-nonEmpty}
 use Rattle.semantics.specs.RestTest.{isProbingFixpoint}
 use borrow.Author.Needs.{needs}
-use Rattle.probing.proofs.rest.is_probing_fixpoint.Statement.{statement}
-use Rattle.probing.proofs.rest.is_probing_fixpoint.Tie as tie
+use Rattle.rest.proofs.is_probing_fixpoint.Statement.{statement}
+use Rattle.rest.proofs.is_probing_fixpoint.Tie as tie
 
 is-empty-requires : tie.Need-is-empty-requires
 is-empty-requires c κs = search needs

@@ -1,4 +1,4 @@
--- `probing::rest::is_fixpoint`: the loop has passed the rows below r, which move nothing. Assumes nothing.
+-- `rest::is_fixpoint`: the loop has passed the rows below r, which move nothing. Assumes nothing.
 use Prim.Native.Nat.{_-_, _≤_, ℕ}
 use lib.IntN.{ℤ}
 use mathlib.Core.Bool.{Bool, true}
@@ -12,9 +12,9 @@ use Rattle.model.specs.Rows.{Rows, rowAt, rowsOf}
 use Rattle.row.specs.Kinds.{propagateRowOf}
 use Rattle.semantics.specs.RestTest.{isFixpoint}
 use Rattle.row_view.proofs.RowInLaws.{row-in, valid-row}
-use Rattle.probing.proofs.RestLaws.{row-moved, row-stays}
-use Rattle.probing.proofs.rest.is_fixpoint.Statement.{statement}
-use Rattle.probing.proofs.rest.is_fixpoint.Tie as tie
+use Rattle.rest.proofs.RestLaws.{row-moved, row-stays}
+use Rattle.rest.proofs.is_fixpoint.Statement.{statement}
+use Rattle.rest.proofs.is_fixpoint.Tie as tie
 
 abbrev stays : ℕ → Rows → List ℤ → ℕ → Bool
 stays n A B i = sameList (propagateRowOf n (rowAt n A i) B .box) B

@@ -1,4 +1,4 @@
--- `probing::rest::hull_is`: the loop passes the variables whose bounds are the hull's, and by `hull-test` these make the hull the box.
+-- `rest::hull_is`: the loop passes the variables whose bounds are the hull's, and by `hull-test` these make the hull the box.
 -- Assumes nothing.
 use Prim.Native.Nat.{_-_, _/_, _<_, _≤_, ℕ}
 use borrow.Author.Count.{below-more, below-none}
@@ -13,9 +13,9 @@ use Rattle.integer.specs.Order.{maxZ, minZ}
 use Rattle.integer.proofs.Reading.{eq-read}
 use Rattle.integer.proofs.Tests.{test-false, test-true}
 use Rattle.model.specs.Box.{lower, upper}
-use Rattle.probing.proofs.RestLaws.{hull-test}
-use Rattle.probing.proofs.rest.hull_is.Statement.{statement}
-use Rattle.probing.proofs.rest.hull_is.Tie as tie
+use Rattle.rest.proofs.RestLaws.{hull-test}
+use Rattle.rest.proofs.hull_is.Statement.{statement}
+use Rattle.rest.proofs.hull_is.Tie as tie
 
 abbrev Inv-loop : tie.InvT-loop
 Inv-loop zero one bounds half j₀ j =

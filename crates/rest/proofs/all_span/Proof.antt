@@ -1,4 +1,4 @@
--- `probing::rest::all_span`: the loop has passed the variables below k. Assumes nothing.
+-- `rest::all_span`: the loop has passed the variables below k. Assumes nothing.
 use Prim.Native.Nat.{_-_, _≤_, ℕ}
 use lib.IntN.{ℤ}
 use lib.ListN.{length}
@@ -13,8 +13,8 @@ use Rattle.model.specs.Box.{isFree}
 use Rattle.model.specs.Rows.{Rows, rowsOf}
 use Rattle.row_marks.specs.Index.{Index}
 use Rattle.semantics.specs.RestTest.{sidesSpan}
-use Rattle.probing.proofs.rest.all_span.Statement.{statement}
-use Rattle.probing.proofs.rest.all_span.Tie as tie
+use Rattle.rest.proofs.all_span.Statement.{statement}
+use Rattle.rest.proofs.all_span.Tie as tie
 
 abbrev spans : ℕ → ℕ → Rows → List ℤ → ℕ → Bool
 spans n m A B k = not (isFree B k) || sidesSpan n m A B k

@@ -1,12 +1,12 @@
--- `probing::rest::spans_at`: a variable that is not free asks for nothing. Assumes nothing.
+-- `rest::spans_at`: a variable that is not free asks for nothing. Assumes nothing.
 use borrow.Author.Needs.{needs}
 use mathlib.Core.Bool.{true}
 use mathlib.Core.Path.{_≡_, refl}
 use native.Mathlib.Omega.{arith}
 use Rattle.integer.proofs.Tests.{told-false, told-true, true→T}
 use Rattle.model.specs.Box.{isFree}
-use Rattle.probing.proofs.rest.spans_at.Statement.{statement}
-use Rattle.probing.proofs.rest.spans_at.Tie as tie
+use Rattle.rest.proofs.spans_at.Statement.{statement}
+use Rattle.rest.proofs.spans_at.Tie as tie
 
 free-is : (c : tie.Else1) → let s = c .before .before .before .before .before .before in isFree (s .args .bounds .now) (s .args .k) ≡ true
 free-is c = told-true _ (c .before .is-free .ensures) (c .if1 .left)
