@@ -183,8 +183,8 @@ pub extern "C" fn astrolabe_book_to_sparse(from: &[u8], to: &mut [u8]) -> u32
     write_number(to_sparse(from, to))
 }
 
-// A sparse book as a first-edition one; the number says all. Refused as the book's reading is, 5 being of `to`, and then
-// by 17.
+// A sparse book as a first-edition one; the number says all. Refused as the book's reading is, 5 being of `to`, and
+// then by 17.
 #[no_mangle]
 pub extern "C" fn astrolabe_sparse_to_book(from: &[u8], to: &mut [u8]) -> u32
     ensures number { λ r. ⌜ r ≡ returned (bookReply (toFirstCall (now (from .entry)) (now (to .entry)))) ⌝ }
