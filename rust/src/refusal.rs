@@ -6,8 +6,10 @@ use std::fmt;
 /// The first check that failed. A refused call changes nothing.
 ///
 /// The discriminants are the check numbers of the specification and of its requests. The checks are made
-/// in the order of the numbers but for [`Refusal::VariableTooWide`], 23, which comes straight after 7, and
-/// [`Refusal::RowKind`] and [`Refusal::EqualityRow`], 16 and 17, which come after 9 and before 10:
+/// in the order of the numbers but for [`Refusal::VariableTooWide`], 23, which comes straight after 7,
+/// [`Refusal::RowKind`] and [`Refusal::EqualityRow`], 16 and 17, which come after 9 and before 10, and
+/// [`Refusal::SparseColumn`] and [`Refusal::SparseZero`], 19 and 20, which come after 4 and before 5, the
+/// entry read first deciding:
 ///
 /// ```
 /// use astrolabe::{Model, Refusal};
@@ -55,13 +57,17 @@ pub enum Refusal {
     RowKind = 16,
     /// An = row was to be written into a book of the first edition, which has no place for its kind.
     EqualityRow = 17,
+    /// Of a sparse book: a column is not below n, or not above the one before.
+    SparseColumn = 19,
+    /// Of a sparse book: the coefficient of an entry is 0.
+    SparseZero = 20,
     /// A variable's upper bound is more than 4,096 above its lower. A stored book that is refused by it
     /// has to be retyped: see `docs/INTEGRATION.md`.
     VariableTooWide = 23,
 }
 
 impl Refusal {
-    const ALL: [Refusal; 18] = [
+    const ALL: [Refusal; 20] = [
         Refusal::BookTooShort,
         Refusal::BookLengthMismatch,
         Refusal::SizeOutOfRange,
@@ -79,6 +85,8 @@ impl Refusal {
         Refusal::BudgetOutOfRange,
         Refusal::RowKind,
         Refusal::EqualityRow,
+        Refusal::SparseColumn,
+        Refusal::SparseZero,
         Refusal::VariableTooWide,
     ];
 
@@ -119,6 +127,8 @@ impl Refusal {
             Refusal::BudgetOutOfRange => "the budget is not 1 to 8388481",
             Refusal::RowKind => "a kind byte is above 1",
             Refusal::EqualityRow => "a book of the first edition holds no = row",
+            Refusal::SparseColumn => "a column is not below n or not above the one before",
+            Refusal::SparseZero => "an entry of a sparse book has the coefficient 0",
             Refusal::VariableTooWide => "a variable is over 4096 wide",
         }
     }
@@ -139,7 +149,7 @@ mod tests {
     #[test]
     fn each_number_gives_its_own_refusal() {
         assert_eq!(Refusal::from_returned(0), Ok(()));
-        for number in (1..=17).chain([23]) {
+        for number in (1..=17).chain([19, 20, 23]) {
             assert_eq!(Refusal::from_returned(number).unwrap_err().check(), number);
         }
     }

@@ -53,6 +53,7 @@ fn reborrow<'a>(loan: &'a mut Loan) -> Loan<'a> {
         table: loan.table,
         calls: loan.calls,
         book: loan.book,
+        to: loan.to,
         answer: loan.answer,
     }
 }

@@ -14,8 +14,9 @@
 //! | [`list`] | Run sheet |
 //! | [`rounds`] | the rounds of the program `reduce` |
 //! | [`book`] | Book |
+//! | [`sparse`] | the sparse book (02, C-18) |
 //! | [`checks`] | Checks in their order; 02's new numbers in their places |
-//! | [`calls`] | the eleven calls as the C interface has them: a refusal number and twelve places of answer |
+//! | [`calls`] | the eighteen calls as the C interface has them: a refusal number and twelve places of answer |
 //! | [`report`] | what `reduce` prints |
 
 pub mod book;
@@ -28,6 +29,7 @@ pub mod propagation;
 pub mod report;
 pub mod rounds;
 pub mod row;
+pub mod sparse;
 
 /// A model and its implication table in lent memory: what a call list and the rounds work on.
 pub struct State<'a> {
