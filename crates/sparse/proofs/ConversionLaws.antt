@@ -4,8 +4,8 @@ use Prim.Native.Nat.{ℕ}
 use lib.Dec.{eqb}
 use lib.ListN.{length}
 use mathlib.Core.Bool.{Bool, cond, true}
-use mathlib.Core.List.{List, [], _++_, _∷_, append-nil}
-use mathlib.Core.Path.{_∙_, _≡_, ap, refl, sym}
+use mathlib.Core.List.{List, [], _∷_, append-nil}
+use mathlib.Core.Path.{_∙_, _≡_, ap, sym}
 use native.Mathlib.Omega.{arith}
 use Rattle.model.specs.Checks.{Check, boxChecks, first, lengthChecks, modelChecks, modelFault, must, none, numberChecks, sizeChecks, tableByteChecks, tableLengthChecks}
 use Rattle.model.specs.Model.{Model}
@@ -18,7 +18,7 @@ use Rattle.book.specs.RoundTrips.{FirstEdition}
 use Rattle.book.proofs.AcceptLaws.{decoded-lengths, decoded-sizes, head-numbered, head-test, model-numbered, write-passed}
 use Rattle.book.proofs.AnswerLaws.{becomes}
 use Rattle.book.proofs.RoundTripLaws.{unless-accepted}
-use Rattle.sparse_layout.specs.SparseBook.{decodeSparse, sparseLength}
+use Rattle.sparse_layout.specs.SparseBook.{decodeSparse}
 use Rattle.sparse_layout.specs.SparseChecks.{sparseChecks, sparseFault, sparseLayoutChecks}
 use Rattle.sparse_layout.specs.SparseTrips.{toFirst, toSparse}
 use Rattle.sparse_layout.proofs.SparseAcceptLaws.{sparse-layout-numbered, sparse-layout-test, sparse-lengths, sparse-sizes}

@@ -1,22 +1,22 @@
 -- What the checks of the calls on sparse books come to, and the round trips of the calls.
 use Prim.Native.Nat.{_*_, ℕ}
 use borrow.Author.Tests.{ne-eqb}
-use lib.Dec.{T, eqb}
+use lib.Dec.{eqb}
 use lib.IntN.{ℤ}
 use lib.ListN.{length}
-use mathlib.Core.Bool.{Bool, true}
-use mathlib.Core.List.{List, [], _++_, _∷_}
-use mathlib.Core.Path.{_∙_, _≡_, ap, refl, sym}
+use mathlib.Core.Bool.{Bool}
+use mathlib.Core.List.{List, [], _++_}
+use mathlib.Core.Path.{_∙_, _≡_, ap, sym}
 use native.Mathlib.Decide.{ℕ-discrete}
 use native.Mathlib.Omega.{arith}
 use Rattle.integer.proofs.Tests.{eqb-test}
-use Rattle.model.specs.Checks.{Check, boxChecks, first, lengthChecks, modelChecks, modelFault, must, none, numberChecks, sizeChecks, tableByteChecks, tableLengthChecks}
+use Rattle.model.specs.Checks.{Check, first, lengthChecks, modelChecks, modelFault, none, sizeChecks}
 use Rattle.model.specs.Model.{Model, modelOf}
 use Rattle.model.specs.Rows.{Rows, rowsOf}
 use Rattle.model.specs.Valid.{ValidModel}
-use Rattle.model.proofs.CheckLaws.{LengthsFit, first-go, first-none, first-stop, first-zero-append, fits-fault-none, length-test, numbered}
+use Rattle.model.proofs.CheckLaws.{LengthsFit, first-go, first-none, first-stop, first-zero-append, fits-fault-none, length-test}
 use Rattle.bytes.specs.Bytes.{Bytes}
-use Rattle.book.specs.Answers.{lent, refused, sizesAre, unless, written}
+use Rattle.book.specs.Answers.{lent, refused, sizesAre, written}
 use Rattle.book.specs.Book.{rows, trailerOf, variables}
 use Rattle.book.specs.BookChecks.{modelNumberChecks}
 use Rattle.book.proofs.AnswerLaws.{becomes}
@@ -27,7 +27,7 @@ use Rattle.sparse_layout.proofs.CheckingLaws.{head-rows}
 use Rattle.sparse_layout.proofs.SparseAcceptLaws.{SparseLayout, all-entries-test, sparse-layout-numbered, sparse-layout-test}
 use Rattle.sparse_layout.proofs.SparseTripLaws.{sparse-reads-written, sparse-writes-read}
 use Rattle.sparse_layout.proofs.WritingLaws.{length-coefs}
-use Rattle.sparse.specs.SparseCalls.{BytesNeeded, bytesAre, bytesUnless, lengthAnswer, refusedLength, sparseBoundsRead, sparseCoefsRead, sparseKindsRead, sparseReadCall, sparseReadChecks, sparseReadFault, sparseRhsRead, sparseWriteCall, sparseWriteFault, sparseWritten}
+use Rattle.sparse.specs.SparseCalls.{bytesAre, bytesUnless, lengthAnswer, refusedLength, sparseBoundsRead, sparseCoefsRead, sparseKindsRead, sparseReadCall, sparseReadChecks, sparseReadFault, sparseRhsRead, sparseWriteCall, sparseWriteFault, sparseWritten}
 use Rattle.sparse.specs.declared.writing.LengthAnswer.{LengthAnswer}
 use Rattle.sparse.specs.declared.writing.LengthAnswer.the-variants as lengths
 

@@ -6,7 +6,7 @@ use lib.IntN.{ℤ}
 use lib.ListN.{length}
 use mathlib.Core.Bool.{cond, true}
 use mathlib.Core.List.{List, _++_, _∷_}
-use Rattle.model.specs.Checks.{Check, first, lengthChecks, modelChecks, modelFault, must, none}
+use Rattle.model.specs.Checks.{Check, first, lengthChecks, modelFault, must, none}
 use Rattle.model.specs.Model.{Model, modelOf}
 use Rattle.model.specs.Rows.{Rows}
 use Rattle.book.specs.Answers.{Answer, lent, sizesAre, unless, written}

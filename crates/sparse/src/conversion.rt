@@ -1,13 +1,13 @@
 // From one edition to the other: the layout's checks of the book that is read, then its model, which is checked by the
 // call that writes it. The model stands in local buffers of the largest model's size.
-use crate::reading::read_numbers;
+use crate::numbers::read_first;
+use crate::numbers::read_numbers;
 use crate::writing::LengthAnswer;
 use book::layout::ROWS;
 use book::layout::VARIABLES;
 use book::layout::head_fault;
 use book::layout::trailer_u16;
 use book::writing::WriteAnswer;
-use bytes::integers::read_integers;
 use model::MAX_BOX;
 use model::MAX_MATRIX;
 use model::MAX_ROWS;
@@ -16,7 +16,7 @@ ghost use mathlib.Core.Path.{_≡_};
 ghost use Prim.Native.Nat.{_*_};
 ghost use lib.ListN.{length};
 ghost use Rattle.book.specs.Answers.{bookWritten, writeAnswer, writeCall, written};
-ghost use Rattle.book.specs.Book.{HoldsModel, boundsOf, coefsOf, kindsOf, modelIn, rhsOf};
+ghost use Rattle.book.specs.Book.{HoldsModel, kindsOf, modelIn};
 ghost use Rattle.book.specs.BookChecks.{bookFault};
 ghost use Rattle.model.specs.Checks.{first};
 ghost use Rattle.sparse_layout.specs.SparseBook.{HoldsRows, sparseModelIn};
@@ -25,26 +25,6 @@ ghost use Rattle.sparse_layout.specs.SparseTrips.{toFirst, toSparse};
 ghost use Rattle.sparse.specs.SparseCalls.{lengthAnswer, sparseLengthCall, sparseWriteCall, sparseWritten};
 ghost use Rattle.sparse.specs.SparseCalls.{toFirstCall, toFirstWritten, toSparseCall, toSparseLengthCall};
 ghost use Rattle.sparse.specs.SparseCalls.{toSparseWritten};
-
-// Reads the numbers of a first-edition book with a head into buffers of its model's lengths.
-fn read_first(
-    n: usize,
-    m: usize,
-    book: &[u8],
-    bounds: &mut [i32],
-    coefs: &mut [i32],
-    rhs: &mut [i32],
-)
-    requires layout { ⌜ HoldsModel n m (now book) ⌝ }
-    requires lengths { ⌜ (length (now bounds) ≡ 2 * n) × (length (now coefs) ≡ m * n) × (length (now rhs) ≡ m) ⌝ }
-    ensures bounds_read { λ r. ⌜ now (bounds .exit) ≡ boundsOf n (now (book .entry)) ⌝ }
-    ensures coefs_read { λ r. ⌜ now (coefs .exit) ≡ coefsOf n m (now (book .entry)) ⌝ }
-    ensures rhs_read { λ r. ⌜ now (rhs .exit) ≡ rhsOf n m (now (book .entry)) ⌝ }
-{
-    read_integers(book, 0, 4, bounds);
-    book::reading::read_coefs(n, m, book, coefs);
-    read_integers(book, 8 * n, 4 + 4 * n, rhs);
-}
 
 // The length of the sparse edition, by way of buffers of the model's lengths; the kinds are all 0.
 fn measure_first(

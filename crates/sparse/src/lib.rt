@@ -5,6 +5,7 @@
 // book returns the same model, writing a book that was read returns the same bytes, and so does converting there and
 // back.
 pub mod conversion;
+mod numbers;
 pub mod reading;
 pub mod writing;
 

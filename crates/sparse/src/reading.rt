@@ -1,4 +1,5 @@
 // Reading a sparse book: every check over the book's bytes, and only then the numbers into the lent buffers.
+use crate::numbers::read_numbers;
 use book::SizesAnswer;
 use book::layout::ROWS;
 use book::layout::TRAILER;
@@ -6,23 +7,15 @@ use book::layout::VARIABLES;
 use book::layout::rows_of;
 use book::layout::trailer_u16;
 use book::layout::variables_of;
-use bytes::integers::read_integers;
 use sparse_layout::head::frame_fault;
 use sparse_layout::reading::layout_fault;
 use sparse_layout::reading::number_fault;
-use sparse_layout::reading::read_coefs;
-use sparse_layout::reading::read_kinds;
-use sparse_layout::reading::read_rhs;
 ghost use mathlib.Core.Path.{_≡_};
-ghost use Prim.Native.Nat.{ℕ, _*_};
-ghost use lib.ListN.{length};
+ghost use Prim.Native.Nat.{ℕ};
 ghost use Rattle.book.specs.Answers.{sizesAnswer, sizesAre};
-ghost use Rattle.book.specs.Book.{boundsOf};
-ghost use Rattle.model.specs.Checks.{first};
 ghost use Rattle.model.specs.Model.{modelOf};
 ghost use Rattle.model.specs.Rows.{rowsOf};
-ghost use Rattle.sparse_layout.specs.SparseBook.{HoldsRows, encodeSparse, sparseCoefsOf, sparseKindsOf, sparseRhsOf};
-ghost use Rattle.sparse_layout.specs.SparseChecks.{allEntryChecks};
+ghost use Rattle.sparse_layout.specs.SparseBook.{encodeSparse};
 ghost use Rattle.sparse.specs.SparseCalls.{sparseBoundsRead, sparseCoefsRead, sparseKindsRead, sparseReadCall};
 ghost use Rattle.sparse.specs.SparseCalls.{sparseReadFault, sparseRhsRead, sparseTrailerCall};
 
@@ -63,30 +56,6 @@ fn read_fault(book: &[u8], bounds: &[i32], coefs: &[i32], rhs: &[i32], kinds: &[
         return length;
     }
     number_fault(n, m, book)
-}
-
-// Reads the numbers of a book that has passed the checks of its layout into buffers of its model's lengths.
-pub fn read_numbers(
-    n: usize,
-    m: usize,
-    book: &[u8],
-    bounds: &mut [i32],
-    coefs: &mut [i32],
-    rhs: &mut [i32],
-    kinds: &mut [u8],
-)
-    requires layout { ⌜ HoldsRows n m (now book) × (first (allEntryChecks n m (now book)) ≡ 0) ⌝ }
-    requires lengths { ⌜ (length (now bounds) ≡ 2 * n) × (length (now coefs) ≡ m * n)
-        × (length (now rhs) ≡ m) × (length (now kinds) ≡ m) ⌝ }
-    ensures bounds_read { λ r. ⌜ now (bounds .exit) ≡ boundsOf n (now (book .entry)) ⌝ }
-    ensures coefs_read { λ r. ⌜ now (coefs .exit) ≡ sparseCoefsOf n m (now (book .entry)) ⌝ }
-    ensures rhs_read { λ r. ⌜ now (rhs .exit) ≡ sparseRhsOf n m (now (book .entry)) ⌝ }
-    ensures kinds_read { λ r. ⌜ now (kinds .exit) ≡ sparseKindsOf n m (now (book .entry)) ⌝ }
-{
-    read_integers(book, 0, 4, bounds);
-    read_coefs(n, m, book, coefs);
-    read_rhs(n, book, rhs);
-    read_kinds(n, book, kinds);
 }
 
 // Reads a sparse book into lent buffers and answers n and m. Refused by 1 to 4, 19, 20, 5 to 9, 23 and 16; then nothing

@@ -1,11 +1,10 @@
 -- Laws by which code makes checks 8, 9 and 16 of a sparse book row by row: a row's coefficients are in range exactly if those of its
 -- entries are.
 use Prim.Native.Nat.{_*_, _+_, _<_, suc, zero, ℕ}
-use lib.Dec.{T, eqb, ltb}
+use lib.Dec.{eqb, ltb}
 use lib.IntN.{pos, ℤ}
 use lib.ListN.{getD, length}
 use lib.Signed.{_≤ℤ_}
-use mathlib.Core.Bool.{Bool, cond}
 use mathlib.Core.List.{List, [], _∷_}
 use mathlib.Core.Path.{_∙_, _≡_, ap, refl, subst, sym}
 use native.Mathlib.Decide.{ℕ-discrete}

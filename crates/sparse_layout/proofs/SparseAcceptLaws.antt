@@ -4,7 +4,6 @@ use Prim.Native.Nat.{_*_, _-_, _<_, _≤_, suc, zero, ℕ}
 use lib.Dec.{T, T-not, eqb, ltb, not-T}
 use lib.IntN.{pos, ℤ}
 use lib.ListN.{length}
-use mathlib.Core.Bool.{not}
 use mathlib.Core.List.{List, [], _++_, _∷_}
 use mathlib.Core.Logic.{_↔_}
 use mathlib.Core.Path.{_≡_, refl}

@@ -3,7 +3,6 @@
 use Prim.Native.Nat.{_*_}
 use borrow.Author.Needs.{needs}
 use mathlib.Core.Path.{_∙_, ap}
-use native.Mathlib.Omega.{arith}
 use Rattle.bytes.specs.Bytes.{bytesOf}
 use Rattle.bytes.specs.Pieces.{overwrite}
 use Rattle.book.proofs.EncodeLaws.{trailer-written}

@@ -1,7 +1,7 @@
 -- `sparse::conversion::to_first`: past the layout's checks the call that writes the book's model answers (`to-first-same`).
 -- Assumes nothing.
 use Prim.Native.Nat.{_*_, _≤_, ℕ}
-use mathlib.Core.Path.{_∙_, _≡_, ap, ap₂, sym}
+use mathlib.Core.Path.{_∙_, ap, ap₂, sym}
 use native.Mathlib.Nat.{mul-le-mul}
 use native.Mathlib.Omega.{arith}
 use Rattle.bytes.specs.Bytes.{Bytes}

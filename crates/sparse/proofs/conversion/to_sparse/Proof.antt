@@ -1,7 +1,7 @@
 -- `sparse::conversion::to_sparse`: past the head's checks the call that writes the book's model answers (`to-sparse-same`).
 -- Assumes nothing.
 use Prim.Native.Nat.{_*_, _≤_, ℕ}
-use mathlib.Core.Path.{_∙_, _≡_, ap, ap₂, sym}
+use mathlib.Core.Path.{_∙_, ap, ap₂, sym}
 use native.Mathlib.Nat.{mul-le-mul}
 use native.Mathlib.Omega.{arith}
 use Rattle.bytes.specs.Bytes.{Bytes}

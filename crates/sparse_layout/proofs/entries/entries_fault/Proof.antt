@@ -1,6 +1,6 @@
 -- `sparse_layout::entries::entries_fault`: the place is where row i starts, and the entries of the rows before it pass.
 -- Assumes nothing.
-use Prim.Native.Nat.{_*_, _+_, _-_, _≤_, ℕ}
+use Prim.Native.Nat.{_*_, _+_, _-_, _≤_}
 use lib.ListN.{length}
 use mathlib.Core.Path.{_∙_, _≡_, refl, sym}
 use native.Mathlib.Omega.{arith}

@@ -2,7 +2,7 @@
 -- Assumes nothing.
 use Prim.Native.Nat.{_+_, _-_, _≤_, ℕ}
 use lib.Dec.{eqb}
-use mathlib.Core.Path.{_∙_, _≡_, ap, sym}
+use mathlib.Core.Path.{_≡_, ap, sym}
 use native.Mathlib.Omega.{arith}
 use Rattle.sparse_layout.specs.SparseBook.{rowStart}
 use Rattle.sparse_layout.proofs.CheckingLaws.{walk-next, walk-short}

@@ -5,9 +5,9 @@ use borrow.Rule.Slice.PartMut.{same-len-mid}
 use lib.IntN.{ℤ}
 use lib.ListN.{length}
 use mathlib.Core.List.{List}
-use mathlib.Core.Path.{_∙_, _≡_, ap, ap₂, refl, sym}
+use mathlib.Core.Path.{_∙_, _≡_, ap₂, refl, sym}
 use native.Mathlib.Omega.{arith}
-use Rattle.bytes.specs.Pieces.{joined, listOf, overwrite, part}
+use Rattle.bytes.specs.Pieces.{listOf, overwrite, part}
 use Rattle.bytes.proofs.PieceLaws.{length-joined, length-listOf, length-part, overwrite-all, overwrite-part, overwrite-start, overwrite-turn, piece-within}
 use Rattle.model.specs.Checks.{first}
 use Rattle.sparse_layout.specs.SparseBook.{countAt, denseAt, rowIn, rowStart, sparseCoefsOf}

@@ -1,10 +1,8 @@
 -- `sparse_layout::writing::write_rows`: the place is where row i goes, and the bytes of the first i rows are written.
 -- Assumes nothing.
-use Prim.Native.Nat.{_*_, _+_, _-_, _≤_, ℕ}
-use lib.IntN.{ℤ}
+use Prim.Native.Nat.{_*_, _+_, _-_, _≤_}
 use lib.ListN.{length}
-use mathlib.Core.List.{List}
-use mathlib.Core.Path.{_∙_, _≡_, ap, ap₂, refl, sym}
+use mathlib.Core.Path.{_∙_, _≡_, ap₂, refl}
 use mir.Facts.{toZ-ofZ}
 use mir.Syntax.{w32}
 use mir.Val.{SFits, ofZ, toZ}
@@ -12,7 +10,7 @@ use native.Mathlib.Omega.{arith}
 use Rattle.bytes.specs.Pieces.{joined, overwrite, part}
 use Rattle.bytes.proofs.PieceLaws.{length-part, overwrite-start, overwrite-turn, piece-within}
 use Rattle.model.specs.Box.{at}
-use Rattle.model.specs.Rows.{Row, rowAt, rowWith, rowsOf}
+use Rattle.model.specs.Rows.{rowAt, rowWith, rowsOf}
 use Rattle.sparse_layout.specs.SparseBook.{nonzeros, rowsLength, sparseRowBytes, sparseRowBytesAt}
 use Rattle.sparse_layout.proofs.RowLaws.{length-row}
 use Rattle.sparse_layout.proofs.SparseEncodeLaws.{length-rows}
