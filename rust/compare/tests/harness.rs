@@ -529,3 +529,32 @@ fn catches_a_buffer_that_the_call_does_not_own() {
         said
     });
 }
+
+#[test]
+fn catches_a_column_called_a_zero() {
+    is_caught(
+        |operation, _, said, _| {
+            if operation.reads_sparse() && said == 19 { 20 } else { said }
+        },
+    );
+}
+
+#[test]
+fn catches_kinds_lost_in_a_sparse_book() {
+    is_caught(|operation, _, said, loan| {
+        if operation == Operation::SparseRead && said == 0 {
+            loan.kinds.fill(0);
+        }
+        said
+    });
+}
+
+#[test]
+fn catches_a_conversion_that_writes_before_it_refuses() {
+    is_caught(|operation, _, said, loan| {
+        if operation == Operation::SparseToBook && said == 17 {
+            loan.to.fill(0);
+        }
+        said
+    });
+}
