@@ -1,0 +1,7 @@
+pub mod Ties
+pub mod TiedRow
+pub mod TieCall
+pub mod TiedRun
+pub mod TiedRuns
+pub mod TieMeans
+pub mod TieRefusals
