@@ -1,0 +1,3 @@
+pub mod TiedRowLaws
+pub mod TiedRowsLaws
+pub mod TieLaws
