@@ -1,3 +1,6 @@
 pub mod TiedRowLaws
 pub mod TiedRowsLaws
 pub mod TieLaws
+pub mod TieAccepted
+pub mod TieMeans
+pub mod TiedPreserved
