@@ -4,3 +4,5 @@ pub mod TieLaws
 pub mod TieAccepted
 pub mod TieMeans
 pub mod TiedPreserved
+pub mod TiedDemand3
+pub mod TieRefusals
