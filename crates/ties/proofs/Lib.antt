@@ -6,3 +6,4 @@ pub mod TieMeans
 pub mod TiedPreserved
 pub mod TiedDemand3
 pub mod TieRefusals
+pub mod WithoutTies
