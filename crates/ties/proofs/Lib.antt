@@ -7,3 +7,4 @@ pub mod TiedPreserved
 pub mod TiedDemand3
 pub mod TieRefusals
 pub mod WithoutTies
+pub mod TieBooks

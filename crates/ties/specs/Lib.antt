@@ -5,3 +5,4 @@ pub mod TiedRun
 pub mod TiedRuns
 pub mod TieMeans
 pub mod TieRefusals
+pub mod TieBooks
