@@ -29,7 +29,7 @@ use Rattle.ties.specs.TiedRow.{rowFits, rowsFit, tieRowsTo, tieTo, tiedC
 use Rattle.ties.specs.Ties.{TiedState, ValidTiedState}
 use Rattle.ties.proofs.TieAccepted.{tie-accepted}
 use Rattle.ties.proofs.TieLaws.{CanTie, can-tie, tie-adds-none, tie-same-points, tie-valid, tied-fractional}
-use Rattle.ties.proofs.TiedRowsLaws.{tieTo-done}
+use Rattle.ties.proofs.TiedRowsLaws.{tied-done}
 
 -- ---- the tests
 
@@ -139,7 +139,7 @@ module _ (s : TiedState) (k j w : ℕ) (v : ValidTiedState s) (kn : k < s .state
   new-at i q h qn =
       let z = tieState s k j w .state in
       sym (at-rowOf (s .state .model .n) (z .model .rows .coefs) i q qn)
-      ∙ ap (λ (r : Row). at (r .coefs) q) (tieTo-done (s .state) k j w (v .state .model) (c .fit) (s .state .model .m) i h (omega arith))
+      ∙ ap (λ (r : Row). at (r .coefs) q) (tied-done (s .state) k j w (v .state .model) (c .fit) i h)
 
   pub tie-written : Tied s (tieState s k j w) k j w
   unfolding tieState tieTo newCoef newRhs
@@ -151,7 +151,7 @@ module _ (s : TiedState) (k j w : ℕ) (v : ValidTiedState s) (kn : k < s .state
             ∙ rw (at-rowOf n C i k kn, at-rowOf n C i j jn);
         coefJ = λ i h. new-at i j h jn ∙ tied-at-j (rowOf n C i) n k j w kn jn (c .differ) (len i h);
         coefs = λ i q h qn p r. new-at i q h qn ∙ tied-at-other (rowOf n C i) n k j w kn jn (c .differ) (len i h) q p r ∙ at-rowOf n C i q qn;
-        rhs = λ i h. ap (λ (r : Row). r .rhs) (tieTo-done (s .state) k j w (v .state .model) (c .fit) (s .state .model .m) i h (omega arith));
+        rhs = λ i h. ap (λ (r : Row). r .rhs) (tied-done (s .state) k j w (v .state .model) (c .fit) i h);
         place = getD-set-same (s .ties) j (placeOf k w) 0 (omega (arith, v .ties .len));
         places = λ q ne. getD-set-other (s .ties) j q (placeOf k w) 0 ne;
       }
