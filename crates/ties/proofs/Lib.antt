@@ -8,3 +8,4 @@ pub mod TiedDemand3
 pub mod TieRefusals
 pub mod WithoutTies
 pub mod TieBooks
+pub mod TieSteps

@@ -15,7 +15,7 @@ use Rattle.semantics.proofs.ImplicationLaws.{zeros-hold}
 use Rattle.semantics.proofs.Preserved.{Preserves, step-preserves}
 use Rattle.ties.specs.TieCall.{TieCall, TiePerformed, performTie, tie, tieFault, tieState}
 use Rattle.ties.specs.TiedRow.{tieTo}
-use Rattle.ties.specs.TiedRun.{AnyTable, FilledFromEmpty, HandedInTied, KeepsTied, TiedCall, listed, other, runTied, stepTied, ties}
+use Rattle.ties.specs.TiedRun.{AnyTable, FilledFromEmpty, HandedInTied, KeepsTied, TieKeeps, TiedCall, listed, other, runTied, stepTied, ties}
 use Rattle.ties.specs.Ties.{TiedFractional, TiedPoint, TiedState, TiesHoldOver, ValidTiedState, ValidTies}
 use Rattle.ties.proofs.TieAccepted.{tie-accepted, ties-fault-none}
 use Rattle.ties.proofs.TieLaws.{said-link, tie-adds-none, tie-ind, tie-keeps, tie-valid, tied-fractional}
@@ -97,6 +97,10 @@ run-preserves-tied s (c ∷ cs) = preserves-trans (step-preserves-tied s c) (run
 pub adds-no-point : AnyTable
 unfolding AnyTable
 adds-no-point s cs = let p = run-preserves-tied s cs in record { points = p .adds; fractional = p .fractional }
+
+pub tie-promised : (s : TiedState) (c : TieCall) → TieKeeps s (performTie s c .state)
+tie-promised s c = let p = perform-preserves s c in
+    record { adds = record { points = p .adds; fractional = p .fractional }; keeps = λ x z i. p .keeps x z i .0 }
 
 pub handed-in-tied-valid : (s : TiedState) → HandedInTied s → ValidTiedState s
 handed-in-tied-valid s h =

@@ -22,6 +22,10 @@ saysByte n t k v j w = eqb (getD t (byteOf n (literal k v) (literal j w)) 0) 1
 unfoldable pub says : ℕ → List ℕ → ℕ → ℕ → ℕ → Bool
 says n t k j w = saysByte n t k 0 j w && saysByte n t k 1 j (1 - w)
 
+-- "Where the table says both, w is 0."; 2 where it says neither
+unfoldable pub valueSaid : ℕ → List ℕ → ℕ → ℕ → ℕ
+valueSaid n t k j = cond (says n t k j 0) 0 (cond (says n t k j 1) 1 2)
+
 -- ---- the call
 
 -- refused by a check's number, Tied, Same

@@ -52,3 +52,9 @@ pub record AddsNoPoint (s r : TiedState) : Type 0 where
 
 unfoldable pub AnyTable : Type 0
 AnyTable = (s : TiedState) (cs : List TiedCall) → AddsNoPoint s (runTied s cs)
+
+-- what one call means, that left r of s: no point is added, and a point is lost only where a recorded implication fails at it
+-- (proved as `tie-promised` of the tie call)
+pub record TieKeeps (s r : TiedState) : Type 0 where
+  pub adds : AddsNoPoint s r
+  pub keeps : (x : List ℤ) → TiedPoint s x → TableHolds (s .state .model .n) (s .state .table) x → TiedPoint r x

@@ -7,7 +7,8 @@ use mathlib.Core.Bool.{cond}
 use mathlib.Core.List.{List}
 use mathlib.Core.Path.{_≡_}
 use Rattle.model.specs.Box.{at}
-use Rattle.model.specs.State.{State}
+use Rattle.model.specs.Rows.{Rows}
+use Rattle.model.specs.State.{State, stateOf}
 use Rattle.model.specs.Valid.{ValidState}
 use Rattle.semantics.specs.Points.{FractionalPointOf, PointOf}
 
@@ -37,6 +38,10 @@ pub record ValidTies (n : ℕ) (ties : List ℕ) : Type 0 where
 pub record TiedState : Type 0 where
   pub state : State
   pub ties : List ℕ
+
+-- n, m, the rows and the lists that the buffers hold
+unfoldable pub tiedStateOf : ℕ → ℕ → List ℤ → Rows → List ℕ → List ℕ → TiedState
+tiedStateOf n m B A t ties = record { state = stateOf n m B A t; ties = ties }
 
 pub record ValidTiedState (s : TiedState) : Type 0 where
   pub state : ValidState (s .state)
