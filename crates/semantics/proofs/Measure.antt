@@ -15,7 +15,7 @@ use native.Mathlib.Omega.{arith}
 use Rattle.integer.specs.Order.{eqZ}
 use Rattle.integer.proofs.Parts.{one-part-zero, sub-parts, zarith, zify}
 use Rattle.integer.proofs.RangeLaws.{abs-parts}
-use Rattle.integer.proofs.Tests.{T→true, and-i, and-l, and-r, cond-ind, eqZ→eq, eq→eqZ, eqb-test}
+use Rattle.integer.proofs.Tests.{T→true, and-i, and-l, and-r, cond-ind, decide, eqZ→eq, eq→eqZ, eqb-test}
 use Rattle.model.specs.Box.{Inside, NonEmpty, at, emptyBox, isEmpty, sameList}
 use Rattle.model.specs.Limits.{maxCoef, minCoef}
 use Rattle.model.specs.Model.{Model}
@@ -33,19 +33,20 @@ use Rattle.row_change.specs.Tightening.{tightenCoefficient}
 use Rattle.row_change.proofs.KindChangeLaws.{remove-kinded-ind, remove-kinded-replaces, tighten-kinded-ind, tighten-kinded-length}
 use Rattle.row_change.proofs.RedundancyLaws.{at-zeroRow, remove-redundant-row-ind}
 use Rattle.row_change.proofs.TighteningLaws.{tighten-coefficient-ind}
-use Rattle.semantics.specs.Call.{Call, Kind, hasRow, hasTable, hasVariable, isUnknown, kindOf, probing, propagation, removal, rowPropagation, tightening, unknown}
+use Rattle.semantics.specs.Call.{Call, Kind, hasRow, hasTable, hasVariable, isRetired, isUnknown, kindOf, probing, propagation, removal, rowPropagation, tightening, unknown}
 use Rattle.semantics.specs.CallChecks.{callFault}
 use Rattle.semantics.specs.Demand2.{Demand2, ones}
-use Rattle.semantics.specs.Measure.{CallsLower, MeasureLimit, isZero, magnitude, measure, numbersWeight, rowWeight, rowsWeight, total, zeros}
+use Rattle.semantics.specs.Measure.{CallsLower, ListChangesWithin, MeasureLimit, RunChangesWithin, asChanged, changesMade, isZero, magnitude, measure, numbersWeight, rowWeight, rowsWeight, total, zeros}
 use Rattle.semantics.specs.Passes.{totalWidth}
 use Rattle.semantics.specs.Perform.{Performed, act, perform}
 use Rattle.semantics.specs.Probe.{probe}
-use Rattle.semantics.specs.Run.{CallClass, answersNone, changedCall, classOf, infeasibleCall, isRefused, refusalOf, refusedCall, run, sameBytes, sameState, step, unchangedCall}
+use Rattle.semantics.specs.Run.{CallClass, Counts, answersNone, changedCall, classListed, classOf, countCall, infeasibleCall, isRefused, noCounts, refusalOf, refusedCall, run, runListed, sameBytes, sameState, step, stepListed, tally, unchangedCall}
 use Rattle.semantics.proofs.Accepted.{Accepted, accepted}
 use Rattle.semantics.proofs.CallLaws.{Narrower, kinded-narrower, probe-box, propagate-narrower, step-ind}
 use Rattle.semantics.proofs.ClassLaws.{sameBytes-refl, sameBytes→eq}
 use Rattle.semantics.proofs.Demand2.{demand-2}
 use Rattle.semantics.proofs.ImplicationLaws.{recordTo-added, recordTo-same, recordTo-valid}
+use Rattle.semantics.proofs.ListedLaws.{class-direct, class-listed-refused, retired-refused, step-direct}
 use Rattle.semantics.proofs.Passes.{total-width-empty, total-width-is, total-width-limit}
 use Rattle.semantics.proofs.Preserved.{step-preserves}
 use Rattle.semantics.proofs.ProbeLaws.{probe-ind}
@@ -381,11 +382,56 @@ call-lowers s c = let f = step-falls s c in record {
         cases (yes l) = l
         cases (no l) = absurd (⊎-elim a b (f .same (omega arith)))
 
--- so no list of calls raises it
+-- ---- calls one after another
+
+-- so no run raises it
 pub run-never : (s : State) (cs : List Call) → measure (run s cs) ≤ measure s
 unfolding run CallsLower
 run-never s [] = omega arith
 run-never s (c ∷ cs) = let a = run-never (step s c) cs in let b = call-lowers s c .never in omega arith
+
+-- a call lowers it by 1 at least where it counts as changed
+counted-lowers : (s : State) (c : Call) → asChanged (classOf s c) + measure (step s c) ≤ measure s
+unfolding asChanged CallsLower
+counted-lowers s c = let l = call-lowers s c in by (classOf s c) (l .never) (l .changed)
+  where
+    by : (k : CallClass) → measure (step s c) ≤ measure s → (k ≡ changedCall → measure (step s c) < measure s) → asChanged k + measure (step s c) ≤ measure s
+    by (refusedCall number) l f = omega arith
+    by infeasibleCall l f = omega arith
+    by changedCall l f = let g = f refl in omega arith
+    by unchangedCall l f = omega arith
+
+pub run-changes-within : RunChangesWithin
+unfolding RunChangesWithin changesMade run
+run-changes-within s [] = omega arith
+run-changes-within s (c ∷ cs) = let a = run-changes-within (step s c) cs in let b = counted-lowers s c in omega arith
+
+count-changes : (k : CallClass) (n : Counts) → countCall k n .changes ≡ n .changes + asChanged k
+unfolding countCall asChanged
+count-changes (refusedCall number) n = omega arith
+count-changes infeasibleCall n = omega arith
+count-changes changedCall n = omega arith
+count-changes unchangedCall n = omega arith
+
+-- a call of a retired kind counts as refused
+listed-lowers : (s : State) (c : Call) → asChanged (classListed s c) + measure (stepListed s c) ≤ measure s
+unfolding asChanged
+listed-lowers s c = ⊎-elim
+    (λ t. let r = class-listed-refused s c (retired-refused s c t) in rw (← r .0, ← r .1) (omega arith))
+    (λ t. rw (class-direct s c t, step-direct s c t) (counted-lowers s c))
+    (decide (isRetired (kindOf (c .kind))))
+
+tally-changes : (n : Counts) (s : State) (cs : List Call) → tally n s cs .changes + measure (runListed s cs) ≤ n .changes + measure s
+unfolding tally runListed
+tally-changes n s [] = omega arith
+tally-changes n s (c ∷ cs) =
+    let a = tally-changes (countCall (classListed s c) n) (stepListed s c) cs in
+    let b = listed-lowers s c in let e = count-changes (classListed s c) n in
+    omega arith
+
+pub list-changes-within : ListChangesWithin
+unfolding ListChangesWithin noCounts
+list-changes-within s cs = let a = tally-changes noCounts s cs in omega arith
 
 -- ---- the limit
 

@@ -18,7 +18,7 @@ use Rattle.model.specs.Valid.{ValidState}
 use Rattle.row_change.specs.Redundancy.{zeroRow}
 use Rattle.semantics.specs.Call.{Call}
 use Rattle.semantics.specs.Passes.{totalWidth}
-use Rattle.semantics.specs.Run.{changedCall, classOf, step, unchangedCall}
+use Rattle.semantics.specs.Run.{CallClass, changedCall, classOf, infeasibleCall, noCounts, refusedCall, run, runListed, step, tally, unchangedCall}
 
 -- f 0 + f 1 + .. + f (n − 1)
 unfoldable pub total : ℕ → (ℕ → ℕ) → ℕ
@@ -71,3 +71,25 @@ CallsLower = (s : State) (c : Call) → Lowers s c
 -- proved as `measure-limit`
 unfoldable pub MeasureLimit : Type 0
 MeasureLimit = (s : State) → ValidState s → measure s ≤ maxMeasure
+
+-- ---- so it bounds the calls that change something
+
+-- 1 for a call that counts as changed
+unfoldable pub asChanged : CallClass → ℕ
+asChanged (refusedCall number) = 0
+asChanged infeasibleCall = 0
+asChanged changedCall = 1
+asChanged unchangedCall = 0
+
+-- how many calls of the run from s (`run`) count as changed
+unfoldable pub changesMade : State → List Call → ℕ
+changesMade s [] = 0
+changesMade s (c ∷ cs) = asChanged (classOf s c) + changesMade (step s c) cs
+
+-- of any calls on any state: as many as the measure falls by, at most (`run-changes-within`)
+unfoldable pub RunChangesWithin : Type 0
+RunChangesWithin = (s : State) (cs : List Call) → changesMade s cs + measure (run s cs) ≤ measure s
+
+-- of a list's count of changed calls (`list-changes-within`)
+unfoldable pub ListChangesWithin : Type 0
+ListChangesWithin = (s : State) (cs : List Call) → tally noCounts s cs .changes + measure (runListed s cs) ≤ measure s
