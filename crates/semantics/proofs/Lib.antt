@@ -23,3 +23,4 @@ pub mod CallLists
 pub mod Passes
 pub mod Greatest
 pub mod Measure
+pub mod Unmoved

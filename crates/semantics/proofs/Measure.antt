@@ -300,7 +300,7 @@ class-ind s c P f g h k = cond-ind (isRefused (perform s c .answer)) _ _ P f
     (λ t. cond-ind (answersNone (perform s c .answer)) _ _ P (g t) (λ u. cond-ind (sameState s (perform s c .state)) _ _ P (h t u) (k t u)))
 
 -- a call whose class is neither refused nor None was accepted, and its box is not empty afterwards
-accepted-call : (s : State) (c : Call) → T (not (isRefused (perform s c .answer))) → callFault s c ≡ 0
+pub accepted-call : (s : State) (c : Call) → T (not (isRefused (perform s c .answer))) → callFault s c ≡ 0
 unfolding perform isRefused
 accepted-call s c = cond-ind (eqb (callFault s c) 0) _ _ (λ (r : Performed). T (not (isRefused (r .answer))) → callFault s c ≡ 0)
     (λ t _. eqb→eq (callFault s c) 0 t) (λ _ z. absurd z)
