@@ -1,4 +1,5 @@
-// The program `reduce` (02, C-20): a book on standard input, rounds until a round changes nothing, or None, and what is left of the model.
+// The program `reduce` (01, "Book"; 02, C-20): a book on standard input, rounds until one changes nothing, or None, and
+// what is left of the model.
 use reduce_book::program;
 use rounds::NO_LIMIT;
 ghost use mathlib.Core.Bool.{true};

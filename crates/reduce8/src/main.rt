@@ -1,4 +1,4 @@
-// The program `reduce8` (02, C-20): a book on standard input, rounds at most 8, as `reduce` did before, and what is left of the model.
+// The program `reduce8` (02, C-20): `reduce` with at most 8 rounds, as it was before.
 use reduce_book::program;
 ghost use mathlib.Core.Bool.{true};
 ghost use mathlib.Core.Path.{_≡_};

@@ -10,7 +10,6 @@ use Rattle.book.specs.BookChecks.{bookFault}
 use Rattle.report.specs.Report.{noneLine, refusedLine, report}
 use Rattle.semantics.specs.Run.{run}
 use Rattle.model.specs.State.{State}
-use Rattle.rounds.specs.NoLimit.{noLimit}
 use Rattle.rounds.specs.Rounds.{RoundsAnswer, atLimit, ended, infeasible, nothingChanged, refusedRounds, runRounds}
 
 unfoldable pub zeros : ℕ → List ℕ
@@ -31,14 +30,7 @@ textOf (ended atLimit rounds) s = report (s .model .n) (s .model .m) rounds (s .
 unfoldable pub roundsText : ℕ → State → List ℕ
 roundsText limit s = textOf (runRounds limit s .answer) (run s (runRounds limit s .calls))
 
--- the whole: refused by the first check of the book that fails, else what its rounds leave
+-- the whole: refused by the first check of the book that fails, else what its rounds leave. `reduce` prints it with the limit that is
+-- none: "It now goes on until a round changes nothing, or None."; "a second program, `reduce8`, still stops at 8 and prints as before"
 unfoldable pub output : ℕ → List ℕ → List ℕ
 output limit bs = cond (eqb (bookFault bs) 0) (roundsText limit (stateRead bs)) (refusedLine (bookFault bs))
-
--- what the program `reduce` prints: "It now goes on until a round changes nothing, or None." (02, C-20)
-unfoldable pub reduced : List ℕ → List ℕ
-reduced bs = output noLimit bs
-
--- and `reduce8`: "a second program, `reduce8`, still stops at 8 and prints as before"
-unfoldable pub reduced8 : List ℕ → List ℕ
-reduced8 bs = output 8 bs
