@@ -1,8 +1,8 @@
 // The programs `reduce` and `reduce8` (01, "Book"; 02, C-20): a book is read on standard input, rounds are made up to a
-// limit, and `refused N`, `none` or what is left of the model is printed. What is printed is `output` of the input. No contract can say which bytes
-// are read or written; that the input is kept as it came, that the answer is the one that `output` gives, that its text
-// is written into a buffer and that as many bytes as it has are handed to standard output are proved. A read or a write
-// that fails is told on standard error, and then nothing more is printed.
+// limit, and `refused N`, `none` or what is left of the model is printed. What is printed for an input is `output` of
+// it. No contract can say which bytes are read or written; that the input is kept as it came, that the answer is the one
+// that `output` gives, that its text is written into a buffer and that as many bytes as it has are handed to standard
+// output are proved. A read or a write that fails is told on standard error, and then nothing more is printed.
 mod buffers;
 mod input;
 mod output;
