@@ -151,8 +151,10 @@ round-rests s v full unchanged unspent =
     let a = still-then propagateCall (andThen removals (andThen tightenings probes)) w in
     let b = still-then removals (andThen tightenings probes) (a .1) in
     let d = still-then tightenings probes (b .1) in
-    let p = valid-nonEmpty (v .model .box) (rw same at (false→T (isEmpty (run s (round s) .model .n) (run s (round s) .model .box)) full)) in
-    (same, rw same (inr (record {
-      fixpoint = quiet s v p (a .0);
-      spans = λ k h f. spans s v p k h f (still-turn (s .model .n) probeCall (d .1) k h);
-    })))
+    let p = valid-nonEmpty (v .model .box) (rw same at (false→T (isEmpty (run s (round s) .model .n) (run s (round s) .model .box)) full)) in (
+      same,
+      rw same (inr (record {
+        fixpoint = quiet s v p (a .0);
+        spans = λ k h f. spans s v p k h f (still-turn (s .model .n) probeCall (d .1) k h);
+      })),
+    )
