@@ -12,6 +12,18 @@ fn empty_box() -> Model {
     Model::new(&[(1, 0), (1, 0)], &[(&[1, 1], 1)])
 }
 
+/// Each call answers infeasible there, rest says yes, and nothing changes.
+fn answers_on_the_empty_box(model: &mut Model) {
+    let before = model.clone();
+    assert_eq!(model.propagate_row(0), ok(&[0]));
+    assert_eq!(model.propagate(3), ok(&[0, 1]));
+    assert_eq!(model.probe(0, 3), ok(&[0]));
+    assert_eq!(model.tighten(0, 0), ok(&[0]));
+    assert_eq!(model.remove(0), ok(&[0]));
+    assert_eq!(model.at_rest(), ok(&[1]));
+    assert_eq!(*model, before);
+}
+
 #[test]
 fn checks_run_strictly_in_their_order() {
     // D-1: everything is wrong; repairing one check after another shows the next number, 23 after 7 and
@@ -208,14 +220,7 @@ fn on_the_empty_box_rows_variables_and_budgets_are_still_checked() {
     assert_eq!(model.probe(2, 0), Err(13));
     assert_eq!(model.probe(0, 0), Err(15));
     assert_eq!(model.propagate(0), Err(15));
-    let before = model.clone();
-    assert_eq!(model.propagate_row(0), ok(&[0]));
-    assert_eq!(model.propagate(3), ok(&[0, 1]));
-    assert_eq!(model.probe(0, 3), ok(&[0]));
-    assert_eq!(model.tighten(0, 0), ok(&[0]));
-    assert_eq!(model.remove(0), ok(&[0]));
-    assert_eq!(model.at_rest(), ok(&[1]));
-    assert_eq!(model, before);
+    answers_on_the_empty_box(&mut model);
     model.coefs[0] = -1_000_001;
     assert_eq!(model.at_rest(), Err(8));
 }
@@ -543,15 +548,7 @@ fn an_equality_row_is_not_tightened() {
 
 #[test]
 fn the_empty_box_with_an_equality_row() {
-    let mut model = empty_box().with_equal(&[0]);
-    let before = model.clone();
-    assert_eq!(model.propagate_row(0), ok(&[0]));
-    assert_eq!(model.propagate(3), ok(&[0, 1]));
-    assert_eq!(model.probe(0, 3), ok(&[0]));
-    assert_eq!(model.tighten(0, 0), ok(&[0]));
-    assert_eq!(model.remove(0), ok(&[0]));
-    assert_eq!(model.at_rest(), ok(&[1]));
-    assert_eq!(model, before);
+    answers_on_the_empty_box(&mut empty_box().with_equal(&[0]));
 }
 
 #[test]
