@@ -33,7 +33,8 @@ fn single(lent: Lent, operation: Operation) -> Case {
 pub fn case(seed: u64, number: u64) -> Case {
     let mut rng = Rng::for_case(seed, number);
     match number % 10 {
-        0..5 => session(&mut rng),
+        0..4 => session(&mut rng),
+        4 => tied(&mut rng),
         5 => book(&mut rng),
         6 => around_the_widest(&mut rng),
         _ => damaged(&mut rng),
@@ -58,6 +59,26 @@ fn session(rng: &mut Rng) -> Case {
     let steps = (0..count)
         .map(|_| Step { afresh: rng.chance(50), operation: operation(rng, &lent) })
         .collect();
+    Case { lent, steps, returns: None }
+}
+
+/// Ties and what leads to them: probes, which fill the table, and ties of any two variables.
+fn tied(rng: &mut Rng) -> Case {
+    let mut lent = models::tied(rng);
+    lent.calls = call_list(rng, &lent);
+    if rng.chance(5) {
+        lent.bounds = [1, 0].repeat(lent.n);
+    }
+    let probes = if rng.chance(80) { lent.n as u32 } else { 0 };
+    let probed = (0..probes).map(|variable| Operation::Probe { variable, budget: 1_000 });
+    let mut operations: Vec<Operation> = probed.collect();
+    for _ in 0..rng.between(3, 12) {
+        operations.push(match rng.between(0, 9) {
+            0 => operation(rng, &lent),
+            _ => Operation::Tie { k: variable(rng, &lent), j: variable(rng, &lent) },
+        });
+    }
+    let steps = operations.into_iter().map(|operation| Step { afresh: false, operation }).collect();
     Case { lent, steps, returns: None }
 }
 
@@ -208,6 +229,9 @@ fn damaged(rng: &mut Rng) -> Case {
     };
     let (row, variable, budget) = (rng.index(lent.m) as u32, 0, rng.pick(&[1, MAX_BUDGET]));
     let mut operation = rng.pick(&Operation::each(row, variable, budget, 1));
+    if let Operation::Tie { j, .. } = &mut operation {
+        *j = rng.index(lent.n) as u32;
+    }
     lent.calls = call_list(rng, &lent);
     match operation {
         Operation::BookTrailer | Operation::PlanLengths => trailer_only(&mut lent),
