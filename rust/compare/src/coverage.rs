@@ -109,7 +109,7 @@ impl Coverage {
         };
         let Err(reasons) = tied.reasons(k, j) else {
             let place = after.ties[j];
-            self.met(equal, place % 2 == 0);
+            self.met(equal, place.is_multiple_of(2));
             self.met(opposite, place % 2 == 1);
             self.met(both, byte(0, 0) && byte(1, 1) && byte(0, 1) && byte(1, 0));
             self.met(chain, before.ties.iter().any(|&p| p > 0 && usize::from(p - 1) / 2 == j));
