@@ -1,4 +1,5 @@
--- Laws of rows whose numbers are within their limits: where a row lies, and that it is one, also when the rows before it are done.
+-- Laws of rows whose numbers are within their limits: those of a valid model are; where a row lies, and that it is one, also when
+-- the rows before it are done.
 use Prim.Native.Nat.{_*_, _+_, _-_, _<_, _≤_, ℕ}
 use lib.IntN.{pos, ℤ}
 use lib.ListN.{drop, length, length-drop, length-replicate, replicate, take}
@@ -11,12 +12,25 @@ use Rattle.integer.specs.Range.{Within}
 use Rattle.integer.proofs.IndexLaws.{getD-all}
 use Rattle.integer.proofs.RangeLaws.{within-lit}
 use Rattle.model.specs.Box.{at}
+use Rattle.model.specs.Limits.{maxCoef, minCoef}
+use Rattle.model.specs.Model.{Model}
 use Rattle.model.specs.Rows.{Rows, rowOf, rowsOf, setRow, splice}
+use Rattle.model.specs.Valid.{ValidModel}
 use Rattle.model.proofs.RowsLaws.{at-rowOf, length-rowOf}
+use Rattle.row.proofs.RowLoops.{rhs-within, within-between}
 use Rattle.row_view.proofs.PartLaws.{row-changed-kept}
 use Rattle.ties.specs.TiedRow.{tieCoefsTo, tieRhsTo, tieRowsTo}
 use Rattle.ties.proofs.TiedRowsLaws.{coefs-still, rhs-still, tieRows-lengths}
 use Rattle.tied_row.specs.SmallRow.{SmallRow, SmallRows}
+
+-- the rows of a model that passed the checks
+pub valid-small : {M : Model} → ValidModel M → SmallRows (M .n) (M .m) (M .rows .coefs) (M .rows .rhs)
+valid-small v = record {
+  coefsLen = v .coefsLen;
+  rhsLen = v .rhsLen;
+  coefs = λ i. within-between {l = minCoef} {u = maxCoef} (within-lit tt) (within-lit tt) (v .coefs i .above) (v .coefs i .below);
+  rhs = λ i. rhs-within (v .rhs i);
+}
 
 pub tied-lengths : {n m : ℕ} {C R : List ℤ} → SmallRows n m C R → (k j w i : ℕ) → i ≤ m
     → (length (tieCoefsTo i n k j w C) ≡ m * n) × (length (tieRhsTo i n j w C R) ≡ m)
