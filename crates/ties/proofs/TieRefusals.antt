@@ -1,26 +1,20 @@
 -- Demand 1 for the tie call: its checks stand in the order of their places, so the first that fails is the one with the least place.
-use Prim.Native.Nat.{_*_, _+_, _/_, _<_, ℕ}
-use lib.Dec.{T, eqb, eqb→eq, leb, ltb}
-use lib.IntN.{ℤ}
+use Prim.Native.Nat.{_*_, ℕ}
+use lib.Dec.{T, eqb, eqb→eq}
 use lib.ListN.{length}
-use lib.Signed.{_≤ℤ_, leZ}
-use mathlib.Core.Bool.{_&&_, _||_}
-use mathlib.Core.List.{List, [], _∷_}
+use mathlib.Core.Bool.{_&&_}
 use mathlib.Core.Logic.{Iff·trans, _↔_}
 use mathlib.Core.Path.{_≡_, ap, refl, subst, sym}
-use native.Mathlib.Decide.{decLt, ℕ-discrete}
-use native.Mathlib.Omega.{arith}
-use Rattle.integer.proofs.IndexLaws.{all-test}
-use Rattle.integer.proofs.Tests.{cond-ind, eqb-test, le-test, ltb-test, neqb→ne, or-test}
-use Rattle.model.specs.Box.{isEmpty, lower, upper}
-use Rattle.model.specs.Checks.{Check, bits, boxChecks, first, inRange, lengthChecks, modelChecks, must, narrow, numberChecks, ordered, sizeChecks, tableByteChecks, tableLengthChecks}
-use Rattle.model.specs.Limits.{maxBound, maxCoef, maxRhs, maxRows, maxVariables, minBound, minCoef, minRhs}
+use Rattle.integer.proofs.Tests.{cond-ind, eqb-test, ltb-test, neqb→ne, or-test}
+use Rattle.model.specs.Box.{isEmpty}
+use Rattle.model.specs.Checks.{boxChecks, first, lengthChecks, modelChecks, numberChecks, ordered, sizeChecks, tableByteChecks, tableLengthChecks}
+use Rattle.model.specs.Limits.{maxBound, maxCoef, maxRhs, minBound, minCoef, minRhs}
 use Rattle.model.specs.Places.{place}
 use Rattle.model.proofs.BoxLaws.{isEmpty-test}
 use Rattle.model.proofs.CheckLaws.{bits-test, inRange-test, length-test, narrow-test, numbered, size-test}
 use Rattle.model.proofs.PlaceLaws.{AllPass, placedFrom}
 use Rattle.semantics.proofs.Demand1.{all-pass, also, none-passes, number-iff, order-test}
-use Rattle.ties.specs.TieCall.{TieAnswer, TieCall, TiePerformed, canTie, givenModelTie, isLentTie, performTie, placesFit, refused, says, tie, tieChecks, tieFault, tieOwnChecks, tieWith}
+use Rattle.ties.specs.TieCall.{TieAnswer, TieCall, TiePerformed, canTie, givenModelTie, isLentTie, performTie, refused, says, tie, tieChecks, tieFault, tieOwnChecks, tieWith}
 use Rattle.ties.specs.TieRefusals.{Demand1Tie, TieLengthsFit, TiePasses, isRefusedTie}
 use Rattle.ties.specs.Ties.{TiedState}
 use Rattle.ties.proofs.TieAccepted.{lent-tie-test, places-below}
