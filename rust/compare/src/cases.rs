@@ -64,7 +64,7 @@ fn session(rng: &mut Rng) -> Case {
 
 /// Ties and what leads to them: probes, which fill the table, and ties of any two variables.
 fn tied(rng: &mut Rng) -> Case {
-    let mut lent = models::tied(rng);
+    let (mut lent, pairs) = models::tied(rng);
     lent.calls = call_list(rng, &lent);
     if rng.chance(5) {
         lent.bounds = [1, 0].repeat(lent.n);
@@ -75,7 +75,11 @@ fn tied(rng: &mut Rng) -> Case {
     for _ in 0..rng.between(3, 12) {
         operations.push(match rng.between(0, 9) {
             0 => operation(rng, &lent),
-            _ => Operation::Tie { k: variable(rng, &lent), j: variable(rng, &lent) },
+            1..6 => Operation::Tie { k: variable(rng, &lent), j: variable(rng, &lent) },
+            _ => {
+                let [k, j] = rng.pick(&pairs);
+                Operation::Tie { k, j }
+            }
         });
     }
     let steps = operations.into_iter().map(|operation| Step { afresh: false, operation }).collect();
