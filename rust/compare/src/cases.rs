@@ -69,7 +69,9 @@ fn tied(rng: &mut Rng) -> Case {
     if rng.chance(5) {
         lent.bounds = [1, 0].repeat(lent.n);
     }
-    let probes = if rng.chance(80) { lent.n as u32 } else { 0 };
+    // A table from elsewhere says something already.
+    let said = lent.table.contains(&1);
+    let probes = if rng.chance(if said { 20 } else { 95 }) { lent.n as u32 } else { 0 };
     let probed = (0..probes).map(|variable| Operation::Probe { variable, budget: 1_000 });
     let mut operations: Vec<Operation> = probed.collect();
     for _ in 0..rng.between(3, 12) {

@@ -259,7 +259,7 @@ pub fn tied(rng: &mut Rng) -> (Lent, Vec<[u32; 2]>) {
     let bounds = mixed_box(rng, n, 97);
     let mut lent = rows(rng, bounds, m, 75, coef);
     if m > 0 && rng.chance(20) {
-        lent.rhs[rng.index(m)] = rng.pick(&[-MAX_RHS, MAX_RHS]);
+        lent.rhs[rng.index(m)] = rng.pick(&[-MAX_RHS, MAX_RHS, MAX_RHS, MAX_RHS]);
     }
     lent = lent.with_table();
     let foreign = rng.chance(50);
