@@ -101,7 +101,7 @@ const LONGEST: i64 = 20_000_000;
 fn operation(rng: &mut Rng, lent: &Lent) -> Operation {
     let crawls_long = longest_crawl(lent) > LONGEST;
     let largest = lent.n * lent.m > 5_000;
-    let (row, variable) = (row(rng, lent), variable(rng, lent));
+    let (row, other, variable) = (row(rng, lent), variable(rng, lent), variable(rng, lent));
     let budget = if crawls_long { budget(rng).min(1_000) } else { budget(rng) };
     match rng.between(0, 16) {
         0..3 => Operation::PropagateRow { row },
@@ -113,6 +113,7 @@ fn operation(rng: &mut Rng, lent: &Lent) -> Operation {
         13 if largest => Operation::Rounds { limit: rng.pick(&[0, 1]) },
         13 => Operation::Rounds { limit: rng.pick(&[0, 1, 2, 3, 8, 100]) },
         14 => rng.pick(&[Operation::PlanWidth, Operation::PlanRun]),
+        15 => Operation::Tie { k: variable, j: other },
         _ => Operation::Run,
     }
 }
