@@ -3,9 +3,9 @@ use Prim.Native.Nat.{_*_, _<_, _≤_, ℕ}
 use lib.Dec.{T, eqb, leb}
 use lib.ListN.{getD, length}
 use mathlib.Core.Bool.{_&&_}
-use mathlib.Core.List.{List, [], _++_, _∷_}
+use mathlib.Core.List.{List, [], _∷_}
 use mathlib.Core.Logic.{_↔_}
-use mathlib.Core.Path.{_≡_, subst}
+use mathlib.Core.Path.{_≡_}
 use native.Mathlib.Omega.{arith}
 use Rattle.integer.proofs.IndexLaws.{all-test, getD-all}
 use Rattle.integer.proofs.Tests.{all-three, eqb-test, leb-test, ltb-test}

@@ -1,25 +1,20 @@
 -- Demand 1 for the tie call: its checks stand in the order of their places, so the first that fails is the one with the least place.
-use Prim.Native.Nat.{_*_, _+_, _/_, _<_, ℕ}
-use lib.Dec.{T, eqb, eqb→eq, leb, ltb}
-use lib.IntN.{ℤ}
+use Prim.Native.Nat.{_*_, ℕ}
+use lib.Dec.{T, eqb, eqb→eq}
 use lib.ListN.{length}
-use lib.Signed.{_≤ℤ_, leZ}
-use mathlib.Core.Bool.{_&&_, _||_}
-use mathlib.Core.List.{List, [], _∷_}
+use mathlib.Core.Bool.{_&&_}
 use mathlib.Core.Logic.{Iff·trans, _↔_}
 use mathlib.Core.Path.{_≡_, ap, refl, subst, sym}
-use native.Mathlib.Decide.{decLt, ℕ-discrete}
-use native.Mathlib.Omega.{arith}
-use Rattle.integer.proofs.IndexLaws.{all-test}
-use Rattle.integer.proofs.Tests.{cond-ind, eqb-test, le-test, ltb-test, neqb→ne, or-test}
-use Rattle.model.specs.Box.{isEmpty, lower, upper}
-use Rattle.model.specs.Checks.{Check, bits, boxChecks, first, inRange, lengthChecks, modelChecks, must, narrow, numberChecks, ordered, sizeChecks, tableByteChecks, tableLengthChecks}
-use Rattle.model.specs.Limits.{maxBound, maxCoef, maxRhs, maxRows, maxVariables, minBound, minCoef, minRhs}
+use Rattle.integer.proofs.Tests.{cond-ind, eqb-test, ltb-test, neqb→ne, or-test}
+use Rattle.model.specs.Box.{isEmpty}
+use Rattle.model.specs.Checks.{boxChecks, first, lengthChecks, modelChecks, numberChecks, ordered, sizeChecks, tableByteChecks, tableLengthChecks}
+use Rattle.model.specs.Limits.{maxBound, maxCoef, maxRhs, minBound, minCoef, minRhs}
 use Rattle.model.specs.Places.{place}
 use Rattle.model.proofs.BoxLaws.{isEmpty-test}
-use Rattle.model.proofs.CheckLaws.{bits-test, first-none, inRange-test, length-test, narrow-test, size-test}
-use Rattle.model.proofs.PlaceLaws.{AllPass, first-before, first-fails, hold-pass, place-injective}
-use Rattle.ties.specs.TieCall.{TieAnswer, TieCall, TiePerformed, canTie, givenModelTie, isLentTie, performTie, placesFit, refused, says, tie, tieChecks, tieFault, tieOwnChecks, tieWith}
+use Rattle.model.proofs.CheckLaws.{bits-test, inRange-test, length-test, narrow-test, numbered, size-test}
+use Rattle.model.proofs.PlaceLaws.{AllPass, placedFrom}
+use Rattle.semantics.proofs.Demand1.{all-pass, also, none-passes, number-iff, order-test}
+use Rattle.ties.specs.TieCall.{TieAnswer, TieCall, TiePerformed, canTie, givenModelTie, isLentTie, performTie, refused, says, tie, tieChecks, tieFault, tieOwnChecks, tieWith}
 use Rattle.ties.specs.TieRefusals.{Demand1Tie, TieLengthsFit, TiePasses, isRefusedTie}
 use Rattle.ties.specs.Ties.{TiedState}
 use Rattle.ties.proofs.TieAccepted.{lent-tie-test, places-below}
@@ -63,15 +58,6 @@ lengths-test s c =
       )),
     )
 
-order-test : (B : List ℤ) → T (ordered B) ↔ ((j : ℕ) → 2 * j + 1 < length B → lower B j ≤ℤ upper B j)
-unfolding ordered
-order-test B =
-    let d = all-test (length B / 2) (λ j. leZ (lower B j) (upper B j)) (λ j. le-test (lower B j) (upper B j)) in
-    ((λ t j h. d .0 t j (omega arith)), (λ f. d .1 (λ j h. f j (omega arith))))
-
-also : {A B : Type 0} → A → B → A × B
-also a b = (a, b)
-
 passes-test : (N : ℕ) (s : TiedState) (c : TieCall) → AllPass N (tieChecks s c) ↔ TiePasses N s c
 unfolding tieChecks givenModelTie modelChecks sizeChecks lengthChecks tableLengthChecks boxChecks numberChecks tableByteChecks tieOwnChecks
 passes-test N s c =
@@ -108,40 +94,14 @@ passes-test N s c =
           (also (λ e. tk .1 (q .check13 e .0)) (also (λ e. tj .1 (q .check13 e .1)) tt)))))))))))))),
     )
 
--- ---- the number of the first check that fails
-
 module _ (s : TiedState) (c : TieCall) where
-  none-passes : tieFault s c ≡ 0 → (N : ℕ) → TiePasses N s c
-  unfolding tieFault tieChecks modelChecks sizeChecks lengthChecks tableLengthChecks boxChecks numberChecks tableByteChecks tieOwnChecks
-  none-passes e N = passes-test N s c .0 (hold-pass N (tieChecks s c) (first-none (tieChecks s c) tt .0 e))
+  some : T (numbered (tieChecks s c))
+  unfolding tieChecks modelChecks sizeChecks lengthChecks tableLengthChecks boxChecks numberChecks tableByteChecks tieOwnChecks
+  some = tt
 
-  before-passes : (N : ℕ) → place N < place (tieFault s c) → TiePasses N s c
-  unfolding tieFault tieChecks modelChecks sizeChecks lengthChecks tableLengthChecks boxChecks numberChecks tableByteChecks tieOwnChecks place
-  before-passes N h = passes-test N s c .0 (first-before N 0 (tieChecks s c) tt h)
-
-  fault-fails : (tieFault s c ≡ 0 → ⊥) → TiePasses (tieFault s c) s c → ⊥
-  unfolding tieFault
-  fault-fails n p = first-fails (tieChecks s c) n (passes-test (tieFault s c) s c .1 p)
-
-  all-pass : ((N : ℕ) → TiePasses N s c) → tieFault s c ≡ 0
-  all-pass f = decided (ℕ-discrete (tieFault s c) 0)
-    where
-      decided : Dec (tieFault s c ≡ 0) → tieFault s c ≡ 0
-      decided (yes e) = e
-      decided (no n) = absurd (fault-fails n (f (tieFault s c)))
-
-  number-iff : (N : ℕ) → ((tieFault s c ≡ N) × (tieFault s c ≡ 0 → ⊥)) ↔ ((TiePasses N s c → ⊥) × ((M : ℕ) → place M < place N → TiePasses M s c))
-  number-iff N = (
-    (λ h. ((λ p. fault-fails (h .1) (rw (h .0) p)), (λ M l. before-passes M (omega (arith, ap place (h .0)))))),
-    (λ h. let n : tieFault s c ≡ 0 → ⊥ = (λ e. h .0 (none-passes e N)) in
-        (least h n (decLt (place (tieFault s c)) (place N)) (decLt (place N) (place (tieFault s c))), n)),
-  )
-    where
-      least : (TiePasses N s c → ⊥) × ((M : ℕ) → place M < place N → TiePasses M s c) → (tieFault s c ≡ 0 → ⊥)
-          → Dec (place (tieFault s c) < place N) → Dec (place N < place (tieFault s c)) → tieFault s c ≡ N
-      least h n (yes l) d = absurd (fault-fails n (h .1 (tieFault s c) l))
-      least h n (no l) (yes g) = absurd (h .0 (before-passes N g))
-      least h n (no l) (no g) = place-injective (tieFault s c) N (omega arith)
+  placed : T (placedFrom 0 (tieChecks s c))
+  unfolding tieChecks modelChecks sizeChecks lengthChecks tableLengthChecks boxChecks numberChecks tableByteChecks tieOwnChecks place
+  placed = tt
 
   -- ---- the answer
 
@@ -177,10 +137,12 @@ module _ (s : TiedState) (c : TieCall) where
       (λ z t. absurd (tie-answers t)) (λ _ _. refl)
 
 pub demand-1-tie : Demand1Tie
-unfolding Demand1Tie
-demand-1-tie s c = record {
-  first = λ N. Iff·trans (refused-iff s c N) (number-iff s c N);
-  accepted = (none-passes s c, all-pass s c);
-  answered = answered-iff s c;
-  kept = refused-keeps s c;
-}
+unfolding Demand1Tie tieFault
+demand-1-tie s c =
+    let t : (N : ℕ) → AllPass N (tieChecks s c) ↔ TiePasses N s c = (λ N. passes-test N s c) in
+    record {
+      first = λ N. Iff·trans (refused-iff s c N) (number-iff (tieChecks s c) (λ N. TiePasses N s c) t (some s c) (placed s c) N);
+      accepted = (none-passes (tieChecks s c) (λ N. TiePasses N s c) t (some s c) (placed s c), all-pass (tieChecks s c) (λ N. TiePasses N s c) t (some s c) (placed s c));
+      answered = answered-iff s c;
+      kept = refused-keeps s c;
+    }

@@ -1,15 +1,14 @@
 -- What the code of the tie call needs: its checks one after the other, its value w, and the two ways in which it ends.
 use Prim.Native.Nat.{ℕ}
-use lib.Dec.{T, eqb}
+use lib.Dec.{eqb}
 use lib.ListN.{length, set}
 use lib.IntN.{ℤ}
 use mathlib.Core.Bool.{Bool, cond, false, true}
 use mathlib.Core.List.{List}
-use mathlib.Core.Path.{_∙_, _≡_, ap, refl, sym}
+use mathlib.Core.Path.{_∙_, _≡_, refl, sym}
 use Rattle.integer.proofs.Tests.{bool-ext, eqb-test, test-false, test-true}
 use Rattle.model.specs.Checks.{first, modelFault, table}
-use Rattle.model.specs.Model.{modelOf}
-use Rattle.model.specs.Rows.{Rows, rowsOf}
+use Rattle.model.specs.Rows.{rowsOf}
 use Rattle.model.specs.State.{stateOf}
 use Rattle.model.proofs.CheckLaws.{first-append}
 use Rattle.semantics.specs.Call.{lengthsOf}

@@ -10,7 +10,7 @@ use Rattle.integer.specs.Index.{all}
 use Rattle.model.specs.Box.{at}
 use Rattle.model.specs.Limits.{maxCoef, maxRhs, minCoef, minRhs}
 use Rattle.model.specs.Model.{Model}
-use Rattle.model.specs.Rows.{Row, Rows, rowAt, rowOf, splice}
+use Rattle.model.specs.Rows.{Row, Rows, rowOf, splice}
 use Rattle.model.specs.State.{State}
 
 -- the coefficient of k: a_k + a_j, or a_k − a_j

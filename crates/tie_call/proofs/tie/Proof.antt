@@ -1,9 +1,8 @@
 -- `tie_call::tie` is `performTie`: refused by the call's number; the same where the table says nothing or something is in the way;
 -- else the rows with j put as k or as 1 − k, and its place. Assumes nothing.
-use Prim.Native.Nat.{_<_, ℕ}
+use Prim.Native.Nat.{_<_}
 use borrow.Author.Needs.{needs}
 use lib.ListN.{length}
-use mathlib.Core.Bool.{false, true}
 use mathlib.Core.Path.{_∙_, _≡_, sym}
 use native.Mathlib.Omega.{arith}
 use Rattle.integer.proofs.Tests.{told-false, told-true}

@@ -3,11 +3,11 @@ use Prim.Native.Nat.{ℕ}
 use borrow.Author.Needs.{needs}
 use lib.Dec.{eqb, ltb}
 use lib.ListN.{length}
-use mathlib.Core.Bool.{false, true}
+use mathlib.Core.Bool.{true}
 use mathlib.Core.Path.{_∙_, _≡_, sym}
 use native.Mathlib.Omega.{arith}
 use Rattle.integer.proofs.Tests.{ltb-test, test-false, test-true, told-false, told-true}
-use Rattle.model.specs.Checks.{first, modelFault, must, table}
+use Rattle.model.specs.Checks.{first, modelFault, table}
 use Rattle.model.specs.Model.{modelOf}
 use Rattle.model.specs.Rows.{rowsOf}
 use Rattle.model.specs.State.{stateOf}
