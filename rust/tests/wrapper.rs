@@ -189,20 +189,21 @@ fn integer_points(model: &Model) -> Vec<Vec<i32>> {
 fn ties_say_what_the_calls_say_and_solutions_are_read_back() {
     let mut rng = Rng::new(SEED);
     let (mut tied, mut chains) = (0, 0);
-    for _ in 0..3_000 {
+    for _ in 0..10_000 {
         let mut lent = loop {
             // Probes alone fill the table, and no list is from elsewhere.
-            let lent = models::tied(&mut rng).with_table();
+            let lent = models::tied(&mut rng).0.with_table();
             if lent.bounds.chunks(2).map(|pair| pair[1] - pair[0] + 1).product::<i32>() <= 256 {
                 break lent;
             }
         };
         let (mut model, mut ties) = (wrapped(&lent), Ties::new(lent.n));
         let points = integer_points(&model);
-        for step in 0..2 * lent.n + 8 {
-            let (k, j) = (rng.index(lent.n + 1) as u32, rng.index(lent.n) as u32);
-            let probe = Operation::Probe { variable: step as u32, budget: 1_000 };
-            let operation = if step < lent.n { probe } else { Operation::Tie { k, j } };
+        let n = lent.n as u32;
+        let probes = (0..n).map(|variable| Operation::Probe { variable, budget: 1_000 });
+        let mut any = || rng.index(lent.n + 1) as u32;
+        let pairs: Vec<_> = (0..40).map(|_| Operation::Tie { k: any(), j: any() }).collect();
+        for operation in probes.chain(pairs) {
             assert_eq!(
                 call(&mut model, &mut ties, operation, &[]),
                 expected(&mut lent, operation),

@@ -64,18 +64,24 @@ fn session(rng: &mut Rng) -> Case {
 
 /// Ties and what leads to them: probes, which fill the table, and ties of any two variables.
 fn tied(rng: &mut Rng) -> Case {
-    let mut lent = models::tied(rng);
+    let (mut lent, pairs) = models::tied(rng);
     lent.calls = call_list(rng, &lent);
     if rng.chance(5) {
         lent.bounds = [1, 0].repeat(lent.n);
     }
-    let probes = if rng.chance(80) { lent.n as u32 } else { 0 };
+    // A table from elsewhere says something already.
+    let said = lent.table.contains(&1);
+    let probes = if rng.chance(if said { 20 } else { 95 }) { lent.n as u32 } else { 0 };
     let probed = (0..probes).map(|variable| Operation::Probe { variable, budget: 1_000 });
     let mut operations: Vec<Operation> = probed.collect();
     for _ in 0..rng.between(3, 12) {
         operations.push(match rng.between(0, 9) {
             0 => operation(rng, &lent),
-            _ => Operation::Tie { k: variable(rng, &lent), j: variable(rng, &lent) },
+            1..6 => Operation::Tie { k: variable(rng, &lent), j: variable(rng, &lent) },
+            _ => {
+                let [k, j] = rng.pick(&pairs);
+                Operation::Tie { k, j }
+            }
         });
     }
     let steps = operations.into_iter().map(|operation| Step { afresh: false, operation }).collect();
@@ -95,7 +101,7 @@ const LONGEST: i64 = 20_000_000;
 fn operation(rng: &mut Rng, lent: &Lent) -> Operation {
     let crawls_long = longest_crawl(lent) > LONGEST;
     let largest = lent.n * lent.m > 5_000;
-    let (row, variable) = (row(rng, lent), variable(rng, lent));
+    let (row, other, variable) = (row(rng, lent), variable(rng, lent), variable(rng, lent));
     let budget = if crawls_long { budget(rng).min(1_000) } else { budget(rng) };
     match rng.between(0, 16) {
         0..3 => Operation::PropagateRow { row },
@@ -107,6 +113,7 @@ fn operation(rng: &mut Rng, lent: &Lent) -> Operation {
         13 if largest => Operation::Rounds { limit: rng.pick(&[0, 1]) },
         13 => Operation::Rounds { limit: rng.pick(&[0, 1, 2, 3, 8, 100]) },
         14 => rng.pick(&[Operation::PlanWidth, Operation::PlanRun]),
+        15 => Operation::Tie { k: variable, j: other },
         _ => Operation::Run,
     }
 }

@@ -252,19 +252,21 @@ fn least_rhs(rng: &mut Rng) -> Lent {
 
 /// Two to six variables, most of them free binary, some pairs of which are equal or opposite (02, C-19). With a
 /// table all 0, for probes to fill, or one from elsewhere that says ties; now and then with a tie list from
-/// elsewhere.
-pub fn tied(rng: &mut Rng) -> Lent {
+/// elsewhere. The pairs stand beside it.
+pub fn tied(rng: &mut Rng) -> (Lent, Vec<[u32; 2]>) {
     let (n, m) = (rng.between(2, 6) as usize, rng.between(0, 3) as usize);
     let coef = rng.pick(&[1, 4, MAX_COEF]);
     let bounds = mixed_box(rng, n, 97);
     let mut lent = rows(rng, bounds, m, 75, coef);
     if m > 0 && rng.chance(20) {
-        lent.rhs[rng.index(m)] = rng.pick(&[-MAX_RHS, MAX_RHS]);
+        lent.rhs[rng.index(m)] = rng.pick(&[-MAX_RHS, MAX_RHS, MAX_RHS, MAX_RHS]);
     }
     lent = lent.with_table();
     let foreign = rng.chance(50);
+    let mut pairs = vec![];
     for _ in 0..rng.between(1, 4) {
         let (k, j, w) = (rng.index(n), rng.index(n), rng.index(2));
+        pairs.extend([[k, j], [j, k]].map(|pair| pair.map(|variable| variable as u32)));
         if foreign {
             say(rng, &mut lent, k, j, w);
         } else {
@@ -275,7 +277,7 @@ pub fn tied(rng: &mut Rng) -> Lent {
         let most = 2 * n as i64;
         lent.ties.fill_with(|| if rng.chance(25) { rng.between(0, most) as u16 } else { 0 });
     }
-    lent
+    (lent, pairs)
 }
 
 /// Records that j is k (w = 0) or 1 − k (w = 1): both, or at times a half of it or the other value too.
