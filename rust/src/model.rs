@@ -524,8 +524,8 @@ impl Model {
     /// model filled, and the list as they left it, the integer points that meet the ties too stay exactly what they
     /// were. The bounds of j stay 0 and 1: [`Ties::expand`] writes its value.
     ///
-    /// Unchanged where the implications do not say so (both say: j is taken as k), where k is j, where either is not
-    /// free binary or replaced already, and where a coefficient or right-hand side would leave its limits. Make ties
+    /// Where they say both, j is taken as k. Unchanged where they say neither, where k is j, where either is not free
+    /// binary or is replaced already, and where a coefficient or right-hand side would leave its limits. Make ties
     /// before two branches part, and give each branch its copy of the list.
     ///
     /// ```
