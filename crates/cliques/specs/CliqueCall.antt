@@ -1,0 +1,36 @@
+-- The call that writes the clique rows: its checks, its answer, and the lent list afterwards.
+use Prim.Native.Nat.{_*_, ℕ}
+use lib.Dec.{eqb}
+use lib.IntN.{ℤ}
+use lib.ListN.{length}
+use mathlib.Core.Bool.{Bool, _&&_, cond}
+use mathlib.Core.List.{List, _++_, _∷_}
+use Rattle.model.specs.Checks.{Check, first, must, sizeChecks, table, tableByteChecks, tableLengthChecks}
+use Rattle.cliques.specs.Cliques.{cliqueRows}
+
+-- "a lent list of 2n rows": the lengths of its coefficients and of its right sides
+unfoldable pub listFits : ℕ → List ℤ → List ℤ → Bool
+listFits n C R = eqb (length C) (2 * n * n) && eqb (length R) (2 * n)
+
+-- 3 of n alone: there is no m, and no rows are not too many. 5 of the table, of the lent list, and of whatever else is lent, which
+-- `fits` where it has its length. Then 10 of the table's bytes.
+unfoldable pub cliqueChecks : ℕ → List ℕ → List ℤ → List ℤ → (fits : Bool) → List Check
+cliqueChecks n t C R fits =
+    sizeChecks n 0 ++ (tableLengthChecks n (table t) ++ (must (listFits n C R) 5 ∷ must fits 5 ∷ tableByteChecks (table t)))
+
+-- refused by a check's number; or so many rows written
+pub data CliqueAnswer : Type 0 where
+  refused : ℕ → CliqueAnswer
+  written : ℕ → CliqueAnswer
+
+-- the answer, and the lent list
+pub record CliquesPerformed : Type 0 where
+  pub answer : CliqueAnswer
+  pub coefs : List ℤ
+  pub rhs : List ℤ
+
+unfoldable pub performCliques : ℕ → List ℕ → List ℤ → List ℤ → (fits : Bool) → CliquesPerformed
+performCliques n t C R fits =
+    let fault = first (cliqueChecks n t C R fits) in
+    let r = cliqueRows n t in
+    cond (eqb fault 0) (record { answer = written (r .number); coefs = r .coefs; rhs = r .rhs }) (record { answer = refused fault; coefs = C; rhs = R })
