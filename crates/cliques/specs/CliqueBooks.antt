@@ -2,7 +2,6 @@
 use Prim.Native.Nat.{_*_, _-_, ℕ}
 use lib.IntN.{negsuc, pos, ℤ}
 use lib.ListN.{replicate, set}
-use mathlib.Core.Bool.{false, true}
 use mathlib.Core.List.{List, [], _++_, _∷_}
 use mathlib.Core.Path.{_≡_}
 use Rattle.model.specs.Point.{RowHolds}
@@ -54,13 +53,13 @@ cliqueBooks =
     (padded 3 4 (negsuc 0 ∷ negsuc 0 ∷ negsuc 0 ∷ pos 1 ∷ negsuc 0 ∷ negsuc 0 ∷ negsuc 0 ∷ pos 1 ∷ negsuc 0 ∷ negsuc 0 ∷ negsuc 0 ∷ pos 1 ∷ [])
     (negsuc 1 ∷ negsuc 0 ∷ negsuc 0 ∷ negsuc 0 ∷ []))
     -- the lent list is written whole
-    ∷ is (performCliques 1 (unjoined 1) (sevens 2) (sevens 2) true) (record { answer = written 0; coefs = replicate 2 (pos 0); rhs = replicate 2 (pos 0) })
-    -- 3 no variable, before 5; 5 the table, the list, the answer, before 10; 10 a byte that is neither 0 nor 1
-    ∷ is (performCliques 0 (unjoined 1) (sevens 2) (sevens 2) true) (refusedBy 3)
-    ∷ is (performCliques 1 (2 ∷ []) (sevens 2) (sevens 2) true) (refusedBy 5)
-    ∷ is (performCliques 1 (2 ∷ 0 ∷ 0 ∷ 0 ∷ []) (sevens 2) (sevens 2) false) (refusedBy 5)
-    ∷ is (performCliques 1 (0 ∷ 0 ∷ 0 ∷ 2 ∷ []) (sevens 2) (sevens 2) true) (refusedBy 10)
-    ∷ is (performCliques 2 (unjoined 2) (sevens 2) (sevens 2) true) (refusedBy 5)
+    ∷ is (performCliques 1 (unjoined 1) (sevens 2) (sevens 2)) (record { answer = written 0; coefs = replicate 2 (pos 0); rhs = replicate 2 (pos 0) })
+    -- 3 no variable, before 5; 5 the table, the list, before 10; 10 a byte that is neither 0 nor 1
+    ∷ is (performCliques 0 (unjoined 1) (sevens 2) (sevens 2)) (refusedBy 3)
+    ∷ is (performCliques 1 (2 ∷ []) (sevens 2) (sevens 2)) (refusedBy 5)
+    ∷ is (performCliques 1 (2 ∷ 0 ∷ 0 ∷ 0 ∷ []) (sevens 2) (sevens 3)) (record { answer = refused 5; coefs = sevens 2; rhs = sevens 3 })
+    ∷ is (performCliques 1 (0 ∷ 0 ∷ 0 ∷ 2 ∷ []) (sevens 2) (sevens 2)) (refusedBy 10)
+    ∷ is (performCliques 2 (unjoined 2) (sevens 2) (sevens 2)) (refusedBy 5)
     ∷ []
 
 -- x0, x1 and x2 at 1 all joined, in a table that no call filled; at (2, 2, 2) each of its implications holds, as no first literal is

@@ -12,11 +12,9 @@ use Rattle.cliques.specs.Cliques.{cliqueRows}
 unfoldable pub listFits : ℕ → List ℤ → List ℤ → Bool
 listFits n C R = eqb (length C) (2 * n * n) && eqb (length R) (2 * n)
 
--- 3 of n alone: there is no m, and no rows are not too many. 5 of the table, of the lent list, and of whatever else is lent, which
--- `fits` where it has its length. Then 10 of the table's bytes.
-unfoldable pub cliqueChecks : ℕ → List ℕ → List ℤ → List ℤ → (fits : Bool) → List Check
-cliqueChecks n t C R fits =
-    sizeChecks n 0 ++ (tableLengthChecks n (table t) ++ (must (listFits n C R) 5 ∷ must fits 5 ∷ tableByteChecks (table t)))
+-- 3 of n alone: there is no m, and no rows are not too many. 5 of the table and of the lent list. Then 10 of the table's bytes.
+unfoldable pub cliqueChecks : ℕ → List ℕ → List ℤ → List ℤ → List Check
+cliqueChecks n t C R = sizeChecks n 0 ++ (tableLengthChecks n (table t) ++ (must (listFits n C R) 5 ∷ tableByteChecks (table t)))
 
 -- refused by a check's number; or so many rows written
 pub data CliqueAnswer : Type 0 where
@@ -29,8 +27,8 @@ pub record CliquesPerformed : Type 0 where
   pub coefs : List ℤ
   pub rhs : List ℤ
 
-unfoldable pub performCliques : ℕ → List ℕ → List ℤ → List ℤ → (fits : Bool) → CliquesPerformed
-performCliques n t C R fits =
-    let fault = first (cliqueChecks n t C R fits) in
+unfoldable pub performCliques : ℕ → List ℕ → List ℤ → List ℤ → CliquesPerformed
+performCliques n t C R =
+    let fault = first (cliqueChecks n t C R) in
     let r = cliqueRows n t in
     cond (eqb fault 0) (record { answer = written (r .number); coefs = r .coefs; rhs = r .rhs }) (record { answer = refused fault; coefs = C; rhs = R })
