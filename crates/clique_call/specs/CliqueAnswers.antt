@@ -8,7 +8,7 @@ use Rattle.clique_call.specs.declared.call.CliquesAnswer.{CliquesAnswer}
 use Rattle.clique_call.specs.declared.call.CliquesAnswer.the-variants as code
 
 -- so many rows in a list
-unfoldable pub listOf : ℕ → List ℤ → List ℤ → CliqueRows
+abbrev pub listOf : ℕ → List ℤ → List ℤ → CliqueRows
 listOf number C R = record { number = number; coefs = C; rhs = R }
 
 -- it is injective (`clique-answers-injective`)

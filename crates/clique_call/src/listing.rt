@@ -6,12 +6,12 @@ ghost use mathlib.Core.Bool.{_&&_, not};
 ghost use mathlib.Core.Path.{_≡_};
 ghost use Prim.Native.Nat.{_*_, _+_, _<_, _≤_};
 ghost use lib.Dec.{leb};
-ghost use lib.ListN.{length, replicate};
+ghost use lib.ListN.{length};
 ghost use Rattle.model.specs.Box.{sameList};
 ghost use Rattle.model.specs.Rows.{rowOf, splice};
 ghost use Rattle.row_change.specs.Redundancy.{zeroRow};
 ghost use Rattle.cliques.specs.Cliques.{cliqueRow, cliqueRows, cliquesTo, grow as grown, meantAtZero, rowsFor};
-ghost use Rattle.clique_grow.specs.Candidates.{LentTable};
+ghost use Rattle.clique_grow.specs.Candidates.{LentTable, allOnes};
 ghost use Rattle.clique_call.specs.Compared.{differs};
 ghost use Rattle.clique_call.specs.CliqueAnswers.{listOf};
 
@@ -38,7 +38,7 @@ fn zero_at(n: usize, coefs: &mut [i32], k: usize)
 
 // A flag for each literal: all are candidates.
 fn all_candidates() -> [u8; 256]
-    ensures { λ r. ⌜ r ≡ replicate 256 1 ⌝ }
+    ensures { λ r. ⌜ r ≡ allOnes ⌝ }
 {
     [1; 256]
 }

@@ -17,7 +17,7 @@ use Rattle.row_change.specs.Redundancy.{zeroRow}
 use Rattle.semantics.specs.Probe.{literal}
 use Rattle.cliques.specs.Cliques.{cliqueRow, coefOf, growTo, joined, joinedToAll, meantAtZero, opposite, says, valueOf, variableOf}
 use Rattle.cliques.proofs.CliqueLaws.{length-cliqueRow}
-use Rattle.clique_grow.specs.Candidates.{Candidates, LentTable, keptTo, still}
+use Rattle.clique_grow.specs.Candidates.{Candidates, LentTable, allOnes, keptTo, still}
 
 -- ---- the table
 
@@ -72,7 +72,7 @@ still-flag false true = refl
 still-flag false false = refl
 
 -- after q is taken, the candidates are those of the clique with q
-pub candidates-kept : {n : ℕ} {t c F : List ℕ} (q : ℕ) → n ≤ 128 → Candidates n t c F → Candidates n t (q ∷ c) (keptTo (2 * n) n t q F)
+candidates-kept : {n : ℕ} {t c F : List ℕ} (q : ℕ) → n ≤ 128 → Candidates n t c F → Candidates n t (q ∷ c) (keptTo (2 * n) n t q F)
 unfolding joinedToAll
 candidates-kept {n} {t} {c} {F} q h v = record {
   len = length-kept (2 * n) n t q F ∙ v .len;
@@ -86,10 +86,14 @@ getD-ones zero i h = absurd (let z : ⊥ = omega arith in z)
 getD-ones (suc m) zero h = refl
 getD-ones (suc m) (suc i) h = getD-ones m i (omega arith)
 
+pub length-ones : length allOnes ≡ 256
+unfolding allOnes
+length-ones = length-replicate {A = ℕ} 256 1
+
 -- before the first is taken, all are
-pub all-candidates : {n : ℕ} (t : List ℕ) → n ≤ 128 → Candidates n t [] (replicate 256 1)
-unfolding joinedToAll
-all-candidates t h = record { len = length-replicate {A = ℕ} 256 1; flags = λ q l. getD-ones 256 q (omega arith) }
+all-candidates : {n : ℕ} (t : List ℕ) → n ≤ 128 → Candidates n t [] allOnes
+unfolding joinedToAll allOnes
+all-candidates t h = record { len = length-ones; flags = λ q l. getD-ones 256 q (omega arith) }
 
 -- ---- the next literal
 
@@ -130,7 +134,7 @@ pub record GrownTo (n : ℕ) (t c F : List ℕ) (A : List ℤ) (size zeros : ℕ
   pub sizeIs : size ≡ length c
   pub zerosIs : zeros ≡ meantAtZero c
 
-pub grown-start : {n : ℕ} (t : List ℕ) (p : ℕ) {F F′ : List ℕ} {A A′ : List ℤ} → n ≤ 128 → F ≡ replicate 256 1 → A ≡ zeroRow n
+pub grown-start : {n : ℕ} (t : List ℕ) (p : ℕ) {F F′ : List ℕ} {A A′ : List ℤ} → n ≤ 128 → F ≡ allOnes → A ≡ zeroRow n
     → F′ ≡ keptTo (2 * n) n t p F → A′ ≡ set A (variableOf p) (coefOf p) → GrownTo n t (growTo 0 n t p) F′ A′ 1 (1 - valueOf p)
 unfolding growTo cliqueRow
 grown-start t p h e z f a = record {

@@ -1,7 +1,7 @@
 -- The candidates of a clique while it grows, a flag for each literal.
 use Prim.Native.Nat.{_*_, _<_, _≤_, suc, zero, ℕ}
 use lib.Dec.{eqb}
-use lib.ListN.{getD, length, set}
+use lib.ListN.{getD, length, replicate, set}
 use mathlib.Core.Bool.{Bool, cond}
 use mathlib.Core.List.{List}
 use mathlib.Core.Path.{_≡_}
@@ -11,6 +11,10 @@ use Rattle.cliques.specs.Cliques.{joined, joinedToAll}
 pub record LentTable (n : ℕ) (t : List ℕ) : Type 0 where
   pub most : n ≤ 128
   pub len : length t ≡ 4 * (n * n)
+
+-- before the first literal is taken all are candidates
+unfoldable pub allOnes : List ℕ
+allOnes = replicate 256 1
 
 -- a flag stays 1 where the literal is joined to the one that is taken
 unfoldable pub still : ℕ → Bool → ℕ

@@ -3,12 +3,11 @@
 // candidates only.
 ghost use mathlib.Core.Path.{_≡_};
 ghost use Prim.Native.Nat.{_*_, _<_, _≤_};
-ghost use lib.ListN.{length, replicate, set};
-ghost use mathlib.Core.List.{[]};
+ghost use lib.ListN.{length, set};
 ghost use Rattle.cliques.specs.Cliques.{cliqueRow, coefOf, grow as grown, joined, meantAtZero, opposite as oppositeOf};
 ghost use Rattle.cliques.specs.Cliques.{variableOf};
 ghost use Rattle.row_change.specs.Redundancy.{zeroRow};
-ghost use Rattle.clique_grow.specs.Candidates.{Candidates, LentTable, keptTo, still as stillOf};
+ghost use Rattle.clique_grow.specs.Candidates.{LentTable, allOnes, keptTo, still as stillOf};
 
 // How many literals a clique has, and how many of them mean their variable at 0.
 pub struct Grown {
@@ -86,7 +85,7 @@ fn take(n: usize, table: &[u8], q: usize, flags: &mut [u8], row: &mut [i32])
 
 // The clique of literal p, into a row that is all 0; `flags` are all 1.
 pub fn grow(n: usize, table: &[u8], p: usize, flags: &mut [u8], row: &mut [i32]) -> Grown
-    requires { ⌜ LentTable n (now table) × (now flags ≡ replicate 256 1) ⌝ }
+    requires { ⌜ LentTable n (now table) × (now flags ≡ allOnes) ⌝ }
     requires { ⌜ (p < 2 * n) × (now row ≡ zeroRow n) ⌝ }
     ensures row { λ r. ⌜ now (row .exit) ≡ cliqueRow n (grown n (now (table .entry)) p) ⌝ }
     ensures size { λ r. ⌜ (r .size ≡ length (grown n (now (table .entry)) p)) × (r .size ≤ 257) ⌝ }

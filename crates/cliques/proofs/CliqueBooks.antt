@@ -10,7 +10,7 @@ use Rattle.model.specs.Point.{dot}
 use Rattle.semantics.specs.Points.{ImplicationHolds, LiteralTrue}
 use Rattle.semantics.specs.WorkedBooks.{clique}
 use Rattle.cliques.specs.CliqueBooks.{ForeignRowFails, cliqueBooks, foreignTable, joining, padded, refusedBy, sevens, threeOnes, twos, unjoined}
-use Rattle.cliques.specs.CliqueCall.{cliqueChecks, listFits, performCliques}
+use Rattle.cliques.specs.CliqueCall.{cliqueChecks, performCliques}
 use Rattle.cliques.specs.Cliques.{cliqueRhs, cliqueRow, cliqueRows, cliques, cliquesTo, coefOf, coefsOf, grow, growTo, isNew, joined, joinedToAll, meantAtZero, member, opposite, rowsFor, sameSet, says, seen, sidesOf, subset, valueOf, variableOf}
 use mathlib.Core.Path.{refl}
 use Rattle.integer.specs.Division.{ceilDiv, floorDiv}
@@ -41,7 +41,7 @@ use Rattle.semantics.specs.RestTest.{isProbingFixpoint, sidesSpan}
 use Rattle.semantics.specs.Run.{run, step}
 
 pub clique-books-hold : AllHold cliqueBooks
-unfolding cliqueBooks joining padded refusedBy sevens unjoined cliqueChecks listFits performCliques cliqueRhs cliqueRow cliqueRows cliques cliquesTo coefOf coefsOf grow growTo isNew joined joinedToAll meantAtZero member opposite rowsFor sameSet says seen sidesOf subset valueOf variableOf lastLook firstMoving lowest clique boxed callOn removeCall kept fresh freshKinds probeCall rowed propagateCall tightenCall propagateRowCall callChecks callFault givenModel isLent lentTable recordChecks ones act perform byteOf fix hull implies isFixed joinSides literal probe put recordSide recordTo sideOf isNone isSpent passRow passTo propagate propagateFrom isFixpoint isProbingFixpoint sidesSpan run step hasBudget hasRow hasTable hasVariable isUnknown kindOf lengthsOf stateOf splice setRow withBox withRow isInfeasible impliedBox newLower newUpper propagateRow stays removeRedundantRow zeroRow tightenAt tightenCoefficient maxActivity maxTerm minActivity minTerm rowOf bits first inRange lengthChecks modelChecks boxChecks narrow numberChecks ordered sizeChecks tableByteChecks tableLengthChecks boxOf emptyBox isEmpty isFree sameList eqZ maxZ minZ all sum ceilDiv floorDiv differs movedBounds isEquality negated negatedCoefs andThen propagateRowOf removeRowOf tightenRowOf isChanged
+unfolding cliqueBooks joining padded refusedBy sevens unjoined cliqueChecks performCliques cliqueRhs cliqueRow cliqueRows cliques cliquesTo coefOf coefsOf grow growTo isNew joined joinedToAll meantAtZero member opposite rowsFor sameSet says seen sidesOf subset valueOf variableOf lastLook firstMoving lowest clique boxed callOn removeCall kept fresh freshKinds probeCall rowed propagateCall tightenCall propagateRowCall callChecks callFault givenModel isLent lentTable recordChecks ones act perform byteOf fix hull implies isFixed joinSides literal probe put recordSide recordTo sideOf isNone isSpent passRow passTo propagate propagateFrom isFixpoint isProbingFixpoint sidesSpan run step hasBudget hasRow hasTable hasVariable isUnknown kindOf lengthsOf stateOf splice setRow withBox withRow isInfeasible impliedBox newLower newUpper propagateRow stays removeRedundantRow zeroRow tightenAt tightenCoefficient maxActivity maxTerm minActivity minTerm rowOf bits first inRange lengthChecks modelChecks boxChecks narrow numberChecks ordered sizeChecks tableByteChecks tableLengthChecks boxOf emptyBox isEmpty isFree sameList eqZ maxZ minZ all sum ceilDiv floorDiv differs movedBounds isEquality negated negatedCoefs andThen propagateRowOf removeRowOf tightenRowOf isChanged
 clique-books-hold = (refl, (refl, (refl, (refl, (refl, (refl, (refl, (refl, (refl, (refl, (refl, (refl, tt))))))))))))
 
 -- no variable of it is 0 or 1

@@ -4,7 +4,7 @@ use lib.Dec.{T, T-not, eqb, eqb-refl, eqb→eq, leb}
 use lib.IntN.{negsuc, pos, ℤ}
 use lib.ListN.{List·getD-append, List·getD-eq-default, getD, length, length-append, set}
 use lib.Seq.{ext-getD, getD-append-add, getD-set-other, getD-set-same}
-use mathlib.Core.Bool.{_&&_, _||_, cond, false, not}
+use mathlib.Core.Bool.{Bool, _&&_, _||_, cond, false, not, true}
 use mathlib.Core.List.{List, [], _++_, _∷_}
 use mathlib.Core.Logic.{_⊎_, inl, inr, ⊎-elim}
 use mathlib.Core.Path.{_∙_, _≡_, ap, ap₂, refl, subst, sym}
@@ -55,18 +55,27 @@ unfolding seen
 seen-last c [] = or-inl (sameSet c c) false (sameSet-refl c)
 seen-last c (d ∷ ds) = or-inr (sameSet c d) (seen c (ds ++ (c ∷ []))) (seen-last c ds)
 
-not-seen-at : (c : List ℕ) (ds : List (List ℕ)) → T (not (seen c ds)) → (i : ℕ) → i < length ds → T (not (sameSet c (getD ds i [])))
+pub not-seen-at : (c : List ℕ) (ds : List (List ℕ)) → T (not (seen c ds)) → (i : ℕ) → i < length ds → T (not (sameSet c (getD ds i [])))
 unfolding seen
 not-seen-at c [] h i l = absurd (let z : ⊥ = omega arith in z)
 not-seen-at c (d ∷ ds) h zero l = not-or-l (sameSet c d) (seen c ds) h
 not-seen-at c (d ∷ ds) h (suc i) l = not-seen-at c ds (not-or-r (sameSet c d) (seen c ds) h) i (omega arith)
 
-getD-last : (ds : List (List ℕ)) (c : List ℕ) → getD (ds ++ (c ∷ [])) (length ds) [] ≡ c
+pub not-seen-i : (c : List ℕ) (ds : List (List ℕ)) → ((i : ℕ) → i < length ds → T (not (sameSet c (getD ds i [])))) → T (not (seen c ds))
+unfolding seen
+not-seen-i c [] f = tt
+not-seen-i c (d ∷ ds) f = not-or (sameSet c d) (seen c ds) (f 0 (omega arith)) (not-seen-i c ds (λ i l. f (suc i) (omega arith)))
+  where
+    not-or : (a b : Bool) → T (not a) → T (not b) → T (not (a || b))
+    not-or true b u v = u
+    not-or false b u v = v
+
+pub getD-last : (ds : List (List ℕ)) (c : List ℕ) → getD (ds ++ (c ∷ [])) (length ds) [] ≡ c
 getD-last [] c = refl
 getD-last (d ∷ ds) c = getD-last ds c
 
 -- of the cliques grown from literals below p
-record ListingTo (p n : ℕ) (t : List ℕ) (ds : List (List ℕ)) : Type 0 where
+pub record ListingTo (p n : ℕ) (t : List ℕ) (ds : List (List ℕ)) : Type 0 where
   pub few : length ds ≤ p
   pub grown : (i : ℕ) → i < length ds → (q : ℕ) × (q < p) × (getD ds i [] ≡ grow n t q) × (3 ≤ length (grow n t q))
   pub once : (i j : ℕ) → i < j → j < length ds → T (not (sameSet (getD ds j []) (getD ds i [])))
@@ -119,7 +128,7 @@ module _ (n : ℕ) (t : List ℕ) (p : ℕ) {ds : List (List ℕ)} (w : ListingT
           (not-and (leb 3 (length (grow n t p))) (not (seen (grow n t p) ds)) u)
       every q (no e) l k = w .every q (omega arith) k
 
-listing-to : (n : ℕ) (t : List ℕ) (p : ℕ) → ListingTo p n t (cliquesTo p n t)
+pub listing-to : (n : ℕ) (t : List ℕ) (p : ℕ) → ListingTo p n t (cliquesTo p n t)
 unfolding cliquesTo isNew
 listing-to n t zero = record {
   few = omega arith;
@@ -277,20 +286,20 @@ module _ (n left : ℕ) (A D : List ℤ) (a : length A ≡ n) (d : length D ≡ 
       let e : suc i * n + j ≡ length A + (i * n + j) = omega arith in
       at-rowOf n (A ++ D) (suc i) j (omega arith) ∙ ap (at (A ++ D)) e ∙ getD-append-add A D (i * n + j) (pos 0) ∙ sym (at-rowOf n D i j (omega arith)))
 
-length-coefsOf : (left n : ℕ) (ds : List (List ℕ)) → length (coefsOf left n ds) ≡ left * n
+pub length-coefsOf : (left n : ℕ) (ds : List (List ℕ)) → length (coefsOf left n ds) ≡ left * n
 unfolding coefsOf
 length-coefsOf zero n ds = omega arith
 length-coefsOf (suc left) n [] = over-length n left (zeroRow n) (coefsOf left n []) (length-zeroRow n) (length-coefsOf left n [])
 length-coefsOf (suc left) n (c ∷ ds) = over-length n left (cliqueRow n c) (coefsOf left n ds) (length-cliqueRow n c) (length-coefsOf left n ds)
 
-length-sidesOf : (left : ℕ) (ds : List (List ℕ)) → length (sidesOf left ds) ≡ left
+pub length-sidesOf : (left : ℕ) (ds : List (List ℕ)) → length (sidesOf left ds) ≡ left
 unfolding sidesOf
 length-sidesOf zero ds = refl
 length-sidesOf (suc left) [] = let r = length-sidesOf left [] in omega arith
 length-sidesOf (suc left) (c ∷ ds) = let r = length-sidesOf left ds in omega arith
 
 -- past the last clique there is the empty one, whose row is zero
-coefs-row : (left n : ℕ) (ds : List (List ℕ)) (i : ℕ) → i < left → rowOf n (coefsOf left n ds) i ≡ cliqueRow n (getD ds i [])
+pub coefs-row : (left n : ℕ) (ds : List (List ℕ)) (i : ℕ) → i < left → rowOf n (coefsOf left n ds) i ≡ cliqueRow n (getD ds i [])
 unfolding coefsOf cliqueRow
 coefs-row zero n ds i h = absurd (let z : ⊥ = omega arith in z)
 coefs-row (suc left) n [] zero h = row-head n left (zeroRow n) (coefsOf left n []) (length-zeroRow n) (length-coefsOf left n [])

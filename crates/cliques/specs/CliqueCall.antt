@@ -3,18 +3,17 @@ use Prim.Native.Nat.{_*_, ℕ}
 use lib.Dec.{eqb}
 use lib.IntN.{ℤ}
 use lib.ListN.{length}
-use mathlib.Core.Bool.{Bool, _&&_, cond}
+use mathlib.Core.Bool.{cond}
 use mathlib.Core.List.{List, _++_, _∷_}
 use Rattle.model.specs.Checks.{Check, first, must, sizeChecks, table, tableByteChecks, tableLengthChecks}
 use Rattle.cliques.specs.Cliques.{cliqueRows}
 
--- "a lent list of 2n rows": the lengths of its coefficients and of its right sides
-unfoldable pub listFits : ℕ → List ℤ → List ℤ → Bool
-listFits n C R = eqb (length C) (2 * n * n) && eqb (length R) (2 * n)
-
--- 3 of n alone: there is no m, and no rows are not too many. 5 of the table and of the lent list. Then 10 of the table's bytes.
+-- 3 of n alone: there is no m, and no rows are not too many. 5 of the table, and of the coefficients and right sides of "a lent list
+-- of 2n rows". Then 10 of the table's bytes.
 unfoldable pub cliqueChecks : ℕ → List ℕ → List ℤ → List ℤ → List Check
-cliqueChecks n t C R = sizeChecks n 0 ++ (tableLengthChecks n (table t) ++ (must (listFits n C R) 5 ∷ tableByteChecks (table t)))
+cliqueChecks n t C R =
+    sizeChecks n 0
+    ++ (tableLengthChecks n (table t) ++ (must (eqb (length C) (2 * n * n)) 5 ∷ must (eqb (length R) (2 * n)) 5 ∷ tableByteChecks (table t)))
 
 -- refused by a check's number; or so many rows written
 pub data CliqueAnswer : Type 0 where

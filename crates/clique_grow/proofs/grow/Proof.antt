@@ -1,12 +1,11 @@
 -- `clique_grow::grow`: after the literals below i the row is that of the clique so far, and the flags are its candidates. Assumes nothing.
-use Prim.Native.Nat.{_*_, _-_, _≤_, ℕ}
-use lib.ListN.{length, length-replicate}
+use Prim.Native.Nat.{_*_, _-_, _≤_}
 use mathlib.Core.Logic.{⊎-elim}
 use mathlib.Core.Path.{_∙_, _≡_, sym}
 use native.Mathlib.Omega.{arith}
 use Rattle.row_change.proofs.RedundancyLaws.{length-zeroRow}
 use Rattle.cliques.specs.Cliques.{grow, growTo, valueOf}
-use Rattle.clique_grow.proofs.CandidateLaws.{GrownTo, grown-length, grown-most, grown-passes, grown-start, grown-takes}
+use Rattle.clique_grow.proofs.CandidateLaws.{GrownTo, grown-length, grown-most, grown-passes, grown-start, grown-takes, length-ones}
 use Rattle.clique_grow.proofs.grow.Statement.{statement}
 use Rattle.clique_grow.proofs.grow.Tie as tie
 
@@ -19,7 +18,7 @@ abbrev μ-loop : tie.MeasureT-loop
 take-requires : tie.Need-take-requires Inv-loop μ-loop
 take-requires c κs =
     let s = c .before .before .before .before in
-    ((s .pre .0 .0, rw (s .pre .0 .1) (length-replicate {A = ℕ} 256 1)), (s .pre .1 .0, rw (s .pre .1 .1) (length-zeroRow (s .args .n))))
+    ((s .pre .0 .0, rw (s .pre .0 .1) length-ones), (s .pre .1 .0, rw (s .pre .1 .1) (length-zeroRow (s .args .n))))
 
 sub-zeros : tie.Need-sub-zeros Inv-loop μ-loop
 sub-zeros c = omega arith
@@ -71,7 +70,7 @@ loop-again c =
     (c .if1 .came))
 
 same-length : tie.Need-same-length Inv-loop μ-loop
-same-length c = c .before .loop .inv .1 .flags .len ∙ sym (rw (c .before .before .before .before .before .before .before .before .before .before .pre .0 .1) (length-replicate {A = ℕ} 256 1))
+same-length c = c .before .loop .inv .1 .flags .len ∙ sym (rw (c .before .before .before .before .before .before .before .before .before .before .pre .0 .1) length-ones)
 
 same-length-2 : tie.Need-same-length-2 Inv-loop μ-loop
 same-length-2 c =

@@ -1,9 +1,8 @@
+-- `clique_call::listing::same_row`: the parts that are lent are the rows. Assumes nothing.
+use Rattle.row_view.proofs.PartLaws.{part-is}
 use borrow.Author.Needs.{needs}
 use Rattle.clique_call.proofs.listing.same_row.Statement.{statement}
 use Rattle.clique_call.proofs.listing.same_row.Tie as tie
-use Rattle.clique_call.proofs.listing.same_row.Reads as reads
-use Rattle.clique_call.proofs.listing.same_row.Lts as lts
-use Rattle.boxes.proofs.same_box.Reads as same-box-reads
 
 mul-one : tie.Need-mul-one
 mul-one c = search needs
@@ -45,7 +44,8 @@ same-box-requires : tie.Need-same-box-requires
 same-box-requires c κs = search needs
 
 returns : tie.Need-returns
-returns c = ?
+returns c =
+    let s = c .before .before .before .args in rw (part-is (s .i) (s .n) (s .coefs .now), part-is (s .k) (s .n) (s .coefs .now)) at (c .same-box .ensures)
 
 pub same-row-spec : {M : Type 1} → statement M
 same-row-spec =
