@@ -54,7 +54,7 @@ fn the_header_and_the_rust_declarations_agree() {
     let mut rust = declarations(FFI, "pub fn astrolabe_", ") -> u32;", str::to_string);
     c.sort();
     rust.sort();
-    assert_eq!(c.len(), 14);
+    assert_eq!(c.len(), 15);
     assert_eq!(c, rust);
 }
 

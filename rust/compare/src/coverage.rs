@@ -19,7 +19,7 @@ pub struct Coverage {
     pub most_passes: u64,
     /// The most bounds that one propagation moved.
     pub most_moved: u64,
-    /// Which of [`MOVES`], [`EQUALITIES`], [`UNREST`], [`PLANS`] and [`RETIRED`] were met.
+    /// Which of [`MOVES`], [`EQUALITIES`], [`UNREST`], [`PLANS`], [`RETIRED`] and [`CLIQUES`] were met.
     pub met: BTreeSet<&'static str>,
 }
 
@@ -65,7 +65,27 @@ const RETIRED: [&str; 3] = [
     "a call list with a retired kind on the empty box",
 ];
 
+/// The same of clique rows (02, C-12).
+const CLIQUES: [&str; 4] = [
+    "clique rows of a table that calls filled, held against its points",
+    "a clique row over a variable meant at 0, held against points",
+    "a clique row of four or more",
+    "several clique rows",
+];
+
 impl Coverage {
+    /// Notes the clique rows that were written, and the points that they were held against.
+    pub fn clique_rows(&mut self, after: &Lent, points: &[Vec<i32>]) {
+        let [held, meant_at_0, four, several] = CLIQUES;
+        let rows = after.clique_coefs.chunks(after.n).take(after.answer[0] as usize);
+        for row in rows {
+            self.met(held, !points.is_empty());
+            self.met(meant_at_0, !points.is_empty() && row.contains(&-1));
+            self.met(four, row.iter().filter(|&&a| a != 0).count() > 3);
+        }
+        self.met(several, after.answer[0] > 1);
+    }
+
     /// Notes how many passes a list made that was lent `before`, and their limit.
     pub fn planned(&mut self, before: &Lent, made: u64, limit: u64) {
         let [reached, below, on_empty, _] = PLANS;
@@ -89,6 +109,7 @@ impl Coverage {
             | Operation::PlanWidth
             | Operation::PlanRun
             | Operation::PlanLengths
+            | Operation::Cliques
             | Operation::BookTrailer
             | Operation::BookRead
             | Operation::BookWrite => 0,
@@ -205,7 +226,7 @@ impl Coverage {
     }
 
     /// What a long enough run must have met and has not: each check of each call, each case of each
-    /// answer, and each of [`MOVES`], [`EQUALITIES`], [`UNREST`], [`PLANS`] and [`RETIRED`].
+    /// answer, and each of [`MOVES`], [`EQUALITIES`], [`UNREST`], [`PLANS`], [`RETIRED`] and [`CLIQUES`].
     pub fn missing(&self) -> Vec<String> {
         let (row, variable, budget, limit) = (0, 0, 0, 0);
         let all = [
@@ -219,12 +240,13 @@ impl Coverage {
             (Operation::Rounds { limit }, 3),
             (Operation::PlanWidth, 1),
             (Operation::PlanRun, 1),
+            (Operation::Cliques, 1),
             (Operation::PlanLengths, 1),
             (Operation::BookTrailer, 1),
             (Operation::BookRead, 1),
             (Operation::BookWrite, 1),
         ];
-        let mut missing: Vec<String> = [&MOVES[..], &EQUALITIES, &UNREST, &PLANS, &RETIRED]
+        let mut missing: Vec<String> = [&MOVES[..], &EQUALITIES, &UNREST, &PLANS, &RETIRED, &CLIQUES]
             .concat()
             .into_iter()
             .filter(|what| !self.met.contains(what))

@@ -1,4 +1,4 @@
-//! What a call can be lent, the fourteen calls, and the trait of an implementation of them.
+//! What a call can be lent, the fifteen calls, and the trait of an implementation of them.
 
 use reference::calls;
 
@@ -16,6 +16,9 @@ pub struct Lent {
     pub calls: Vec<u32>,
     /// A book, or the bytes of a trailer.
     pub book: Vec<u8>,
+    /// A list of 2n rows for the clique rows: their coefficients and right sides. Only that call is lent it.
+    pub clique_coefs: Vec<i32>,
+    pub clique_rhs: Vec<i32>,
     pub answer: Vec<u64>,
 }
 
@@ -30,6 +33,8 @@ pub struct Loan<'a> {
     pub table: &'a mut [u8],
     pub calls: &'a mut [u32],
     pub book: &'a mut [u8],
+    pub clique_coefs: &'a mut [i32],
+    pub clique_rhs: &'a mut [i32],
     pub answer: &'a mut [u64],
 }
 
@@ -44,6 +49,8 @@ impl Lent {
         self.table.clone_from(&to.table);
         self.calls.clone_from(&to.calls);
         self.book.clone_from(&to.book);
+        self.clique_coefs.clone_from(&to.clique_coefs);
+        self.clique_rhs.clone_from(&to.clique_rhs);
         self.answer.clone_from(&to.answer);
     }
 
@@ -58,12 +65,14 @@ impl Lent {
             table: &mut self.table,
             calls: &mut self.calls,
             book: &mut self.book,
+            clique_coefs: &mut self.clique_coefs,
+            clique_rhs: &mut self.clique_rhs,
             answer: &mut self.answer,
         }
     }
 }
 
-/// One of the fourteen calls, with its numbers.
+/// One of the fifteen calls, with its numbers.
 #[derive(Clone, Copy, Debug, PartialEq, Eq)]
 pub enum Operation {
     PropagateRow { row: u32 },
@@ -76,6 +85,7 @@ pub enum Operation {
     Rounds { limit: u32 },
     PlanWidth,
     PlanRun,
+    Cliques,
     PlanLengths,
     BookTrailer,
     BookRead,
@@ -83,9 +93,9 @@ pub enum Operation {
 }
 
 impl Operation {
-    /// Each of the fourteen with these numbers, where it has them: first the eight on a model, then the three
-    /// that tell beforehand, and the three on books.
-    pub fn each(row: u32, variable: u32, budget: u32, limit: u32) -> [Operation; 14] {
+    /// Each of the fifteen with these numbers, where it has them: first the eight on a model, then the three
+    /// that tell beforehand with the clique rows among them, and the three on books.
+    pub fn each(row: u32, variable: u32, budget: u32, limit: u32) -> [Operation; 15] {
         [
             Operation::PropagateRow { row },
             Operation::Propagate { budget },
@@ -97,6 +107,7 @@ impl Operation {
             Operation::Rounds { limit },
             Operation::PlanWidth,
             Operation::PlanRun,
+            Operation::Cliques,
             Operation::PlanLengths,
             Operation::BookTrailer,
             Operation::BookRead,
@@ -117,6 +128,7 @@ impl Operation {
             Operation::Rounds { .. } => "rounds",
             Operation::PlanWidth => "plan_width",
             Operation::PlanRun => "plan_run",
+            Operation::Cliques => "cliques",
             Operation::PlanLengths => "plan_lengths",
             Operation::BookTrailer => "book_trailer",
             Operation::BookRead => "book_read",
@@ -125,7 +137,7 @@ impl Operation {
     }
 }
 
-/// An implementation of the fourteen calls.
+/// An implementation of the fifteen calls.
 pub trait Backend {
     /// Makes the call; 0, or the number of the failed check.
     fn call(&mut self, operation: Operation, loan: Loan) -> u32;
@@ -136,7 +148,8 @@ pub struct Reference;
 
 impl Backend for Reference {
     fn call(&mut self, operation: Operation, loan: Loan) -> u32 {
-        let Loan { n, m, bounds, coefs, rhs, kinds, table, calls, book, answer } = loan;
+        let Loan { n, m, bounds, coefs, rhs, kinds, table, calls, book, .. } = loan;
+        let Loan { clique_coefs, clique_rhs, answer, .. } = loan;
         match operation {
             Operation::PropagateRow { row } => {
                 calls::propagate_row(n, m, bounds, coefs, rhs, kinds, row, answer)
@@ -162,6 +175,7 @@ impl Backend for Reference {
             }
             Operation::PlanWidth => calls::plan_width(n, bounds, answer),
             Operation::PlanRun => calls::plan_run(n, bounds, calls, answer),
+            Operation::Cliques => calls::cliques(n, table, clique_coefs, clique_rhs, answer),
             Operation::PlanLengths => calls::plan_lengths(book, answer),
             Operation::BookTrailer => calls::book_trailer(book, answer),
             Operation::BookRead => calls::book_read(book, bounds, coefs, rhs, kinds, answer),

@@ -3,7 +3,9 @@
 use std::env;
 use std::fmt;
 
+use reference::bounds;
 use reference::plan;
+use reference::row::EQUAL;
 
 use crate::cases::{self, Case, Step};
 use crate::coverage::Coverage;
@@ -80,6 +82,11 @@ pub fn play(
                 let (made, limit) = check_passes(&before, &lent, expected, actual)?;
                 coverage.planned(&before, made, limit);
             }
+            if operation == Operation::Cliques {
+                let points = clique_points(&case.lent);
+                check_clique_rows(&lent, &points);
+                coverage.clique_rows(&lent, &points);
+            }
         }
         coverage.note(operation, &before, said, &lent);
     }
@@ -125,6 +132,49 @@ fn check_not_spent(operation: Operation, before: &[i32], answer: &[u64]) {
         && u64::from(budget) >= plan::budget(before)
     {
         assert_ne!(answer[0], 2, "{operation:?} was spent: {before:?}");
+    }
+}
+
+/// The points that must meet the clique rows: those of the model that the case began with, where its table
+/// was all 0, so that its calls filled the table, and where they are few enough to be tried one by one.
+fn clique_points(start: &Lent) -> Vec<Vec<i32>> {
+    let widths = start.bounds.chunks(2).map(|pair| f64::from(pair[1] - pair[0] + 1));
+    let few = widths.product::<f64>() <= 5_000.0;
+    if !few || bounds::is_empty(&start.bounds) || start.table.contains(&1) {
+        return Vec::new();
+    }
+    let mut points = vec![Vec::new()];
+    for pair in start.bounds.chunks(2) {
+        let longer = |point: &Vec<i32>| {
+            (pair[0]..=pair[1]).map(|x| [&point[..], &[x]].concat()).collect::<Vec<_>>()
+        };
+        points = points.iter().flat_map(longer).collect();
+    }
+    let meets = |point: &Vec<i32>, i: usize| {
+        let left = activity(&start.coefs[i * start.n..][..start.n], point);
+        let right = i64::from(start.rhs[i]);
+        left == right || left < right && start.kinds[i] != EQUAL
+    };
+    points.retain(|point| (0..start.m).all(|i| meets(point, i)));
+    points
+}
+
+/// The sum of coefficient · variable.
+fn activity(coefs: &[i32], point: &[i32]) -> i64 {
+    coefs.iter().zip(point).map(|(&a, &x)| i64::from(a) * i64::from(x)).sum()
+}
+
+/// What the clique rows say of themselves (02, C-12), whatever the two sides agree on: each is over three
+/// variables or more, no two are the same, and every point meets each of them.
+fn check_clique_rows(after: &Lent, points: &[Vec<i32>]) {
+    let (n, number) = (after.n, after.answer[0] as usize);
+    let rows: Vec<&[i32]> = after.clique_coefs.chunks(n).take(number).collect();
+    for (i, (coefs, &rhs)) in rows.iter().zip(&after.clique_rhs).enumerate() {
+        assert!(coefs.iter().filter(|&&a| a != 0).count() >= 3, "row {i}: {after:?}");
+        assert!(!rows[..i].contains(coefs), "row {i} is written twice: {after:?}");
+        for point in points {
+            assert!(activity(coefs, point) <= rhs.into(), "row {i} cuts off {point:?}: {after:?}");
+        }
     }
 }
 
@@ -213,6 +263,8 @@ impl Guarded {
             table: guard(&lent.table, 0x55),
             calls: guard(&lent.calls, 0x5555_5555),
             book: guard(&lent.book, 0x55),
+            clique_coefs: guard(&lent.clique_coefs, 0x5555_5555),
+            clique_rhs: guard(&lent.clique_rhs, 0x5555_5555),
             answer: guard(&lent.answer, 0x5555_5555_5555_5555),
         };
         Guarded { cells }
@@ -234,6 +286,8 @@ impl Guarded {
             table: inner(&mut cells.table),
             calls: inner(&mut cells.calls),
             book: inner(&mut cells.book),
+            clique_coefs: inner(&mut cells.clique_coefs),
+            clique_rhs: inner(&mut cells.clique_rhs),
             answer: inner(&mut cells.answer),
         }
     }
@@ -250,6 +304,8 @@ impl Guarded {
             table: loan.table.to_vec(),
             calls: loan.calls.to_vec(),
             book: loan.book.to_vec(),
+            clique_coefs: loan.clique_coefs.to_vec(),
+            clique_rhs: loan.clique_rhs.to_vec(),
             answer: loan.answer.to_vec(),
         }
     }
@@ -298,6 +354,8 @@ impl fmt::Display for Difference {
         first(f, "table", [&left.table, &right.table])?;
         first(f, "calls", [&left.calls, &right.calls])?;
         first(f, "book", [&left.book, &right.book])?;
+        first(f, "clique_coefs", [&left.clique_coefs, &right.clique_coefs])?;
+        first(f, "clique_rhs", [&left.clique_rhs, &right.clique_rhs])?;
         first(f, "answer", [&left.answer, &right.answer])?;
         if self.before.n * self.before.m <= 64 {
             writeln!(f, "  before: {:?}", self.before)?;
