@@ -10,7 +10,7 @@ answer-fault-requires c κs = search needs
 
 returns : tie.Need-returns
 returns c =
-    let s = c .before .before .before .before .before .args in
+    let s = c .before .before .before .before .args in
     cliques-refused (s .answer .now) (s .n) (s .table .now) (s .coefs .now) (s .rhs .now) (c .before .if1 .taken) (c .answer-fault .ensures)
 
 cliques-requires : tie.Need-cliques-requires
@@ -34,8 +34,8 @@ same-length-3 c = search needs
 returns-2 : tie.Need-returns-2
 unfolding performedCliques
 returns-2 c =
-    let p = c .before .before .before .before .before .before .before .before in
-    let s = p .before .before .before .before .before .before .before .args in
+    let p = c .before .before .before .before .before .before .before in
+    let s = p .before .before .before .before .before .before .args in
     cliques-replied (s .answer .now) (s .n) (s .table .now) (s .coefs .now) (s .rhs .now) (cliquesAnswer (p .cliques .result)) (p .cliques .last .1 .1 .0) (p .cliques .last .1 .1 .1 .0)
     (p .before .before .before .if1 .left) (c .before .before .put .ensures) (c .before .before .before .before .cliques-reply .ensures) (p .cliques .ensures .0)
 
