@@ -58,6 +58,7 @@ const LINES: &[Line] = &[
     line("rest_first_sparse", "rest, a box that the first row narrows", "sparse_first", REST),
     line("rest_quiet_dense", "rest, quiet box", "dense", REST),
     line("rest_quiet_sparse", "rest, quiet box", "sparse", REST),
+    line("cliques_full", "clique rows of a full table", "dense", Operation::Cliques),
     Line { refusal: 15, ..line("refused_propagate", "propagate, refused by 15", "dense", Operation::Propagate { budget: 0 }) },
     Line { refusal: 15, ..line("refused_probe", "probe, refused by 15", "dense", Operation::Probe { variable: 0, budget: 0 }) },
 ];
@@ -77,7 +78,7 @@ fn main() {
         [folder] => LINES.iter().for_each(|line| println!("{}", described(line, folder))),
         [folder, name, side] => {
             let line = LINES.iter().find(|line| line.name == *name).expect("a call of the list");
-            let mut lent = lent(folder, line.book);
+            let mut lent = lent(folder, line);
             match *side {
                 "plain" => measured(&mut Reference, line.operation, &mut lent),
                 "proved" => measured(&mut Native, line.operation, &mut lent),
@@ -96,7 +97,7 @@ fn measured(side: &mut impl Backend, operation: Operation, lent: &mut Lent) -> u
 
 /// Both sides do the same work, or there is nothing to compare; then the line's parts, divided by tabs.
 fn described(line: &Line, folder: &str) -> String {
-    let (mut left, mut right) = (lent(folder, line.book), lent(folder, line.book));
+    let (mut left, mut right) = (lent(folder, line), lent(folder, line));
     let (n, m) = (left.n, left.m);
     let nonzeros = left.coefs.iter().filter(|&&a| a != 0).count();
     let plain = Reference.call(line.operation, left.lend());
@@ -122,13 +123,16 @@ fn remark(operation: Operation, answer: &[u64], refusal: u32) -> String {
         Operation::Probe { .. } if refusal == 0 => {
             format!(", {} and {}", passes(answer[2]), passes(answer[5]))
         }
+        Operation::Cliques => format!(", {} rows", answer[0]),
         Operation::IsProbingFixpoint => format!(": {}", ["no", "yes"][answer[0] as usize]),
         _ => String::new(),
     }
 }
 
-/// The model of a book with an empty table and a call list that probes each variable.
-fn lent(folder: &str, name: &str) -> Lent {
+/// The model of a line's book with a call list that probes each variable, and a table that is empty; for the
+/// clique rows it is full, so that every two literals of different variables are joined.
+fn lent(folder: &str, line: &Line) -> Lent {
+    let name = line.book;
     let path = Path::new(folder).join(name).with_extension("book");
     let book = fs::read(&path).unwrap_or_else(|error| panic!("{}: {error}", path.display()));
     let trailer = &book[book.len() - 16..];
@@ -151,5 +155,8 @@ fn lent(folder: &str, name: &str) -> Lent {
         answer: vec![0; ANSWER],
     };
     assert_eq!(Reference.call(Operation::BookRead, lent.lend()), 0, "{name}");
+    if line.operation == Operation::Cliques {
+        lent.table.fill(1);
+    }
     lent
 }

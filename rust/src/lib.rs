@@ -37,12 +37,14 @@
 //! [`ffi`] has the C interface as it is.
 
 mod answer;
+mod clique;
 pub mod ffi;
 mod model;
 pub mod plan;
 mod refusal;
 
 pub use answer::{Counts, Outcome, Probe, Propagation, Rest, Rounds, RowPropagation, Side};
+pub use clique::Clique;
 pub use model::{Call, Model, Row, RowKind, book_size};
 pub use refusal::Refusal;
 

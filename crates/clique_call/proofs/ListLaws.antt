@@ -90,8 +90,8 @@ matrix-ext n zero [] (x ∷ D) c d f = absurd (let z : ⊥ = omega arith in z)
 matrix-ext n (suc m) C D c d f =
     let first : take n C ≡ take n D = (let e : 0 * n ≡ 0 = omega arith in rw e at (f 0 (omega arith))) in
     let rest : drop n C ≡ drop n D = matrix-ext n m (drop n C) (drop n D) (omega (arith, length-drop n C)) (omega (arith, length-drop n D))
-        (λ i h. let e : suc i * n ≡ n + i * n = omega arith in
-        rw (drop-drop (i * n) n C, drop-drop (i * n) n D) (rw e at (f (suc i) (omega arith)))) in
+    (λ i h. let e : suc i * n ≡ n + i * n = omega arith in
+    rw (drop-drop (i * n) n C, drop-drop (i * n) n D) (rw e at (f (suc i) (omega arith)))) in
     sym (take-append-drop n C) ∙ ap₂ (λ (a b : List ℤ). a ++ b) first rest ∙ take-append-drop n D
 
 -- ---- a clique more

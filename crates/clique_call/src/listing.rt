@@ -1,7 +1,7 @@
 // The lent list: 2n rows of n coefficients, and 2n right sides.
+use boxes::same_box;
 use clique_grow::Grown;
 use clique_grow::grow;
-use boxes::same_box;
 ghost use mathlib.Core.Bool.{_&&_, not};
 ghost use mathlib.Core.Path.{_≡_};
 ghost use Prim.Native.Nat.{_*_, _+_, _<_, _≤_};
@@ -97,7 +97,14 @@ fn is_kept(n: usize, coefs: &[i32], k: usize, size: usize) -> bool
 
 // The clique of literal p, after those of the literals below it, of which `number` were written: written too, where it
 // has three literals or more and is no earlier one. The number afterwards.
-fn add_clique(n: usize, table: &[u8], p: usize, number: usize, coefs: &mut [i32], rhs: &mut [i32]) -> usize
+fn add_clique(
+    n: usize,
+    table: &[u8],
+    p: usize,
+    number: usize,
+    coefs: &mut [i32],
+    rhs: &mut [i32],
+) -> usize
     requires { ⌜ LentTable n (now table) × (p < 2 * n) ⌝ }
     requires { ⌜ listOf number (now coefs) (now rhs) ≡ rowsFor n (cliquesTo p n (now table)) ⌝ }
     ensures { λ r.

@@ -177,7 +177,8 @@ fn clique_rows(rng: &mut Rng) -> Case {
         return single(lent, Operation::Cliques);
     }
     let probe = |k| Operation::Probe { variable: k as u32, budget: MAX_BUDGET };
-    let operations = (0..n).map(probe).chain([Operation::Cliques, Operation::Run, Operation::Cliques]);
+    let operations =
+        (0..n).map(probe).chain([Operation::Cliques, Operation::Run, Operation::Cliques]);
     lent.calls = call_list(rng, &lent);
     let steps = operations.map(|operation| Step { afresh: false, operation }).collect();
     Case { lent, steps, returns: None }

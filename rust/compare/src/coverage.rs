@@ -246,12 +246,13 @@ impl Coverage {
             (Operation::BookRead, 1),
             (Operation::BookWrite, 1),
         ];
-        let mut missing: Vec<String> = [&MOVES[..], &EQUALITIES, &UNREST, &PLANS, &RETIRED, &CLIQUES]
-            .concat()
-            .into_iter()
-            .filter(|what| !self.met.contains(what))
-            .map(str::to_string)
-            .collect();
+        let mut missing: Vec<String> =
+            [&MOVES[..], &EQUALITIES, &UNREST, &PLANS, &RETIRED, &CLIQUES]
+                .concat()
+                .into_iter()
+                .filter(|what| !self.met.contains(what))
+                .map(str::to_string)
+                .collect();
         for (operation, cases) in all {
             let name = operation.name();
             for &check in damage::checks(operation) {

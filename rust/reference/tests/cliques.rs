@@ -35,7 +35,16 @@ fn the_papers_example_gives_the_one_row_over_its_first_three_variables() {
     let (mut table, mut answer) = (vec![0; 64], [0; ANSWER]);
     for k in 0..4 {
         let said = calls::probe(
-            4, 4, &mut bounds, &coefs, &rhs, &kinds, &mut table, k, 1_000, &mut answer,
+            4,
+            4,
+            &mut bounds,
+            &coefs,
+            &rhs,
+            &kinds,
+            &mut table,
+            k,
+            1_000,
+            &mut answer,
         );
         assert_eq!(said, 0);
     }

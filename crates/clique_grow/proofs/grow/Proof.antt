@@ -63,11 +63,13 @@ loop-again : tie.Need-loop-again Inv-loop μ-loop
 unfolding valueOf
 loop-again c =
     let l = c .before .before .before .loop in
-    let m = c .before .before .before .before .before .before .before .before .before .before .before .before .pre .0 .0 .most in
-    (omega arith, ⊎-elim
-    (λ w. grown-takes _ _ (l .inv .1) (omega arith) m (w .0 .taken) (w .7 ∙ w .3 .ensures .0) (w .8 ∙ w .3 .ensures .1) (w .9) (w .10))
-    (λ w. grown-passes _ _ (l .inv .1) (omega arith) (w .0 .left) (w .1) (w .2) (w .3) (w .4))
-    (c .if1 .came))
+    let m = c .before .before .before .before .before .before .before .before .before .before .before .before .pre .0 .0 .most in (
+      omega arith,
+      ⊎-elim
+          (λ w. grown-takes _ _ (l .inv .1) (omega arith) m (w .0 .taken) (w .7 ∙ w .3 .ensures .0) (w .8 ∙ w .3 .ensures .1) (w .9) (w .10))
+          (λ w. grown-passes _ _ (l .inv .1) (omega arith) (w .0 .left) (w .1) (w .2) (w .3) (w .4))
+          (c .if1 .came),
+    )
 
 same-length : tie.Need-same-length Inv-loop μ-loop
 same-length c = c .before .loop .inv .1 .flags .len ∙ sym (rw (c .before .before .before .before .before .before .before .before .before .before .pre .0 .1) length-ones)
