@@ -7,7 +7,8 @@ use replies::reply::put;
 ghost use mathlib.Core.Path.{_≡_};
 ghost use Rattle.capi.specs.CliqueExports.{cliquesExport, cliquesExported};
 
-// Writes the clique rows into a list of 2n rows, `coefs` and `rhs`, and zeros after them: {number}. Refused by 3, 5, 10.
+// Writes the clique rows into a list of 2n rows, `coefs` and `rhs`, and zeros after them: {number}. Refused by 3, 5,
+// 10.
 #[no_mangle]
 pub extern "C" fn astrolabe_cliques(
     n: usize,

@@ -41,8 +41,9 @@ fn cliques_fault(n: usize, table: &[u8], coefs: &[i32], rhs: &[i32]) -> u32
 }
 
 // Writes the clique rows of the table into a list of 2n rows, `coefs` and `rhs`, and zeros after them. Refused by 3, 5
-// and 10; then nothing is written. `meaning`: for a table that calls on a model filled from empty, ties among them, every
-// integer point of the model meets each row; for any table each row is that of a clique to which no literal could be added.
+// and 10; then nothing is written. `meaning`: for a table that calls on a model filled from empty, ties among them,
+// every integer point of the model meets each row; for any table each row is that of a clique to which no literal
+// could be added.
 pub fn cliques(n: usize, table: &[u8], coefs: &mut [i32], rhs: &mut [i32]) -> CliquesAnswer
     ensures defined { λ r.
         let performed = performedCliques r (now (coefs .exit)) (now (rhs .exit)) in

@@ -1,6 +1,6 @@
-// A clique, grown from one literal. A flag says of each literal whether it is still a candidate: joined to all that were
-// taken so far. So a literal's turn is one look at its flag, and the table is read when a literal is taken, of the
-// candidates only.
+// A clique, grown from one literal. A flag says of each literal whether it is still a candidate: joined to all that
+// were taken so far. So a literal's turn is one look at its flag, and the table is read when a literal is taken, of
+// the candidates only.
 ghost use mathlib.Core.Path.{_≡_};
 ghost use Prim.Native.Nat.{_*_, _<_, _≤_};
 ghost use lib.ListN.{length, set};
