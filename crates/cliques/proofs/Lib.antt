@@ -1,0 +1,4 @@
+pub mod CliqueLaws
+pub mod CliqueRows
+pub mod FilledLaws
+pub mod CliqueBooks

@@ -1,0 +1,4 @@
+pub mod Cliques
+pub mod CliqueCall
+pub mod CliqueClaims
+pub mod CliqueBooks
