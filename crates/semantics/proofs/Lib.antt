@@ -21,3 +21,4 @@ pub mod Demand3
 pub mod ClassLaws
 pub mod CallLists
 pub mod Passes
+pub mod Measure

@@ -16,6 +16,7 @@ pub mod TwoRuns
 pub mod CallList
 pub mod TwoLists
 pub mod Passes
+pub mod Measure
 pub mod Books
 pub mod WorkedBooks
 pub mod Corners

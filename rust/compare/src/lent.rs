@@ -73,7 +73,7 @@ pub enum Operation {
     RemoveRedundantRow { row: u32 },
     IsProbingFixpoint,
     Run,
-    Rounds { limit: u32 },
+    Rounds { limit: u64 },
     PlanWidth,
     PlanRun,
     PlanLengths,
@@ -85,7 +85,7 @@ pub enum Operation {
 impl Operation {
     /// Each of the fourteen with these numbers, where it has them: first the eight on a model, then the three
     /// that tell beforehand, and the three on books.
-    pub fn each(row: u32, variable: u32, budget: u32, limit: u32) -> [Operation; 14] {
+    pub fn each(row: u32, variable: u32, budget: u32, limit: u64) -> [Operation; 14] {
         [
             Operation::PropagateRow { row },
             Operation::Propagate { budget },
