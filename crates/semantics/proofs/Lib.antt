@@ -22,3 +22,4 @@ pub mod ClassLaws
 pub mod CallLists
 pub mod Passes
 pub mod Measure
+pub mod MeasureCorners

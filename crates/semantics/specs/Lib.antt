@@ -21,3 +21,4 @@ pub mod Books
 pub mod WorkedBooks
 pub mod Corners
 pub mod PassesCorners
+pub mod MeasureCorners
