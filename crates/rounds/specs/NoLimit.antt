@@ -8,7 +8,7 @@ use Rattle.semantics.specs.Measure.{maxMeasure, measure}
 use Rattle.semantics.specs.Run.{run}
 use Rattle.model.specs.State.{State}
 use Rattle.round.specs.Round.{anyChange, round}
-use Rattle.rounds.specs.Rounds.{Rounds, RoundsRun, after, atLimit, ended, infeasible, nothingChanged, roundsFrom, runRounds}
+use Rattle.rounds.specs.Rounds.{Rounds, RoundsAnswer, RoundsRun, after, atLimit, ended, infeasible, nothingChanged, roundsFrom, runRounds}
 
 -- rounds with a limit that is never reached (`rounds-end`), where `made` are made
 unfoldable pub roundsOn : ℕ → State → Rounds
@@ -46,6 +46,10 @@ NoLimit = (limit : ℕ) (s : State) → maxMeasure < limit → runRounds limit s
 
 unfoldable pub NeverAtLimit : Type 0
 NeverAtLimit = (limit : ℕ) (s : State) → maxMeasure < limit → (rounds : ℕ) → runRounds limit s .answer ≢ ended atLimit rounds
+
+-- of rounds with a limit that answered a, in the contract of the call
+pub record NotReached (limit : ℕ) (a : RoundsAnswer) : Type 0 where
+  pub ends : maxMeasure < limit → (rounds : ℕ) → a ≢ ended atLimit rounds
 
 -- the limit of 64 bits that stands for none, 2⁶⁴ − 1
 abbrev pub noLimit : ℕ

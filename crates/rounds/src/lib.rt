@@ -6,9 +6,10 @@ ghost use Rattle.semantics.specs.Run.{run as ran};
 ghost use Rattle.model.specs.Rows.{rowsOf};
 ghost use Rattle.model.specs.State.{stateOf};
 ghost use Rattle.rounds.specs.Answers.{roundsAnswer};
+ghost use Rattle.rounds.specs.NoLimit.{NotReached};
 ghost use Rattle.rounds.specs.Rounds.{SamePoints, runRounds};
 
-// The limit that is none: every model ends below it.
+// The limit that is none: it is never reached, since every model's rounds end below it (`unreached`).
 pub const NO_LIMIT: u64 = 18_446_744_073_709_551_615;
 
 // How the rounds ended, with the number of rounds made: refused N; at None; after a round that changed nothing; at
@@ -48,6 +49,7 @@ pub fn run(
         let s = stateOf n m (now (bounds .entry)) A (now (table .entry)) in
         let r' = stateOf n m (now (bounds .exit)) A' (now (table .exit)) in
         ⌜ SamePoints s r' (roundsAnswer r) ⌝ }
+    ensures unreached { λ r. ⌜ NotReached limit (roundsAnswer r) ⌝ }
 {
     let fault = model::model_table_fault(n, m, bounds, coefs, rhs, kinds, table, true);
     if fault != 0 {
