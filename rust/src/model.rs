@@ -496,8 +496,8 @@ impl Model {
     }
 
     /// Makes the rounds of the program `reduce`: propagate, remove redundant rows, tighten, probe; until
-    /// a round changes nothing, `limit` rounds are made, or the model is infeasible. `u64::MAX` is no limit:
-    /// the rounds of every model end below it.
+    /// a round changes nothing, `limit` rounds are made, or the model is infeasible. [`NO_LIMIT`](crate::NO_LIMIT)
+    /// is never reached: the rounds of every model end below it.
     ///
     /// ```
     /// use astrolabe::{Model, Rounds};

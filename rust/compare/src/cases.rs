@@ -84,7 +84,8 @@ fn operation(rng: &mut Rng, lent: &Lent) -> Operation {
         11 => Operation::RemoveRedundantRow { row },
         12 if !crawls_long => Operation::IsProbingFixpoint,
         13 if largest => Operation::Rounds { limit: rng.pick(&[0, 1]) },
-        13 => Operation::Rounds { limit: rng.pick(&[0, 1, 2, 3, 8, 100]) },
+        13 if crawls_long => Operation::Rounds { limit: rng.pick(&[0, 1, 2, 3, 8, 100]) },
+        13 => Operation::Rounds { limit: rng.pick(&[0, 1, 2, 3, 8, 1 << 32, u64::MAX]) },
         14 => rng.pick(&[Operation::PlanWidth, Operation::PlanRun]),
         _ => Operation::Run,
     }
