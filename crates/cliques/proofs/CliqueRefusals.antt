@@ -38,8 +38,16 @@ module _ (n : ℕ) (t : List ℕ) (C R : List ℤ) where
           check5 = λ e. (tt5 .0 (p5 e), tc5 .0 (q5 e), tr5 .0 (r5 e));
           check10 = λ e. t10 .0 (p10 e);
         }),
-        (λ q. ((λ e. let s = q .check3 e in t3 .1 (s .0, s .1, omega arith)), ((λ e. tt5 .1 (q .check5 e .0)), ((λ e. tc5 .1 (q .check5 e .1)),
-            ((λ e. tr5 .1 (q .check5 e .2)), ((λ e. t10 .1 (q .check10 e)), tt)))))),
+        (λ q. (
+          (λ e. let s = q .check3 e in t3 .1 (s .0, s .1, omega arith)),
+          (
+            (λ e. tt5 .1 (q .check5 e .0)),
+            (
+              (λ e. tc5 .1 (q .check5 e .1)),
+              ((λ e. tr5 .1 (q .check5 e .2)), ((λ e. t10 .1 (q .check10 e)), tt)),
+            ),
+          ),
+        )),
       )
 
   none-passes : fault ≡ 0 → (N : ℕ) → Passes N

@@ -12,6 +12,7 @@
 //   FOUR X ..                      the same of four records, 16 numbers in all
 //   PLAN LENGTH X ..               the total width, a budget that is never spent, and of the list of as many
 //                                  numbers the passes at most
+//   GROW                           the clique rows of the table: their number, and the list of them
 //   fixpoint                       writes whether the box is at rest, or what shows that it is not
 //   READ                           reads the book into the buffers of the model
 //   TRAILER                        reads the sizes from the bytes, a trailer alone
@@ -23,6 +24,7 @@
 use crate::book_cases;
 use crate::buffers;
 use crate::buffers::Sizes;
+use crate::clique_cases;
 use crate::copies;
 use crate::lists;
 use crate::parts::bytes_part_mut;
@@ -97,6 +99,7 @@ fn look(
         b'w' => write(line, n, bounds, coefs, rhs, kinds, table),
         b'P' => plans::of_list(line, n, bounds),
         b'L' => plans::of_trailer(table),
+        b'G' => clique_cases::of_table(n, table),
         b'f' => lists::rest(is_probing_fixpoint(n, m, bounds, coefs, rhs, kinds)),
         b'a' => copies::all(n, m, bounds, coefs, rhs, kinds, table, record(line)),
         b'1'..=b'6' => copies::one(n, m, bounds, coefs, rhs, kinds, table, record(line)),
