@@ -12,14 +12,23 @@ Inv-loop ties i₀ i = i ≤ length ties
 abbrev μ-loop : tie.MeasureT-loop
 μ-loop ties i₀ i = length ties - i
 
+slice-aggregate-text : tie.Need-slice-aggregate-text Inv-loop μ-loop
+slice-aggregate-text c = search needs
+
 text-requires : tie.Need-text-requires Inv-loop μ-loop
 text-requires c κs = search needs
 
 loop-holds : tie.Need-loop-holds Inv-loop μ-loop
 loop-holds c = omega arith
 
-shared-slice-read-cast : tie.Need-shared-slice-read-cast Inv-loop μ-loop
-shared-slice-read-cast c = omega arith
+mul-count : tie.Need-mul-count Inv-loop μ-loop
+mul-count c = omega arith
+
+shared-slice-read-count : tie.Need-shared-slice-read-count Inv-loop μ-loop
+shared-slice-read-count c = omega arith
+
+cast-count : tie.Need-cast-count Inv-loop μ-loop
+cast-count c = omega (arith, c .shared-slice-known2 .given (c .before .before .loop .i))
 
 count-requires : tie.Need-count-requires Inv-loop μ-loop
 count-requires c κs = search needs
@@ -45,9 +54,12 @@ places-spec =
     (tie.spec
     Inv-loop
     μ-loop
+    slice-aggregate-text
     text-requires
     loop-holds
-    shared-slice-read-cast
+    mul-count
+    shared-slice-read-count
+    cast-count
     count-requires
     add-i
     loop-less
