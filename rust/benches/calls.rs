@@ -146,6 +146,7 @@ fn lent(folder: &str, name: &str) -> Lent {
         table: vec![0; 4 * n * n],
         calls: (0..n as u32).flat_map(|k| [KIND_PROBE, 0, k, MAX_BUDGET]).collect(),
         book,
+        to: vec![],
         answer: vec![0; ANSWER],
     };
     assert_eq!(Reference.call(Operation::BookRead, lent.lend()), 0, "{name}");

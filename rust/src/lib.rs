@@ -43,7 +43,9 @@ pub mod plan;
 mod refusal;
 
 pub use answer::{Counts, Outcome, Probe, Propagation, Rest, Rounds, RowPropagation, Side};
-pub use model::{Call, Model, Row, RowKind, book_size};
+pub use model::{
+    Call, Model, Row, RowKind, book_size, book_to_sparse, sparse_size, sparse_to_book,
+};
 pub use refusal::Refusal;
 
 /// The version of this wrapper, which is that of the C header and of the library: `"0.1.0"`.

@@ -4,6 +4,7 @@
 pub mod books;
 pub mod calls;
 pub mod plans;
+pub mod sparse_books;
 
 // The length of every answer buffer.
 const ANSWER: usize = 12;

@@ -1,4 +1,4 @@
-//! What a call can be lent, the fourteen calls, and the trait of an implementation of them.
+//! What a call can be lent, the twenty-one calls, and the trait of an implementation of them.
 
 use reference::calls;
 
@@ -16,6 +16,8 @@ pub struct Lent {
     pub calls: Vec<u32>,
     /// A book, or the bytes of a trailer.
     pub book: Vec<u8>,
+    /// The book that a conversion writes.
+    pub to: Vec<u8>,
     pub answer: Vec<u64>,
 }
 
@@ -30,6 +32,7 @@ pub struct Loan<'a> {
     pub table: &'a mut [u8],
     pub calls: &'a mut [u32],
     pub book: &'a mut [u8],
+    pub to: &'a mut [u8],
     pub answer: &'a mut [u64],
 }
 
@@ -44,6 +47,7 @@ impl Lent {
         self.table.clone_from(&to.table);
         self.calls.clone_from(&to.calls);
         self.book.clone_from(&to.book);
+        self.to.clone_from(&to.to);
         self.answer.clone_from(&to.answer);
     }
 
@@ -58,12 +62,13 @@ impl Lent {
             table: &mut self.table,
             calls: &mut self.calls,
             book: &mut self.book,
+            to: &mut self.to,
             answer: &mut self.answer,
         }
     }
 }
 
-/// One of the fourteen calls, with its numbers.
+/// One of the twenty-one calls, with its numbers.
 #[derive(Clone, Copy, Debug, PartialEq, Eq)]
 pub enum Operation {
     PropagateRow { row: u32 },
@@ -80,11 +85,46 @@ pub enum Operation {
     BookTrailer,
     BookRead,
     BookWrite,
+    SparseTrailer,
+    SparseRead,
+    SparseWrite,
+    SparseLength,
+    BookToSparseLength,
+    BookToSparse,
+    SparseToBook,
 }
 
 impl Operation {
-    /// Each of the fourteen with these numbers, where it has them: first the eight on a model, then the three
-    /// that tell beforehand, and the three on books.
+    /// The calls on sparse books, and from one edition to the other.
+    pub const SPARSE: [Operation; 7] = [
+        Operation::SparseTrailer,
+        Operation::SparseRead,
+        Operation::SparseWrite,
+        Operation::SparseLength,
+        Operation::BookToSparseLength,
+        Operation::BookToSparse,
+        Operation::SparseToBook,
+    ];
+
+    /// Whether the call reads a sparse book, and not only its trailer.
+    pub fn reads_sparse(self) -> bool {
+        matches!(self, Operation::SparseRead | Operation::SparseToBook)
+    }
+
+    /// Whether the call reads a first-edition book, and not only its trailer.
+    pub fn reads_book(self) -> bool {
+        let readers = [Operation::BookRead, Operation::BookToSparseLength, Operation::BookToSparse];
+        readers.contains(&self)
+    }
+
+    /// Whether the call reads 16 trailer bytes alone.
+    pub fn reads_trailer(self) -> bool {
+        let readers = [Operation::BookTrailer, Operation::PlanLengths, Operation::SparseTrailer];
+        readers.contains(&self)
+    }
+
+    /// Each of the other fourteen with these numbers, where it has them: first the eight on a model, then the
+    /// three that tell beforehand, and the three on books.
     pub fn each(row: u32, variable: u32, budget: u32, limit: u32) -> [Operation; 14] {
         [
             Operation::PropagateRow { row },
@@ -121,11 +161,18 @@ impl Operation {
             Operation::BookTrailer => "book_trailer",
             Operation::BookRead => "book_read",
             Operation::BookWrite => "book_write",
+            Operation::SparseTrailer => "sparse_trailer",
+            Operation::SparseRead => "sparse_read",
+            Operation::SparseWrite => "sparse_write",
+            Operation::SparseLength => "sparse_length",
+            Operation::BookToSparseLength => "book_to_sparse_length",
+            Operation::BookToSparse => "book_to_sparse",
+            Operation::SparseToBook => "sparse_to_book",
         }
     }
 }
 
-/// An implementation of the fourteen calls.
+/// An implementation of the twenty-one calls.
 pub trait Backend {
     /// Makes the call; 0, or the number of the failed check.
     fn call(&mut self, operation: Operation, loan: Loan) -> u32;
@@ -136,7 +183,7 @@ pub struct Reference;
 
 impl Backend for Reference {
     fn call(&mut self, operation: Operation, loan: Loan) -> u32 {
-        let Loan { n, m, bounds, coefs, rhs, kinds, table, calls, book, answer } = loan;
+        let Loan { n, m, bounds, coefs, rhs, kinds, table, calls, book, to, answer } = loan;
         match operation {
             Operation::PropagateRow { row } => {
                 calls::propagate_row(n, m, bounds, coefs, rhs, kinds, row, answer)
@@ -166,6 +213,15 @@ impl Backend for Reference {
             Operation::BookTrailer => calls::book_trailer(book, answer),
             Operation::BookRead => calls::book_read(book, bounds, coefs, rhs, kinds, answer),
             Operation::BookWrite => calls::book_write(n, m, bounds, coefs, rhs, kinds, book),
+            Operation::SparseTrailer => calls::sparse_trailer(book, answer),
+            Operation::SparseRead => calls::sparse_read(book, bounds, coefs, rhs, kinds, answer),
+            Operation::SparseWrite => calls::sparse_write(n, m, bounds, coefs, rhs, kinds, book),
+            Operation::SparseLength => {
+                calls::sparse_length(n, m, bounds, coefs, rhs, kinds, answer)
+            }
+            Operation::BookToSparseLength => calls::book_to_sparse_length(book, answer),
+            Operation::BookToSparse => calls::book_to_sparse(book, to),
+            Operation::SparseToBook => calls::sparse_to_book(book, to),
         }
     }
 }

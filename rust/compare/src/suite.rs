@@ -213,6 +213,7 @@ impl Guarded {
             table: guard(&lent.table, 0x55),
             calls: guard(&lent.calls, 0x5555_5555),
             book: guard(&lent.book, 0x55),
+            to: guard(&lent.to, 0x55),
             answer: guard(&lent.answer, 0x5555_5555_5555_5555),
         };
         Guarded { cells }
@@ -234,6 +235,7 @@ impl Guarded {
             table: inner(&mut cells.table),
             calls: inner(&mut cells.calls),
             book: inner(&mut cells.book),
+            to: inner(&mut cells.to),
             answer: inner(&mut cells.answer),
         }
     }
@@ -250,6 +252,7 @@ impl Guarded {
             table: loan.table.to_vec(),
             calls: loan.calls.to_vec(),
             book: loan.book.to_vec(),
+            to: loan.to.to_vec(),
             answer: loan.answer.to_vec(),
         }
     }
@@ -298,6 +301,7 @@ impl fmt::Display for Difference {
         first(f, "table", [&left.table, &right.table])?;
         first(f, "calls", [&left.calls, &right.calls])?;
         first(f, "book", [&left.book, &right.book])?;
+        first(f, "to", [&left.to, &right.to])?;
         first(f, "answer", [&left.answer, &right.answer])?;
         if self.before.n * self.before.m <= 64 {
             writeln!(f, "  before: {:?}", self.before)?;

@@ -14,9 +14,10 @@
 //! | [`list`] | Run sheet |
 //! | [`rounds`] | the rounds of the program `reduce` |
 //! | [`book`] | Book |
+//! | [`sparse`] | the sparse book (02, C-18) |
 //! | [`checks`] | Checks in their order; 02's new numbers in their places |
 //! | [`plan`] | size and passes told beforehand (02, C-17) |
-//! | [`calls`] | the fourteen calls as the C interface has them: a refusal number and twelve places of answer |
+//! | [`calls`] | the twenty-one calls as the C interface has them: a refusal number and twelve places of answer |
 //! | [`report`] | what `reduce` prints |
 
 pub mod book;
@@ -30,6 +31,7 @@ pub mod propagation;
 pub mod report;
 pub mod rounds;
 pub mod row;
+pub mod sparse;
 
 /// A model and its implication table in lent memory: what a call list and the rounds work on.
 pub struct State<'a> {
