@@ -303,7 +303,7 @@ impl fmt::Display for Difference {
         first(f, "book", [&left.book, &right.book])?;
         first(f, "to", [&left.to, &right.to])?;
         first(f, "answer", [&left.answer, &right.answer])?;
-        if self.before.n * self.before.m <= 64 {
+        if self.before.n.saturating_mul(self.before.m) <= 64 {
             writeln!(f, "  before: {:?}", self.before)?;
         }
         Ok(())

@@ -19,11 +19,13 @@
 //! | [`plan`] | size and passes told beforehand (02, C-17) |
 //! | [`calls`] | the twenty-one calls as the C interface has them: a refusal number and twelve places of answer |
 //! | [`report`] | what `reduce` prints |
+//! | [`convert`] | what `convert` writes (02, C-18) |
 
 pub mod book;
 pub mod bounds;
 pub mod calls;
 pub mod checks;
+pub mod convert;
 pub mod list;
 pub mod plan;
 pub mod probing;
