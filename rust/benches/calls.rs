@@ -58,6 +58,12 @@ const LINES: &[Line] = &[
     line("rest_first_sparse", "rest, a box that the first row narrows", "sparse_first", REST),
     line("rest_quiet_dense", "rest, quiet box", "dense", REST),
     line("rest_quiet_sparse", "rest, quiet box", "sparse", REST),
+    line("read_first", "read a book", "sparse", Operation::BookRead),
+    line("read_sparse", "read a sparse book", "sparse", Operation::SparseRead),
+    line("write_first", "write a book", "sparse", Operation::BookWrite),
+    line("write_sparse", "write a sparse book", "sparse", Operation::SparseWrite),
+    line("to_sparse", "turn a book into a sparse one", "sparse", Operation::BookToSparse),
+    line("to_first", "turn a sparse book into a first-edition one", "sparse", Operation::SparseToBook),
     Line { refusal: 15, ..line("refused_propagate", "propagate, refused by 15", "dense", Operation::Propagate { budget: 0 }) },
     Line { refusal: 15, ..line("refused_probe", "probe, refused by 15", "dense", Operation::Probe { variable: 0, budget: 0 }) },
 ];
@@ -77,7 +83,7 @@ fn main() {
         [folder] => LINES.iter().for_each(|line| println!("{}", described(line, folder))),
         [folder, name, side] => {
             let line = LINES.iter().find(|line| line.name == *name).expect("a call of the list");
-            let mut lent = lent(folder, line.book);
+            let mut lent = lent(folder, line);
             match *side {
                 "plain" => measured(&mut Reference, line.operation, &mut lent),
                 "proved" => measured(&mut Native, line.operation, &mut lent),
@@ -96,7 +102,7 @@ fn measured(side: &mut impl Backend, operation: Operation, lent: &mut Lent) -> u
 
 /// Both sides do the same work, or there is nothing to compare; then the line's parts, divided by tabs.
 fn described(line: &Line, folder: &str) -> String {
-    let (mut left, mut right) = (lent(folder, line.book), lent(folder, line.book));
+    let (mut left, mut right) = (lent(folder, line), lent(folder, line));
     let (n, m) = (left.n, left.m);
     let nonzeros = left.coefs.iter().filter(|&&a| a != 0).count();
     let plain = Reference.call(line.operation, left.lend());
@@ -104,7 +110,7 @@ fn described(line: &Line, folder: &str) -> String {
     assert_eq!((plain, proved), (line.refusal, line.refusal), "{}", line.name);
     assert!(left == right, "{}: the sides differ", line.name);
     let percent = (100.0 * nonzeros as f64 / (n * m) as f64).round();
-    let remark = remark(line.operation, &left.answer, line.refusal);
+    let remark = remark(line.operation, &left, line.refusal);
     let model = match line.book.split('_').next() {
         Some(name @ ("big3" | "lseu" | "p0033")) => name.to_string(),
         _ => format!("{n} × {m}, {percent} %"),
@@ -112,8 +118,9 @@ fn described(line: &Line, folder: &str) -> String {
     format!("{}\t{}{remark}\t{model}", line.name, line.call)
 }
 
-/// What the answer says of the work.
-fn remark(operation: Operation, answer: &[u64], refusal: u32) -> String {
+/// What the answer says of the work; of a book how long it is.
+fn remark(operation: Operation, after: &Lent, refusal: u32) -> String {
+    let answer = &after.answer;
     let passes = |count: u64| {
         if count == 1 { "1 pass".into() } else { format!("{count} passes") }
     };
@@ -123,12 +130,21 @@ fn remark(operation: Operation, answer: &[u64], refusal: u32) -> String {
             format!(", {} and {}", passes(answer[2]), passes(answer[5]))
         }
         Operation::IsProbingFixpoint => format!(": {}", ["no", "yes"][answer[0] as usize]),
+        _ if operation.reads_book()
+            || operation.reads_sparse()
+            || matches!(operation, Operation::BookWrite | Operation::SparseWrite) =>
+        {
+            let bytes = after.book.len();
+            format!(", {},{:03} bytes", bytes / 1000, bytes % 1000)
+        }
         _ => String::new(),
     }
 }
 
-/// The model of a book with an empty table and a call list that probes each variable.
-fn lent(folder: &str, name: &str) -> Lent {
+/// The model of a line's book with an empty table and a call list that probes each variable; the book is that of the
+/// edition that the call is of.
+fn lent(folder: &str, line: &Line) -> Lent {
+    let name = line.book;
     let path = Path::new(folder).join(name).with_extension("book");
     let book = fs::read(&path).unwrap_or_else(|error| panic!("{}: {error}", path.display()));
     let trailer = &book[book.len() - 16..];
@@ -150,5 +166,15 @@ fn lent(folder: &str, name: &str) -> Lent {
         answer: vec![0; ANSWER],
     };
     assert_eq!(Reference.call(Operation::BookRead, lent.lend()), 0, "{name}");
+    let sparse = reference::sparse::write(n, &lent.bounds, &lent.coefs, &lent.rhs, &lent.kinds);
+    match line.operation {
+        Operation::BookToSparse => lent.to = vec![0; sparse.len()],
+        Operation::SparseToBook => {
+            lent.to = vec![0; lent.book.len()];
+            lent.book = sparse;
+        }
+        Operation::SparseRead | Operation::SparseWrite => lent.book = sparse,
+        _ => {}
+    }
     lent
 }
