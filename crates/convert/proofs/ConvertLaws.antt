@@ -27,9 +27,9 @@ use Rattle.sparse_layout.specs.SparseBook.{decodeSparse, sparseLength, sparseMo
 use Rattle.sparse_layout.specs.SparseTrips.{toFirst, toSparse}
 use Rattle.sparse_layout.proofs.SparseEncodeLaws.{sparseLength-below}
 use Rattle.sparse.specs.SparseCalls.{bytesAre, bytesUnless, refusedLength, toFirstCall, toFirstChecks, toFirstFault, toFirstWritten, toSparseChecks, toSparseFault, toSparseLengthCall, toSparseWritten}
-use Rattle.convert.specs.Output.{bookUnless, firstEdition, isSparse, maxSparse, output, sparseEdition}
+use Rattle.convert.specs.Output.{bookUnless, firstEdition, isSparse, maxSparse, output, sparseEdition, toFirstNumber}
 
-book-when : {fault : ℕ} → fault ≡ 0 → (book : List ℕ) → book ≡ bookUnless fault book
+pub book-when : {fault : ℕ} → fault ≡ 0 → (book : List ℕ) → book ≡ bookUnless fault book
 unfolding bookUnless
 book-when e book = rw e
 
@@ -103,8 +103,8 @@ never-written : (k : ℕ) → refused k ≡ written → ⊥
 never-written k e = let z : _≡_ {A = ℕ} 0 1 = cc in omega arith
 
 module _ (bs cs : List ℕ) (l : length cs ≡ bookLength (variables (trailerOf bs)) (rows (trailerOf bs))) where
-  same-fault : toFirstFault bs cs ≡ first (toFirstChecks bs (bookLength (decodeSparse bs .n) (decodeSparse bs .m)))
-  unfolding toFirstFault decodeSparse sparseModelIn
+  pub same-fault : toFirstFault bs cs ≡ toFirstNumber bs
+  unfolding toFirstFault toFirstNumber decodeSparse sparseModelIn
   same-fault = ap (λ (k : ℕ). first (toFirstChecks bs k)) l
 
   pub first-refused : (number : ℕ) → refused number ≡ toFirstCall bs cs → refusedLine number ≡ firstEdition bs

@@ -30,8 +30,11 @@ unfoldable pub sparseEdition : List ℕ → List ℕ
 sparseEdition bs = bookUnless (bookFault bs) (toSparse bs)
 
 -- from the sparse one: refused as it is read, and "an = row is refused as 17"
+unfoldable pub toFirstNumber : List ℕ → ℕ
+toFirstNumber bs = let M = decodeSparse bs in first (toFirstChecks bs (bookLength (M .n) (M .m)))
+
 unfoldable pub firstEdition : List ℕ → List ℕ
-firstEdition bs = let M = decodeSparse bs in bookUnless (first (toFirstChecks bs (bookLength (M .n) (M .m)))) (toFirst bs)
+firstEdition bs = bookUnless (toFirstNumber bs) (toFirst bs)
 
 unfoldable pub output : List ℕ → List ℕ
 output bs = cond (isSparse bs) (firstEdition bs) (sparseEdition bs)

@@ -96,7 +96,7 @@ pub to-first-refused : (bs cs : List ℕ) {r : ℕ} → r ≡ first (sparseLayou
 unfolding toFirstFault toFirstChecks
 to-first-refused bs cs e n = stops _ _ e n
 
-sparse-accepted : (bs cs : List ℕ) → toFirstFault bs cs ≡ 0 → (sparseFault bs ≡ 0) × FirstEdition (decodeSparse bs)
+pub sparse-accepted : (bs cs : List ℕ) → toFirstFault bs cs ≡ 0 → (sparseFault bs ≡ 0) × FirstEdition (decodeSparse bs)
 unfolding toFirstFault toFirstChecks sparseFault sparseChecks boxChecks numberChecks
 sparse-accepted bs cs z =
     let M = decodeSparse bs in
