@@ -7,14 +7,14 @@ use lib.Seq.{take-at}
 use mathlib.Core.Bool.{Bool, _&&_}
 use mathlib.Core.List.{List, _++_, _∷_}
 use mathlib.Core.Logic.{⊎-elim}
-use mathlib.Core.Path.{_∙_, _≡_, ap, ap₂, refl, sym}
+use mathlib.Core.Path.{_∙_, _≡_, ap, refl, sym}
 use native.Mathlib.Decide.{decLt, ℕ-discrete}
 use native.Mathlib.Omega.{arith}
 use Rattle.integer.proofs.Tests.{T→false, T→true, decide}
 use Rattle.model.specs.Checks.{first, must, sizeChecks}
 use Rattle.model.specs.Limits.{maxRows, maxVariables}
-use Rattle.model.proofs.CheckLaws.{fails, first-append, first-go, first-stop, first-zero-append, past, size-test}
-use Rattle.book.specs.Answers.{Answer, lent, refused, sizesAre, unless, written}
+use Rattle.model.proofs.CheckLaws.{fails, first-stop, first-zero-append, past, size-test}
+use Rattle.book.specs.Answers.{Answer, refused, sizesAre, unless, written}
 use Rattle.book.specs.Book.{bookLength, decode, lengthGiven, modelIn, rows, trailerOf, variables}
 use Rattle.book.specs.BookChecks.{bookChecks, bookFault, givenLengthChecks, headChecks, layoutChecks, modelNumberChecks}
 use Rattle.book.proofs.AcceptLaws.{head-numbered, head-test}

@@ -1,35 +1,33 @@
 -- What is converted comes back: the round trips of the two editions, and which edition the other book is taken for. Assumes nothing.
 use Prim.Native.Nat.{_*_, _≤_, ℕ}
 use borrow.Author.Tests.{eq-eqb, le-leb, ne-eqb}
-use lib.Dec.{T, eqb, leb}
+use lib.Dec.{eqb}
 use lib.ListN.{length, length-replicate, replicate}
 use mathlib.Core.Bool.{_&&_, false, true}
 use mathlib.Core.List.{List, _++_, _∷_}
-use mathlib.Core.Path.{_∙_, _≡_, ap, ap₂, refl, sym}
+use mathlib.Core.Path.{_∙_, _≡_, ap, refl, sym}
 use native.Mathlib.Omega.{arith}
-use Rattle.integer.proofs.Tests.{T→true, eqb-test}
+use Rattle.integer.proofs.Tests.{T→true}
 use Rattle.model.specs.Checks.{boxChecks, first, must, numberChecks, sizeChecks}
-use Rattle.model.specs.Limits.{maxRows, maxVariables}
 use Rattle.model.specs.Model.{Model}
 use Rattle.model.specs.Rows.{isEquality}
 use Rattle.model.proofs.CheckLaws.{fails, first-none, first-zero-append, past, size-test}
-use Rattle.bytes.specs.Bytes.{Bytes}
 use Rattle.book.specs.Book.{bookLength, boundsOffset, decode, lengthGiven, modelIn, rows, rowsOffset, trailerOf, variables}
 use Rattle.book.specs.BookChecks.{bookChecks, bookFault, firstEditionChecks, givenLengthChecks, headChecks, layoutChecks, modelNumberChecks, offsetChecks}
 use Rattle.book.specs.RoundTrips.{Accepted, FirstEdition}
 use Rattle.book.proofs.AcceptLaws.{Head, head-numbered, head-test, inequalities-test}
 use Rattle.book.proofs.RoundTripLaws.{writes-read}
-use Rattle.sparse_layout.specs.SparseBook.{decodeSparse, encodeSparse, sparseModelIn}
+use Rattle.sparse_layout.specs.SparseBook.{decodeSparse, sparseModelIn}
 use Rattle.sparse_layout.specs.SparseChecks.{sparseChecks, sparseFault, sparseLayoutChecks}
-use Rattle.sparse_layout.specs.SparseTrips.{SparseAccepted, toFirst, toSparse}
+use Rattle.sparse_layout.specs.SparseTrips.{toFirst, toSparse}
 use Rattle.sparse_layout.proofs.SparseAcceptLaws.{SparseHead, sparse-layout-numbered, sparse-test}
 use Rattle.sparse_layout.proofs.SparseEncodeLaws.{length-encodeSparse, sparseLength-below}
 use Rattle.sparse_layout.proofs.SparseTripLaws.{first-sparse-first, sparse-first-sparse, sparse-reads-written}
-use Rattle.sparse.specs.SparseCalls.{toFirstChecks, toFirstFault}
+use Rattle.sparse.specs.SparseCalls.{toFirstChecks}
 use Rattle.sparse.proofs.ConversionLaws.{sparse-accepted}
-use Rattle.convert.specs.Output.{bookUnless, firstEdition, isSparse, maxSparse, output, sparseEdition, toFirstNumber}
+use Rattle.convert.specs.Output.{firstEdition, isSparse, maxSparse, output, sparseEdition, toFirstNumber}
 use Rattle.convert.specs.Trips.{FirstComesBack, SparseComesBack}
-use Rattle.convert.proofs.ConvertLaws.{book-when, not-sparse, same-fault, sparse-input}
+use Rattle.convert.proofs.ConvertLaws.{book-when, not-sparse, same-fault}
 
 -- an accepted book of the first edition is converted to the sparse one
 output-first : (bs : List ℕ) → bookFault bs ≡ 0 → output bs ≡ toSparse bs

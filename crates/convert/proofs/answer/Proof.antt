@@ -9,7 +9,7 @@ use native.Mathlib.Omega.{arith}
 use Rattle.intake.specs.Intake.{Held}
 use Rattle.report.specs.Report.{refusedLine}
 use Rattle.convert.specs.Answers.{Fits, answerBytes}
-use Rattle.convert.specs.Output.{maxSparse, output}
+use Rattle.convert.specs.Output.{output}
 use Rattle.convert.specs.declared.conversion.Answer.{Answer}
 use Rattle.convert.proofs.answer.Statement.{statement}
 use Rattle.convert.proofs.answer.Tie as tie

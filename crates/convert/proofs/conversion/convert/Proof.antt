@@ -2,7 +2,7 @@
 -- no longer than `start`, so it is held whole. Assumes nothing.
 use Prim.Native.Nat.{_≤_, ℕ}
 use borrow.Author.Needs.{needs}
-use lib.ListN.{length, take}
+use lib.ListN.{length}
 use lib.Seq.{length-take-le}
 use mathlib.Core.List.{List}
 use mathlib.Core.Path.{_∙_, _≡_, ap, sym}
