@@ -46,8 +46,7 @@ write-entries-requires : tie.Need-write-entries-requires
 write-entries-requires c κs =
     let d = c .before .before .before in
     let w = d .before .before .before .before in
-    let l = length-set (w .write-i32 .last .0) (w .before .before .before .before .args .place + 4) (w .before .before .before .before .args .kind) in
-    (omega (arith, d .write-u16 .kept .0, l, w .write-i32 .kept .0), omega arith)
+    (omega (arith, d .write-u16 .kept .0 ∙ length-set (w .write-i32 .last .0) _ _ ∙ w .write-i32 .kept .0), omega arith)
 
 mul-result : tie.Need-mul-result
 mul-result c = search needs
@@ -63,8 +62,7 @@ same-length c =
     let d = c .before .before in
     let u = d .before .before .before .before in
     let w = u .before .before .before .before in
-    let a = w .before .before .before .before .args in
-    d .write-entries .kept .0 ∙ u .write-u16 .kept .0 ∙ length-set (w .write-i32 .last .0) (a .place + 4) (a .kind) ∙ w .write-i32 .kept .0
+    d .write-entries .kept .0 ∙ u .write-u16 .kept .0 ∙ length-set (w .write-i32 .last .0) _ _ ∙ w .write-i32 .kept .0
 
 returns : tie.Need-returns
 returns c =
