@@ -1,4 +1,4 @@
-// The numbers of a book of either edition that has passed the checks of its layout, into buffers of its model's lengths.
+// The numbers of a book of either edition whose layout has passed its checks, into buffers of its model's lengths.
 use bytes::integers::read_integers;
 use sparse_layout::reading::read_coefs;
 use sparse_layout::reading::read_kinds;
