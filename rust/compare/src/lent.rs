@@ -1,4 +1,4 @@
-//! What a call can be lent, the fifteen calls, and the trait of an implementation of them.
+//! What a call can be lent, the calls, and the trait of an implementation of them.
 
 use reference::calls;
 
@@ -77,7 +77,7 @@ impl Lent {
     }
 }
 
-/// One of the fifteen calls, with its numbers.
+/// One of the calls, with its numbers.
 #[derive(Clone, Copy, Debug, PartialEq, Eq)]
 pub enum Operation {
     PropagateRow { row: u32 },
@@ -145,7 +145,7 @@ impl Operation {
     }
 }
 
-/// An implementation of the fifteen calls.
+/// An implementation of the calls.
 pub trait Backend {
     /// Makes the call; 0, or the number of the failed check.
     fn call(&mut self, operation: Operation, loan: Loan) -> u32;

@@ -1,4 +1,4 @@
-//! The fifteen calls as the C interface has them.
+//! The calls as the C interface has them.
 //!
 //! Each returns 0 or the number of the failed check, and writes its answer into twelve places, 0 into
 //! those that it does not use. On a refusal nothing is written. The length of `answer` is check 5, with

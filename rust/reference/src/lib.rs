@@ -18,7 +18,7 @@
 //! | [`plan`] | size and passes told beforehand (02, C-17) |
 //! | [`ties`] | tied variables (02, C-19) |
 //! | [`cliques`] | clique rows (02, C-12; 000, 2.2.2) |
-//! | [`calls`] | the fifteen calls as the C interface has them: a refusal number and twelve places of answer |
+//! | [`calls`] | the calls as the C interface has them: a refusal number and twelve places of answer |
 //! | [`report`] | what `reduce` prints |
 
 pub mod book;
