@@ -17,6 +17,7 @@ pub mod CallList
 pub mod TwoLists
 pub mod Passes
 pub mod Measure
+pub mod Unmoved
 pub mod Books
 pub mod WorkedBooks
 pub mod Corners
