@@ -2,7 +2,7 @@
 -- propagation says that the box is quiet, and each probe without a Spent side that the sides span it.
 use Prim.Native.Nat.{_<_, suc, zero, ℕ}
 use lib.Dec.{T, T-not}
-use mathlib.Core.Bool.{Bool, _||_, false, not, or-assoc, true}
+use mathlib.Core.Bool.{Bool, _||_, false, not, true}
 use mathlib.Core.List.{List, [], _++_, _∷_}
 use mathlib.Core.Logic.{_≢_, inr}
 use mathlib.Core.Path.{_∙_, _≡_, ap, refl, subst, sym}
@@ -24,6 +24,7 @@ use Rattle.semantics.proofs.Unmoved.{run-empty, still-step, unmoved-quiet, unmo
 use Rattle.round.specs.Rest.{RoundRests}
 use Rattle.round.specs.Round.{andThen, anyChange, isChange, probeCall, probes, propagateCall, removals, round, tightenings, upwards}
 use Rattle.round.proofs.RoundLaws.{accepts-probe, accepts-propagation, change-append, run-append}
+use Rattle.round.proofs.SpentLaws.{spent-append}
 
 -- ---- flags of calls one after another
 
@@ -34,13 +35,6 @@ or-l false b e = refl
 or-r : (a b : Bool) → (a || b) ≡ false → b ≡ false
 or-r true b e = absurd (true→T false (sym e))
 or-r false b e = e
-
-spent-append : (s : State) (cs ds : List Call) → anySpent s (cs ++ ds) ≡ (anySpent s cs || anySpent (run s cs) ds)
-unfolding run anySpent
-spent-append s [] ds = refl
-spent-append s (c ∷ cs) ds =
-    let b = sideSpent (perform s c .answer) in
-    ap (λ (x : Bool). b || x) (spent-append (step s c) cs ds) ∙ sym (or-assoc b (anySpent (step s c) cs) (anySpent (run (step s c) cs) ds))
 
 -- ---- calls that change nothing
 

@@ -241,8 +241,9 @@ fn probe_variables_marked(
                 signs,
                 marks,
             );
+            let class = step.class;
             spent = spent | step.spent;
-            changed = changed | is_changed(step.class);
+            changed = changed | is_changed(class);
         }
         k += 1;
     }
