@@ -25,3 +25,4 @@ pub mod Greatest
 pub mod Measure
 pub mod MeasureCorners
 pub mod Unmoved
+pub mod Solvers

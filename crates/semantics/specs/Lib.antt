@@ -18,6 +18,7 @@ pub mod TwoLists
 pub mod Passes
 pub mod Measure
 pub mod Unmoved
+pub mod Solvers
 pub mod Books
 pub mod WorkedBooks
 pub mod Corners
