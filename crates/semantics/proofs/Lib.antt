@@ -26,3 +26,4 @@ pub mod Measure
 pub mod MeasureCorners
 pub mod Unmoved
 pub mod Solvers
+pub mod RestCorners

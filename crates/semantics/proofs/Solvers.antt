@@ -11,7 +11,7 @@ use mathlib.Core.Path.{_∙_, _≡_, subst, sym}
 use native.Mathlib.Omega.{arith}
 use Rattle.integer.proofs.Parts.{zarith}
 use Rattle.integer.proofs.Tests.{false→T}
-use Rattle.model.specs.Box.{NonEmpty, emptyBox, isEmpty, isFree, width}
+use Rattle.model.specs.Box.{Inside, NonEmpty, emptyBox, isEmpty, isFree, width}
 use Rattle.model.specs.Rows.{Rows}
 use Rattle.model.specs.State.{State}
 use Rattle.model.proofs.BoxLaws.{inside-refl, nonEmpty-isn't, not-in-empty}
@@ -23,8 +23,9 @@ use Rattle.semantics.specs.Propagate.{isNone, propagate}
 use Rattle.semantics.specs.Run.{run}
 use Rattle.semantics.specs.Solvers.{NothingMoves, NothingMovesRests, SolversAgree}
 use Rattle.semantics.specs.TwoRuns.{Demand3}
+use Rattle.semantics.proofs.Accepted.{handed-in-valid}
 use Rattle.semantics.proofs.Convergence.{propagate-ends, side-moves, span-iff}
-use Rattle.semantics.proofs.Demand3.{demand-3, handed-in-valid}
+use Rattle.semantics.proofs.Demand3.{demand-3}
 use Rattle.semantics.proofs.Passes.{total-width-is}
 use Rattle.semantics.proofs.Preserved.{run-preserves}
 use Rattle.semantics.proofs.ProbeLaws.{probe-ind}
@@ -36,7 +37,7 @@ module _ (n m : ℕ) (A : Rows) (B : List ℤ) (h : 0 < n) (p : NonEmpty n B) (b
   enough = let t = total-width-is h p in omega zarith
 
   not-empty : B ≡ emptyBox n → ⊥
-  not-empty e = not-in-empty n B h p (rw e (inside-refl n B))
+  not-empty e = not-in-empty n B h p (subst (Inside n B) e (inside-refl n B))
 
   still-quiet : propagate budget n m A B .box ≡ B → Fixpoint n m A B
   unfolding EnoughPasses

@@ -24,3 +24,4 @@ pub mod WorkedBooks
 pub mod Corners
 pub mod PassesCorners
 pub mod MeasureCorners
+pub mod RestCorners
