@@ -27,15 +27,27 @@ fn told(answer: CliquesAnswer, n: usize, coefs: &[i32], rhs: &[i32], table: &[u8
     }
 }
 
+// The coefficients of 2n rows of n variables, of at most eight.
+fn room(n: usize) -> usize {
+    match n {
+        0 => 0,
+        1 => 2,
+        2 => 8,
+        3 => 18,
+        4 => 32,
+        5 => 50,
+        6 => 72,
+        7 => 98,
+        _ => 128,
+    }
+}
+
 pub fn of_table(n: usize, table: &[u8]) {
-    let mut coefs = [7i32; 128];
-    let mut rhs = [7i32; 16];
+    let mut all_coefs = [7i32; 128];
+    let mut all_rhs = [7i32; 16];
     let few = lesser(n, 8);
-    let answer = cliques(
-        n,
-        table,
-        part_mut(&mut coefs, 2 * few * few),
-        part_mut(&mut rhs, 2 * few),
-    );
-    told(answer, n, &coefs[..2 * few * few], &rhs[..2 * few], table);
+    let coefs = part_mut(&mut all_coefs, room(few));
+    let rhs = part_mut(&mut all_rhs, 2 * few);
+    let answer = cliques(n, table, coefs, rhs);
+    told(answer, n, coefs, rhs, table);
 }

@@ -21,6 +21,7 @@
 //! | [`cliques`] | clique rows (02, C-12; 000, 2.2.2) |
 //! | [`calls`] | the fifteen calls as the C interface has them: a refusal number and twelve places of answer |
 //! | [`calls`] | the twenty-one calls as the C interface has them: a refusal number and twelve places of answer |
+//! | [`calls`] | the calls as the C interface has them: a refusal number and twelve places of answer |
 //! | [`report`] | what `reduce` prints |
 //! | [`convert`] | what `convert` writes (02, C-18) |
 
