@@ -1,0 +1,5 @@
+pub mod Verdict
+pub mod Proposals
+pub mod Holding
+pub mod Call
+pub mod Meaning
