@@ -1,2 +1,4 @@
 pub mod VerdictLaws
 pub mod TellingLaws
+pub mod ValueLaws
+pub mod JudgeLaws

@@ -1,6 +1,6 @@
 -- Laws of a verdict: inside exactly at the integer points, so the same against every model with the same points; a row more changes it
 -- only where it was inside; the box comes first.
-use Prim.Native.Nat.{_*_, _+_, _<_, suc, ℕ}
+use Prim.Native.Nat.{_*_, _+_, _<_, _≤_, suc, ℕ}
 use lib.Dec.{T, T-not}
 use lib.IntN.{pos, ℤ}
 use lib.ListN.{List·getD-eq-default, length}
@@ -33,8 +33,9 @@ use Rattle.semantics.specs.Demand2.{Demand2Runs}
 use Rattle.semantics.specs.Lowest.{lowest}
 use Rattle.semantics.specs.Run.{run}
 use Rattle.semantics.proofs.Demand2.{demand-2-runs}
-use Rattle.semantics.proofs.LowestLaws.{lowest-is}
+use Rattle.semantics.proofs.LowestLaws.{lowest-all, lowest-is, lowest-none}
 use Rattle.verdicts.specs.Proposals.{caseOf}
+use Rattle.verdicts.specs.Telling.{boxVerdict, held}
 use Rattle.verdicts.specs.Verdict.{Verdict, breaks, inBounds, inside, meets, outsideAt, rowMet, verdict, verdictBy}
 
 -- ---- the tests
@@ -115,13 +116,36 @@ same-verdict s cs x l =
       (λ e. after .1 (d .points x .1 (before .0 e))),
     )
 
--- ---- one row more
+-- ---- the box, then one row more
 
--- the verdict v, held against row k, which is met or not
-unfoldable pub held : ℕ → Bool → Verdict → Verdict
-held k met inside = cond met inside (breaks k)
-held k met (outsideAt j) = outsideAt j
-held k met (breaks i) = breaks i
+pub box-verdict : (M : Model) (x : List ℤ) → verdictBy 0 M x ≡ boxVerdict (M .n) (M .box) x
+unfolding verdictBy boxVerdict all
+box-verdict M x = refl
+
+pub box-outside : (n : ℕ) (B x : List ℤ) → lowest n (inBounds B x) < n → boxVerdict n B x ≡ outsideAt (lowest n (inBounds B x))
+unfolding boxVerdict
+box-outside n B x h =
+    cond-ind (all n (inBounds B x)) _ _ (λ v. v ≡ outsideAt (lowest n (inBounds B x)))
+    (λ t. absurd (let e = lowest-all (inBounds B x) n t in let z : ⊥ = omega arith in z)) (λ _. refl)
+
+pub box-inside : (n : ℕ) (B x : List ℤ) → n ≤ lowest n (inBounds B x) → boxVerdict n B x ≡ inside
+unfolding boxVerdict
+box-inside n B x h = rw (T→true (all n (inBounds B x)) (lowest-none (inBounds B x) n .0 h)) refl
+
+-- one that has its verdict keeps it; one that is still inside breaks the row or not
+pub held-told : (k : ℕ) (met : Bool) (v : Verdict) → (caseOf v ≡ 0 → ⊥) → held k met v ≡ v
+unfolding held caseOf
+held-told k met inside h = absurd (h refl)
+held-told k met (outsideAt j) h = refl
+held-told k met (breaks i) h = refl
+
+pub held-broken : (k : ℕ) {met : Bool} {v : Verdict} → v ≡ inside → met ≡ false → held k met v ≡ breaks k
+unfolding held
+held-broken k e f = rw (e, f) refl
+
+pub held-met : (k : ℕ) {met : Bool} {v : Verdict} → v ≡ inside → met ≡ true → held k met v ≡ v
+unfolding held
+held-met k e f = rw (e, f) refl
 
 one-more : (box rows met : Bool) (p q k : ℕ)
     → cond box (cond (rows && met) inside (breaks (cond rows (cond met (suc k) k) q))) (outsideAt p)

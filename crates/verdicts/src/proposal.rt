@@ -1,13 +1,23 @@
 // One proposed allocation: against the box, against a row.
 ghost use mathlib.Core.Path.{_≡_};
-ghost use Prim.Native.Nat.{_*_};
+ghost use Prim.Native.Nat.{_*_, _+_, _≤_};
 ghost use lib.ListN.{length};
 ghost use Rattle.model.specs.Point.{dot};
-ghost use Rattle.model.specs.Rows.{rowWith};
+ghost use Rattle.model.specs.Rows.{rowOf, rowWith};
 ghost use Rattle.semantics.specs.Lowest.{lowest};
 ghost use Rattle.sweep.specs.Steps.{Steps};
 ghost use Rattle.verdicts.specs.Holding.{Holdable};
 ghost use Rattle.verdicts.specs.Verdict.{inBounds, meets};
+
+// Line c of lines of n numbers that stand one after the other: a proposal, or a row's coefficients.
+pub fn line<'a>(n: usize, numbers: &'a [i32], c: usize) -> &'a [i32]
+    requires { ⌜ c * n + n ≤ length (now numbers) ⌝ }
+    ensures { λ x. ⌜ now x ≡ rowOf n (now (numbers .entry)) c ⌝ }
+{
+    let start = c * n;
+    let end = start + n;
+    &numbers[start..end]
+}
 
 // The lowest variable of x that is not between its bounds, n where there is none. The numbers are any.
 pub fn first_outside(n: usize, bounds: &[i32], x: &[i32]) -> usize
@@ -17,10 +27,13 @@ pub fn first_outside(n: usize, bounds: &[i32], x: &[i32]) -> usize
 {
     let mut j = 0;
     while j < n {
-        if x[j] < bounds[2 * j] {
+        let number = x[j];
+        let low = bounds[2 * j];
+        let high = bounds[2 * j + 1];
+        if number < low {
             return j;
         }
-        if bounds[2 * j + 1] < x[j] {
+        if high < number {
             return j;
         }
         j += 1;
