@@ -2,3 +2,4 @@ pub mod VerdictLaws
 pub mod TellingLaws
 pub mod ValueLaws
 pub mod JudgeLaws
+pub mod CallLaws

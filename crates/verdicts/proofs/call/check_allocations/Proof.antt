@@ -1,10 +1,17 @@
+-- `verdicts::call::check_allocations`: refused by the first check that fails, and else the verdicts, told in their numbers; what they mean
+-- is `judged`. Assumes nothing.
+use mathlib.Core.Path.{_∙_, sym}
+use Rattle.model.specs.Model.{Model, modelOf}
+use Rattle.model.specs.Rows.{rowsOf}
+use Rattle.verdicts.proofs.CallLaws.{accepted, judged, left-accepted, left-refused}
+use Rattle.verdicts.proofs.TellingLaws.{tells-numbers}
 use borrow.Author.Needs.{needs}
 use Rattle.verdicts.proofs.call.check_allocations.Statement.{statement}
 use Rattle.verdicts.proofs.call.check_allocations.Tie as tie
-use Rattle.verdicts.proofs.call.check_allocations.Reads as reads
-use Rattle.verdicts.proofs.call.check_allocations.Lts as lts
-use Rattle.verdicts.proofs.call.allocation_fault.Reads as allocation-fault-reads
-use Rattle.verdicts.proofs.call.judge_all.Reads as judge-all-reads
+
+-- the model
+abbrev M : tie.Start → Model
+M s = modelOf (s .args .n) (s .args .m) (s .args .bounds .now) (rowsOf (s .args .coefs .now) (s .args .rhs .now) (s .args .kinds .now))
 
 allocation-fault-requires : tie.Need-allocation-fault-requires
 allocation-fault-requires c κs = search needs
@@ -13,16 +20,28 @@ same-length : tie.Need-same-length
 same-length c = search needs
 
 returns : tie.Need-returns
-returns c = ?
+returns c =
+    let s = c .before .before .before .before .before in
+    let e = c .before .allocation-fault .ensures in
+    (e, (left-refused (M s) (s .args .proposals .now) (s .args .count) (s .args .verdicts .now) (λ z. c .if1 .taken (e ∙ z)), λ z. absurd (c .if1 .taken z)))
 
 judge-all-requires : tie.Need-judge-all-requires
-judge-all-requires c κs = ?
+judge-all-requires c κs =
+    let s = c .before .before .before .before .before .before in
+    let d = c .before in
+    accepted (M s) (s .args .proposals .now) (s .args .count) (s .args .verdicts .now) (sym (d .before .allocation-fault .ensures) ∙ d .if1 .left)
 
 same-length-2 : tie.Need-same-length-2
 same-length-2 c = search needs
 
 returns-2 : tie.Need-returns-2
-returns-2 c = ?
+returns-2 c =
+    let d = c .before .before .before .before in
+    let s = d .before .before .before .before .before in
+    let e = sym (d .before .allocation-fault .ensures) ∙ d .if1 .left in
+    let t = c .before .before .judge-all .ensures in
+    let a = accepted (M s) (s .args .proposals .now) (s .args .count) (s .args .verdicts .now) e in
+    (sym e, (tells-numbers (s .args .count) _ _ t ∙ left-accepted (M s) (s .args .proposals .now) (s .args .count) (s .args .verdicts .now) e, λ _. judged (a .lent .len) t))
 
 pub check-allocations-spec : {M : Type 1} → statement M
 check-allocations-spec =

@@ -60,11 +60,14 @@ add-i c = omega arith
 loop-less : tie.Need-loop-less Inv-loop μ-loop
 loop-less c = omega arith
 
+below : (c : tie.In-loop Inv-loop μ-loop) → c .before .loop .i < c .before .before .before .before .before .before .before .before .before .args .m
+below c = omega arith
+
 loop-again : tie.Need-loop-again Inv-loop μ-loop
 loop-again c =
     let h = c .before .before .before .before .before .before .before .before .before .before in
     let s = h .before .before .before .before .before .before .before .before in
-    let k : h .loop .i < s .args .m = omega arith in (
+    let k = below (c .before .before .before .before .before .before .before .before .before) in (
       omega (arith, k),
       c .before .before .before .before .before .before .before .know-steps .ensures .0,
       tells-as (λ k. held-row (h .loop .i) (M s) (proposal (s .args .n) (s .args .proposals .now) k)) (c .before .before .hold-row-at .ensures _ (h .loop .inv .2)),
@@ -76,7 +79,7 @@ same-length : tie.Need-same-length Inv-loop μ-loop
 same-length c = c .before .loop .inv .3
 
 same-length-2 : tie.Need-same-length-2 Inv-loop μ-loop
-same-length-2 c = c .before .loop .inv .4 ∙ ?
+same-length-2 c = c .before .loop .inv .4 ∙ c .before .before .before .before .hold-boxes .kept .1 .1 .1 .1 .0
 
 returns : tie.Need-returns Inv-loop μ-loop
 unfolding verdict
