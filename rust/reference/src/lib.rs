@@ -16,9 +16,11 @@
 //! | [`book`] | Book |
 //! | [`checks`] | Checks in their order; 02's new numbers in their places |
 //! | [`plan`] | size and passes told beforehand (02, C-17) |
+//! | [`allocations`] | many proposed allocations, one reading (02, C-21) |
 //! | [`calls`] | the fourteen calls as the C interface has them: a refusal number and twelve places of answer |
 //! | [`report`] | what `reduce` prints |
 
+pub mod allocations;
 pub mod book;
 pub mod bounds;
 pub mod calls;
