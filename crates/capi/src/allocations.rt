@@ -3,7 +3,7 @@ use verdicts::check_allocations;
 ghost use mathlib.Core.Path.{_≡_};
 ghost use Rattle.model.specs.Model.{modelOf};
 ghost use Rattle.model.specs.Rows.{rowsOf};
-ghost use Rattle.verdicts.specs.Call.{allocationFault, verdictsLeft};
+ghost use Rattle.proposals.specs.Call.{allocationFault, verdictsLeft};
 
 // The verdicts of `count` proposals against a model, two numbers each: {0, 0} inside, {1, j} outside the box at
 // variable j, {2, i} breaks row i. Refused by 3, 22, 5, 6, 7, 23, 8, 9, 16, in this order.

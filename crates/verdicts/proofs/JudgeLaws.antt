@@ -16,16 +16,25 @@ use Rattle.row_marks.proofs.IndexLoops.{line-end}
 use Rattle.row_view.specs.RowIn.{RowIn, StepsIn}
 use Rattle.semantics.proofs.RowChange.{row-valid}
 use Rattle.sweep.specs.Steps.{Steps}
+use Rattle.proposals.specs.Call.{allocationFault}
+use Rattle.proposals.proofs.CallLaws.{accepted}
 use Rattle.verdicts.specs.Holding.{Judgeable, Lent, Pending}
-use Rattle.verdicts.specs.Proposals.{proposal}
+use Rattle.proposals.specs.Proposals.{proposal}
 use Rattle.verdicts.specs.Telling.{Tells, held}
-use Rattle.verdicts.specs.Verdict.{Verdict, inside, meets, rowMet, verdictBy}
-use Rattle.verdicts.proofs.VerdictLaws.{held-verdict, inBox-test, inside-by, inside-case, inside-small}
+use Rattle.proposals.specs.Verdict.{Verdict, inside, meets, rowMet, verdictBy}
+use Rattle.proposals.proofs.VerdictLaws.{inBox-test, inside-by, inside-case}
+use Rattle.verdicts.proofs.HeldLaws.{held-verdict, inside-small}
 
 -- the part that is lent as the steps of row i
 pub lent-steps : {n : ℕ} {C A : List ℤ} {across : List ℕ} (i : ℕ) → A ≡ rowOf n C i → StepsIn n C across i
     → Steps n A (take (i * n + n - i * n) (drop (i * n) across))
 lent-steps {n} i e s = let k : i * n + n - i * n ≡ n = omega arith in rw (k, e) (s .good)
+
+-- an accepted call
+pub judgeable : (M : Model) (P : List ℤ) (count : ℕ) (Y : List ℕ) → allocationFault M P count Y ≡ 0 → Judgeable M count P Y
+judgeable M P count Y e =
+    let a = accepted M P count Y e in
+    record { valid = a .0; lent = record { few = a .0 .few; fewProposals = a .1; len = a .2; room = a .3 } }
 
 module _ (M : Model) (v : ValidModel M) (i : ℕ) (h : i < M .m) where
   pub row-in : RowIn (M .n) (M .rows) i

@@ -1,5 +1,4 @@
-pub mod VerdictLaws
+pub mod HeldLaws
 pub mod TellingLaws
 pub mod ValueLaws
 pub mod JudgeLaws
-pub mod CallLaws

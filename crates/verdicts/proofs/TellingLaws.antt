@@ -10,9 +10,9 @@ use native.Mathlib.Omega.{arith}
 use lib.IntN.{ℤ}
 use Rattle.model.specs.Rows.{rowOf}
 use Rattle.model.proofs.RowsLaws.{length-rowOf}
-use Rattle.verdicts.specs.Proposals.{caseOf, numberOf, numbers, withNumbers}
+use Rattle.proposals.specs.Proposals.{caseOf, numberOf, numbers, withNumbers}
 use Rattle.verdicts.specs.Telling.{Says, Tells, withVerdict}
-use Rattle.verdicts.specs.Verdict.{Verdict, breaks, inside, outsideAt}
+use Rattle.proposals.specs.Verdict.{Verdict, breaks, inside, outsideAt}
 
 -- ---- a list that tells them has those numbers and no others
 

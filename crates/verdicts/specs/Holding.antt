@@ -9,9 +9,9 @@ use Rattle.model.specs.Box.{at}
 use Rattle.model.specs.Limits.{maxVariables}
 use Rattle.model.specs.Model.{Model}
 use Rattle.model.specs.Valid.{ValidModel}
-use Rattle.verdicts.specs.Proposals.{maxProposals, proposal}
+use Rattle.proposals.specs.Proposals.{maxProposals, proposal}
 use Rattle.verdicts.specs.Telling.{Says}
-use Rattle.verdicts.specs.Verdict.{Verdict}
+use Rattle.proposals.specs.Verdict.{Verdict}
 
 -- n coefficients A and a proposal x that is inside the box: their sum fits 64 bits
 pub record Holdable (n : ℕ) (A x : List ℤ) : Type 0 where

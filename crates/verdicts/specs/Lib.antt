@@ -1,6 +1,2 @@
-pub mod Verdict
-pub mod Proposals
 pub mod Telling
 pub mod Holding
-pub mod Call
-pub mod Meaning

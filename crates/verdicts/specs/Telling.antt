@@ -7,8 +7,8 @@ use mathlib.Core.List.{List}
 use mathlib.Core.Path.{_≡_}
 use Rattle.integer.specs.Index.{all}
 use Rattle.semantics.specs.Lowest.{lowest}
-use Rattle.verdicts.specs.Proposals.{caseOf, numberOf, withNumbers}
-use Rattle.verdicts.specs.Verdict.{Verdict, breaks, inBounds, inside, outsideAt}
+use Rattle.proposals.specs.Proposals.{caseOf, numberOf, withNumbers}
+use Rattle.proposals.specs.Verdict.{Verdict, breaks, inBounds, inside, outsideAt}
 
 -- Y tells v of proposal c
 pub record Says (Y : List ℕ) (c : ℕ) (v : Verdict) : Type 0 where

@@ -13,9 +13,9 @@ ghost use Rattle.row_marks.specs.Index.{RowSteps};
 ghost use Rattle.row_view.specs.RowIn.{RowIn, StepsIn};
 ghost use Rattle.sweep.specs.Steps.{Steps};
 ghost use Rattle.verdicts.specs.Holding.{Holdable, Judgeable, Lent, Pending};
-ghost use Rattle.verdicts.specs.Proposals.{proposal, withNumbers};
+ghost use Rattle.proposals.specs.Proposals.{proposal, withNumbers};
 ghost use Rattle.verdicts.specs.Telling.{Says, Tells, boxVerdict, held, withVerdict};
-ghost use Rattle.verdicts.specs.Verdict.{Verdict, meets, verdict};
+ghost use Rattle.proposals.specs.Verdict.{Verdict, meets, verdict};
 
 // The first number of a verdict.
 const INSIDE: u32 = 0;

@@ -7,7 +7,7 @@ ghost use Rattle.model.specs.Rows.{rowOf, rowWith};
 ghost use Rattle.semantics.specs.Lowest.{lowest};
 ghost use Rattle.sweep.specs.Steps.{Steps};
 ghost use Rattle.verdicts.specs.Holding.{Holdable};
-ghost use Rattle.verdicts.specs.Verdict.{inBounds, meets};
+ghost use Rattle.proposals.specs.Verdict.{inBounds, meets};
 
 // Line c of lines of n numbers that stand one after the other: a proposal, or a row's coefficients.
 pub fn line<'a>(n: usize, numbers: &'a [i32], c: usize) -> &'a [i32]

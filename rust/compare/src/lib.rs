@@ -13,7 +13,9 @@
 //! | [`cases`] | a case: a model, its calls, or one call that is refused |
 //! | [`suite`] | the comparison |
 //! | [`coverage`] | what the cases met |
+//! | [`allocations`] | the same for the call on proposed allocations (02, C-21), in a module of its own |
 
+pub mod allocations;
 pub mod cases;
 pub mod coverage;
 pub mod damage;

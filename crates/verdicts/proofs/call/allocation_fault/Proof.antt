@@ -9,8 +9,8 @@ use Rattle.model.specs.Checks.{Check, first, modelFault, none, sizeChecks}
 use Rattle.model.specs.Model.{modelOf}
 use Rattle.model.specs.Rows.{rowsOf}
 use Rattle.model.proofs.CheckLaws.{fails, goes, past, stops}
-use Rattle.verdicts.specs.Call.{allocationChecks, allocationFault}
-use Rattle.verdicts.proofs.CallLaws.{count-in, count-out, model-rest}
+use Rattle.proposals.specs.Call.{allocationChecks, allocationFault}
+use Rattle.proposals.proofs.CallLaws.{count-in, count-out, model-rest}
 use borrow.Author.Needs.{needs}
 use Rattle.verdicts.proofs.call.allocation_fault.Statement.{statement}
 use Rattle.verdicts.proofs.call.allocation_fault.Tie as tie

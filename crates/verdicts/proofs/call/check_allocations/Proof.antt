@@ -1,9 +1,11 @@
 -- `verdicts::call::check_allocations`: refused by the first check that fails, and else the verdicts, told in their numbers; what they mean
 -- is `judged`. Assumes nothing.
-use mathlib.Core.Path.{_∙_, sym}
+use mathlib.Core.Path.{_∙_, subst, sym}
 use Rattle.model.specs.Model.{Model, modelOf}
 use Rattle.model.specs.Rows.{rowsOf}
-use Rattle.verdicts.proofs.CallLaws.{accepted, judged, left-accepted, left-refused}
+use Rattle.proposals.proofs.CallLaws.{judged, left-accepted, left-refused}
+use Rattle.proposals.specs.Meaning.{Judged}
+use Rattle.verdicts.proofs.JudgeLaws.{judgeable}
 use Rattle.verdicts.proofs.TellingLaws.{tells-numbers}
 use borrow.Author.Needs.{needs}
 use Rattle.verdicts.proofs.call.check_allocations.Statement.{statement}
@@ -29,7 +31,7 @@ judge-all-requires : tie.Need-judge-all-requires
 judge-all-requires c κs =
     let s = c .before .before .before .before .before .before in
     let d = c .before in
-    accepted (M s) (s .args .proposals .now) (s .args .count) (s .args .verdicts .now) (sym (d .before .allocation-fault .ensures) ∙ d .if1 .left)
+    judgeable (M s) (s .args .proposals .now) (s .args .count) (s .args .verdicts .now) (sym (d .before .allocation-fault .ensures) ∙ d .if1 .left)
 
 same-length-2 : tie.Need-same-length-2
 same-length-2 c = search needs
@@ -38,10 +40,11 @@ returns-2 : tie.Need-returns-2
 returns-2 c =
     let d = c .before .before .before .before in
     let s = d .before .before .before .before .before in
+    let P = s .args .proposals .now in
+    let Y = s .args .verdicts .now in
     let e = sym (d .before .allocation-fault .ensures) ∙ d .if1 .left in
-    let t = c .before .before .judge-all .ensures in
-    let a = accepted (M s) (s .args .proposals .now) (s .args .count) (s .args .verdicts .now) e in
-    (sym e, (tells-numbers (s .args .count) _ _ t ∙ left-accepted (M s) (s .args .proposals .now) (s .args .count) (s .args .verdicts .now) e, λ _. judged (a .lent .len) t))
+    let t = tells-numbers (s .args .count) _ _ (c .before .before .judge-all .ensures) ∙ left-accepted (M s) P (s .args .count) Y e in
+    (sym e, (t, λ _. subst (Judged (M s) P (s .args .count)) (sym t) (judged (M s) P (s .args .count) Y e)))
 
 pub check-allocations-spec : {M : Type 1} → statement M
 check-allocations-spec =

@@ -1,9 +1,9 @@
 -- `verdicts::judging::hold_box`: the lowest variable outside the box is told, or that there is none. Assumes nothing.
 use mathlib.Core.Path.{_∙_, ap, sym}
 use native.Mathlib.Omega.{arith}
-use Rattle.verdicts.specs.Verdict.{outsideAt}
+use Rattle.proposals.specs.Verdict.{outsideAt}
 use Rattle.verdicts.proofs.TellingLaws.{told-inside, told-outside}
-use Rattle.verdicts.proofs.VerdictLaws.{box-inside, box-outside}
+use Rattle.verdicts.proofs.HeldLaws.{box-inside, box-outside}
 use borrow.Author.Needs.{needs}
 use Rattle.verdicts.proofs.judging.hold_box.Statement.{statement}
 use Rattle.verdicts.proofs.judging.hold_box.Tie as tie

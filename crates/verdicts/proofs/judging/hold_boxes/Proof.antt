@@ -7,7 +7,7 @@ use mathlib.Core.List.{List}
 use mathlib.Core.Path.{_∙_, _≡_, ap, refl, subst, sym}
 use native.Mathlib.Omega.{arith}
 use Rattle.row_marks.proofs.IndexLoops.{line-end}
-use Rattle.verdicts.specs.Proposals.{proposal}
+use Rattle.proposals.specs.Proposals.{proposal}
 use Rattle.verdicts.specs.Telling.{Says, boxVerdict, withVerdict}
 use Rattle.verdicts.proofs.TellingLaws.{length-line, length-told, says-more}
 use Rattle.verdicts.proofs.judging.hold_boxes.Statement.{statement}

@@ -7,9 +7,9 @@ use mir.Facts.{toZ-ofZ}
 use mir.Syntax.{w32}
 use Rattle.model.specs.Rows.{rowWith}
 use Rattle.verdicts.specs.Holding.{Pending}
-use Rattle.verdicts.specs.Proposals.{proposal}
+use Rattle.proposals.specs.Proposals.{proposal}
 use Rattle.verdicts.specs.Telling.{held}
-use Rattle.verdicts.specs.Verdict.{meets}
+use Rattle.proposals.specs.Verdict.{meets}
 use Rattle.verdicts.proofs.JudgeLaws.{lent-steps}
 use Rattle.verdicts.proofs.TellingLaws.{tells-as}
 use borrow.Author.Needs.{needs}

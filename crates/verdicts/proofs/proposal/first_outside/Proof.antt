@@ -19,8 +19,8 @@ use Rattle.integer.proofs.Tests.{and-i}
 use Rattle.model.specs.Box.{at, lower, upper}
 use Rattle.semantics.specs.Lowest.{lowest}
 use Rattle.semantics.proofs.LowestLaws.{lowest-all, lowest-is}
-use Rattle.verdicts.specs.Verdict.{inBounds}
-use Rattle.verdicts.proofs.VerdictLaws.{inBounds-test}
+use Rattle.proposals.specs.Verdict.{inBounds}
+use Rattle.proposals.proofs.VerdictLaws.{inBounds-test}
 use Rattle.verdicts.proofs.proposal.first_outside.Statement.{statement}
 use Rattle.verdicts.proofs.proposal.first_outside.Tie as tie
 

@@ -11,7 +11,7 @@ use Rattle.integer.specs.Order.{eqZ}
 use Rattle.integer.proofs.Reading.{eq-read, read-wide, wide-fits}
 use Rattle.integer.proofs.Tests.{bool-ext, eqZ→eq, eqb-test, eq→eqZ, test-false}
 use Rattle.model.specs.Rows.{isEquality}
-use Rattle.verdicts.specs.Verdict.{meets}
+use Rattle.proposals.specs.Verdict.{meets}
 use Rattle.verdicts.proofs.proposal.meets_row.Statement.{statement}
 use Rattle.verdicts.proofs.proposal.meets_row.Tie as tie
 

@@ -1,42 +1,35 @@
--- Laws of a verdict: inside exactly at the integer points, so the same against every model with the same points; a row more changes it
--- only where it was inside; the box comes first.
-use Prim.Native.Nat.{_*_, _+_, _<_, _≤_, suc, ℕ}
+-- Laws of a verdict: inside exactly at the integer points, so the same yes or no before and after any list of calls; else the lowest
+-- variable outside its bounds or, where there is none, the lowest row broken.
+use Prim.Native.Nat.{_<_, ℕ}
 use lib.Dec.{T, T-not}
 use lib.IntN.{pos, ℤ}
-use lib.ListN.{List·getD-eq-default, length}
+use lib.ListN.{length}
 use lib.Signed.{_≤ℤ_, leZ}
-use mathlib.Core.Bool.{Bool, _&&_, cond, false, not, true}
+use mathlib.Core.Bool.{cond, not}
 use mathlib.Core.List.{List}
 use mathlib.Core.Logic.{_↔_, _⊎_, inl, inr}
 use mathlib.Core.Path.{_∙_, _≡_, ap, refl, sym}
-use native.Mathlib.Decide.{decLt}
-use native.Mathlib.Numerals.{add-one}
 use native.Mathlib.Omega.{arith}
 use Rattle.integer.specs.Index.{all}
 use Rattle.integer.specs.Order.{eqZ}
-use Rattle.integer.specs.Range.{Within}
 use Rattle.integer.proofs.IndexLaws.{all-false, all-test}
 use Rattle.integer.proofs.Parts.{zarith}
-use Rattle.integer.proofs.RangeLaws.{within-lit}
-use Rattle.integer.proofs.Tests.{T→false, T→true, both, cond-ind, decide, eqZ→eq, eq→eqZ, le-test, true→T}
+use Rattle.integer.proofs.Tests.{T→false, T→true, both, cond-ind, decide, eqZ→eq, eq→eqZ, le-test}
 use Rattle.model.specs.Box.{at, emptyBox, lower, upper}
-use Rattle.model.specs.Limits.{maxBound, minBound}
 use Rattle.model.specs.Model.{Model}
 use Rattle.model.specs.Point.{InBox, IntegerPoint, Meets, dot}
 use Rattle.model.specs.Rows.{Row, isEquality, rowAt}
 use Rattle.model.specs.State.{State}
-use Rattle.model.specs.Valid.{ValidBox}
 use Rattle.model.proofs.BoxLaws.{lower-boxOf, upper-boxOf}
-use Rattle.row.proofs.RowLoops.{within-between}
 use Rattle.semantics.specs.Call.{Call}
 use Rattle.semantics.specs.Demand2.{Demand2Runs}
 use Rattle.semantics.specs.Lowest.{lowest}
 use Rattle.semantics.specs.Run.{run}
 use Rattle.semantics.proofs.Demand2.{demand-2-runs}
-use Rattle.semantics.proofs.LowestLaws.{lowest-all, lowest-is, lowest-none}
-use Rattle.verdicts.specs.Proposals.{caseOf}
-use Rattle.verdicts.specs.Telling.{boxVerdict, held}
-use Rattle.verdicts.specs.Verdict.{Verdict, breaks, inBounds, inside, meets, outsideAt, rowMet, verdict, verdictBy}
+use Rattle.semantics.proofs.LowestLaws.{lowest-below, lowest-found, lowest-is}
+use Rattle.proposals.specs.Meaning.{LowestBroken, LowestOutside}
+use Rattle.proposals.specs.Proposals.{caseOf, numberOf}
+use Rattle.proposals.specs.Verdict.{Verdict, breaks, inBounds, inside, meets, outsideAt, rowMet, verdict, verdictBy}
 
 -- ---- the tests
 
@@ -116,53 +109,59 @@ same-verdict s cs x l =
       (λ e. after .1 (d .points x .1 (before .0 e))),
     )
 
--- ---- the box, then one row more
+-- ---- outside, and broken
 
-pub box-verdict : (M : Model) (x : List ℤ) → verdictBy 0 M x ≡ boxVerdict (M .n) (M .box) x
-unfolding verdictBy boxVerdict all
-box-verdict M x = refl
+pub outside-case : (v : Verdict) → caseOf v ≡ 1 → v ≡ outsideAt (numberOf v)
+unfolding caseOf numberOf
+outside-case inside e = absurd (let z : ⊥ = omega arith in z)
+outside-case (outsideAt j) e = refl
+outside-case (breaks i) e = absurd (let z : ⊥ = omega arith in z)
 
-pub box-outside : (n : ℕ) (B x : List ℤ) → lowest n (inBounds B x) < n → boxVerdict n B x ≡ outsideAt (lowest n (inBounds B x))
-unfolding boxVerdict
-box-outside n B x h =
-    cond-ind (all n (inBounds B x)) _ _ (λ v. v ≡ outsideAt (lowest n (inBounds B x)))
-    (λ t. absurd (let e = lowest-all (inBounds B x) n t in let z : ⊥ = omega arith in z)) (λ _. refl)
+pub breaks-case : (v : Verdict) → caseOf v ≡ 2 → v ≡ breaks (numberOf v)
+unfolding caseOf numberOf
+breaks-case inside e = absurd (let z : ⊥ = omega arith in z)
+breaks-case (outsideAt j) e = absurd (let z : ⊥ = omega arith in z)
+breaks-case (breaks i) e = refl
 
-pub box-inside : (n : ℕ) (B x : List ℤ) → n ≤ lowest n (inBounds B x) → boxVerdict n B x ≡ inside
-unfolding boxVerdict
-box-inside n B x h = rw (T→true (all n (inBounds B x)) (lowest-none (inBounds B x) n .0 h)) refl
+-- the three ways in which a verdict comes about
+verdict-ind : (M : Model) (x : List ℤ) (P : Verdict → Type 0)
+    → (InBox (M .n) (M .box) x → T (all (M .m) (rowMet M x)) → P inside)
+    → (InBox (M .n) (M .box) x → T (not (all (M .m) (rowMet M x))) → P (breaks (lowest (M .m) (rowMet M x))))
+    → (T (not (all (M .n) (inBounds (M .box) x))) → P (outsideAt (lowest (M .n) (inBounds (M .box) x))))
+    → P (verdict M x)
+unfolding verdict verdictBy
+verdict-ind M x P f g h =
+    let b = inBox-test (M .n) (M .box) x in
+    cond-ind (all (M .n) (inBounds (M .box) x)) _ _ P (λ t. cond-ind (all (M .m) (rowMet M x)) _ _ P (f (b .0 t)) (g (b .0 t))) h
 
--- one that has its verdict keeps it; one that is still inside breaks the row or not
-pub held-told : (k : ℕ) (met : Bool) (v : Verdict) → (caseOf v ≡ 0 → ⊥) → held k met v ≡ v
-unfolding held caseOf
-held-told k met inside h = absurd (h refl)
-held-told k met (outsideAt j) h = refl
-held-told k met (breaks i) h = refl
+-- "outside the box at the lowest such variable"
+pub outside-lowest : (M : Model) (x : List ℤ) → caseOf (verdict M x) ≡ 1 → LowestOutside M x (numberOf (verdict M x))
+unfolding caseOf numberOf
+outside-lowest M x =
+    verdict-ind M x (λ v. caseOf v ≡ 1 → LowestOutside M x (numberOf v))
+    (λ _ _ e. absurd (let z : ⊥ = omega arith in z))
+    (λ _ _ e. absurd (let z : ⊥ = omega arith in z))
+    (λ t _. let f = lowest-found (inBounds (M .box) x) (M .n) t in record {
+      exists = f .0;
+      outside = λ p. T-not (inBounds (M .box) x (lowest (M .n) (inBounds (M .box) x))) (f .1) (inBounds-test (M .box) x (lowest (M .n) (inBounds (M .box) x)) .1 p);
+      below = λ k h. inBounds-test (M .box) x k .0 (lowest-below (inBounds (M .box) x) (M .n) k h);
+    })
 
-pub held-broken : (k : ℕ) {met : Bool} {v : Verdict} → v ≡ inside → met ≡ false → held k met v ≡ breaks k
-unfolding held
-held-broken k e f = rw (e, f) refl
+-- "if inside the box, the lowest row broken"
+pub broken-lowest : (M : Model) (x : List ℤ) → caseOf (verdict M x) ≡ 2 → LowestBroken M x (numberOf (verdict M x))
+unfolding caseOf numberOf rowMet
+broken-lowest M x =
+    verdict-ind M x (λ v. caseOf v ≡ 2 → LowestBroken M x (numberOf v))
+    (λ _ _ e. absurd (let z : ⊥ = omega arith in z))
+    (λ b t _. let f = lowest-found (rowMet M x) (M .m) t in record {
+      box = b;
+      exists = f .0;
+      broken = λ p. T-not (rowMet M x (lowest (M .m) (rowMet M x))) (f .1) (meets-test (M .n) (rowAt (M .n) (M .rows) (lowest (M .m) (rowMet M x))) x .1 p);
+      below = λ k h. meets-test (M .n) (rowAt (M .n) (M .rows) k) x .0 (lowest-below (rowMet M x) (M .m) k h);
+    })
+    (λ _ e. absurd (let z : ⊥ = omega arith in z))
 
-pub held-met : (k : ℕ) {met : Bool} {v : Verdict} → v ≡ inside → met ≡ true → held k met v ≡ v
-unfolding held
-held-met k e f = rw (e, f) refl
-
-one-more : (box rows met : Bool) (p q k : ℕ)
-    → cond box (cond (rows && met) inside (breaks (cond rows (cond met (suc k) k) q))) (outsideAt p)
-    ≡ held k met (cond box (cond rows inside (breaks q)) (outsideAt p))
-unfolding held
-one-more false rows met p q k = refl
-one-more true false met p q k = refl
-one-more true true true p q k = refl
-one-more true true false p q k = refl
-
-pub held-verdict : (k : ℕ) (M : Model) (x : List ℤ) → verdictBy (k + 1) M x ≡ held k (rowMet M x k) (verdictBy k M x)
-unfolding verdictBy all lowest
-held-verdict k M x =
-    rw add-one
-    (one-more (all (M .n) (inBounds (M .box) x)) (all k (rowMet M x)) (rowMet M x k) (lowest (M .n) (inBounds (M .box) x)) (lowest k (rowMet M x)) k)
-
--- ---- the box comes first
+-- ---- the empty box
 
 -- against the empty box: outside, at variable 0
 pub empty-verdict : (M : Model) (x : List ℤ) → 0 < M .n → M .box ≡ emptyBox (M .n) → verdict M x ≡ outsideAt 0
@@ -180,14 +179,3 @@ empty-verdict M x h e = go (decide (inBounds (M .box) x 0))
     go (inr t) =
         rw (all-false (M .n) (inBounds (M .box) x) 0 h (T→false (inBounds (M .box) x 0) t))
         (ap outsideAt (lowest-is (inBounds (M .box) x) (M .n) 0 h tt t))
-
--- a proposal inside the box is as small as the bounds are
-pub inside-small : {n : ℕ} {B x : List ℤ} → ValidBox n B → length x ≡ n → InBox n B x → (j : ℕ) → Within 32_768 (at x j)
-inside-small {n} {B} {x} v l p j = go (decLt j n)
-  where
-    go : Dec (j < n) → Within 32_768 (at x j)
-    go (yes h) =
-        within-between {l = minBound} {u = maxBound} (within-lit tt) (within-lit tt)
-        (let a = p .low j h in let b = v .range (2 * j) .above in omega zarith)
-        (let a = p .high j h in let b = v .range (2 * j + 1) .below in omega zarith)
-    go (no h) = rw (List·getD-eq-default x (pos 0) {n = j} (omega arith)) (within-lit tt)

@@ -7,8 +7,8 @@ use mathlib.Core.Bool.{_&&_, cond}
 use mathlib.Core.List.{List, _++_, _∷_}
 use Rattle.model.specs.Checks.{Check, first, lengthChecks, must, numberChecks, sizeChecks}
 use Rattle.model.specs.Model.{Model}
-use Rattle.verdicts.specs.Proposals.{maxProposals, numbers, proposal}
-use Rattle.verdicts.specs.Verdict.{verdict}
+use Rattle.proposals.specs.Proposals.{maxProposals, numbers, proposal}
+use Rattle.proposals.specs.Verdict.{verdict}
 
 -- Of count proposals P against M, with Y lent for the verdicts. "New numbers: 22, a count not 1 to 64, straight before check 5; buffer
 -- lengths fall under check 5." The numbers of a proposal are any.

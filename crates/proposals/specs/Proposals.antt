@@ -4,7 +4,7 @@ use lib.IntN.{ℤ}
 use lib.ListN.{set}
 use mathlib.Core.List.{List, [], _∷_}
 use Rattle.model.specs.Rows.{rowOf}
-use Rattle.verdicts.specs.Verdict.{Verdict, breaks, inside, outsideAt}
+use Rattle.proposals.specs.Verdict.{Verdict, breaks, inside, outsideAt}
 
 abbrev pub maxProposals : ℕ
 maxProposals = 64

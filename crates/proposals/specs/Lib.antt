@@ -1,0 +1,4 @@
+pub mod Verdict
+pub mod Proposals
+pub mod Call
+pub mod Meaning
