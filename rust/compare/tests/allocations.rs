@@ -57,19 +57,23 @@ fn catches_wrong_verdicts() {
         let terms = lent.model.coefs[i * n..].iter().zip(&lent.proposals[c * n..][..n]);
         terms.map(|(&a, &x)| i128::from(a) * i128::from(x)).sum()
     };
+    // The proposals of an accepted call that have a verdict of this case.
+    let with = |said: u32, lent: &Lent, case: u32| -> Vec<usize> {
+        (0..lent.verdicts.len() / 2).filter(|c| said == 0 && lent.verdicts[2 * c] == case).collect()
+    };
     let breaks = |lent: &Lent, c: usize, i: usize| match lent.model.kinds[i] {
         0 => sum(lent, c, i) > lent.model.rhs[i].into(),
         _ => sum(lent, c, i) != lent.model.rhs[i].into(),
     };
     is_caught(|before, said, lent| {
-        for c in (0..lent.verdicts.len() / 2).filter(|c| said == 0 && lent.verdicts[2 * c] == 2) {
+        for c in with(said, lent, 2) {
             let highest = (0..before.model.m).rev().find(|&i| breaks(before, c, i));
             lent.verdicts[2 * c + 1] = highest.expect("a row is broken") as u32;
         }
         said
     });
     is_caught(|before, said, lent| {
-        for c in (0..lent.verdicts.len() / 2).filter(|c| said == 0 && lent.verdicts[2 * c] == 1) {
+        for c in with(said, lent, 1) {
             if let Some(i) = (0..before.model.m).find(|&i| breaks(before, c, i)) {
                 lent.verdicts[2 * c..2 * c + 2].copy_from_slice(&[2, i as u32]);
             }
@@ -77,7 +81,7 @@ fn catches_wrong_verdicts() {
         said
     });
     is_caught(|before, said, lent| {
-        for c in (0..lent.verdicts.len() / 2).filter(|c| said == 0 && lent.verdicts[2 * c] == 2) {
+        for c in with(said, lent, 2) {
             let broken = (0..before.model.m).find(|&i| sum(before, c, i) > before.model.rhs[i].into());
             let told = broken.map_or([0, 0], |i| [2, i as u32]);
             lent.verdicts[2 * c..2 * c + 2].copy_from_slice(&told);
@@ -85,7 +89,7 @@ fn catches_wrong_verdicts() {
         said
     });
     is_caught(|before, said, lent| {
-        for c in (0..lent.verdicts.len() / 2).filter(|c| said == 0 && lent.verdicts[2 * c] == 0) {
+        for c in with(said, lent, 0) {
             lent.verdicts[2 * c + 1] = before.verdicts[2 * c + 1];
         }
         said
