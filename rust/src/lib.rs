@@ -36,12 +36,14 @@
 //!
 //! [`ffi`] has the C interface as it is.
 
+mod allocations;
 mod answer;
 pub mod ffi;
 mod model;
 pub mod plan;
 mod refusal;
 
+pub use allocations::{MAX_PROPOSALS, Verdict};
 pub use answer::{Counts, Outcome, Probe, Propagation, Rest, Rounds, RowPropagation, Side};
 pub use model::{Call, Model, Row, RowKind, book_size};
 pub use refusal::Refusal;
