@@ -11,7 +11,6 @@ use mathlib.Core.Logic.{_↔_, _⊎_, inl, inr}
 use mathlib.Core.Path.{_∙_, _≡_, ap, refl, sym}
 use native.Mathlib.Omega.{arith}
 use Rattle.integer.specs.Index.{all}
-use Rattle.integer.specs.Order.{eqZ}
 use Rattle.integer.proofs.IndexLaws.{all-false, all-test}
 use Rattle.integer.proofs.Parts.{zarith}
 use Rattle.integer.proofs.Tests.{T→false, T→true, both, cond-ind, decide, eqZ→eq, eq→eqZ, le-test}
@@ -48,16 +47,13 @@ pub meets-test : (n : ℕ) (r : Row) (x : List ℤ) → T (meets n r x) ↔ Meet
 unfolding meets
 meets-test n r x = (there, back)
   where
-    value : ℤ
-    value = dot n (r .coefs) x
-
-    there : T (cond (isEquality r) (eqZ (dot n (r .coefs) x) (r .rhs)) (leZ (dot n (r .coefs) x) (r .rhs))) → Meets n r x
+    there : T (meets n r x) → Meets n r x
     there t = record {
       le = λ k. le-test (dot n (r .coefs) x) (r .rhs) .0 (rw (T→false (isEquality r) k) at t);
       eq = λ k. eqZ→eq (dot n (r .coefs) x) (r .rhs) (rw (T→true (isEquality r) k) at t);
     }
 
-    back : Meets n r x → T (cond (isEquality r) (eqZ (dot n (r .coefs) x) (r .rhs)) (leZ (dot n (r .coefs) x) (r .rhs)))
+    back : Meets n r x → T (meets n r x)
     back m = cond-ind (isEquality r) _ _ T (λ k. eq→eqZ (dot n (r .coefs) x) (r .rhs) (m .eq k)) (λ k. le-test (dot n (r .coefs) x) (r .rhs) .1 (m .le k))
 
 -- ---- inside
@@ -77,14 +73,12 @@ inside-by k M x = (there, λ t. rw (T→true (all (M .n) (inBounds (M .box) x)) 
     never : {P : Type 0} (v : Verdict) → (caseOf v ≡ 0 → ⊥) → v ≡ inside → P
     never v h e = absurd (h (inside-case v .1 e))
 
-    there : cond (all (M .n) (inBounds (M .box) x)) (cond (all k (rowMet M x)) inside (breaks (lowest k (rowMet M x))))
-        (outsideAt (lowest (M .n) (inBounds (M .box) x))) ≡ inside
-        → T (all (M .n) (inBounds (M .box) x)) × T (all k (rowMet M x))
+    there : verdictBy k M x ≡ inside → T (all (M .n) (inBounds (M .box) x)) × T (all k (rowMet M x))
     there =
         cond-ind (all (M .n) (inBounds (M .box) x)) _ _ (λ v. v ≡ inside → T (all (M .n) (inBounds (M .box) x)) × T (all k (rowMet M x)))
         (λ t. cond-ind (all k (rowMet M x)) _ _ (λ v. v ≡ inside → T (all (M .n) (inBounds (M .box) x)) × T (all k (rowMet M x)))
-        (λ u _. (t, u)) (λ _ e. never (breaks (lowest k (rowMet M x))) (λ h. let z : ⊥ = omega arith in z) e))
-        (λ _ e. never (outsideAt (lowest (M .n) (inBounds (M .box) x))) (λ h. let z : ⊥ = omega arith in z) e)
+        (λ u _. (t, u)) (λ _ e. never _ (λ h. let z : ⊥ = omega arith in z) e))
+        (λ _ e. never _ (λ h. let z : ⊥ = omega arith in z) e)
 
 -- inside exactly at the integer points
 pub inside-point : (M : Model) (x : List ℤ) → length x ≡ M .n → (verdict M x ≡ inside) ↔ IntegerPoint M x

@@ -129,6 +129,16 @@ pub fn check_allocations(
     if fault != 0 {
         return fault;
     }
-    judge_all(n, m, bounds, coefs, rhs, kinds, count as usize, proposals, verdicts);
+    judge_all(
+        n,
+        m,
+        bounds,
+        coefs,
+        rhs,
+        kinds,
+        count as usize,
+        proposals,
+        verdicts,
+    );
     0
 }

@@ -177,17 +177,7 @@ pub fn judge(
     let mut i = 0;
     while i < m {
         know_steps(n, m, coefs, i, across);
-        hold_row_at(
-            n,
-            coefs,
-            rhs,
-            kinds,
-            i,
-            across,
-            count,
-            proposals,
-            verdicts,
-        );
+        hold_row_at(n, coefs, rhs, kinds, i, across, count, proposals, verdicts);
         i += 1;
     }
 }

@@ -29,9 +29,10 @@ line-requires c κs = let s = c .before .before .before in omega (arith, line-en
 hold-box-requires : tie.Need-hold-box-requires Inv-loop μ-loop
 hold-box-requires c κs =
     let s = c .before .before .before .before .before in
-    let h = c .before .before .before in
-    ((s .pre .0 .few, s .pre .1, ap length (c .before .line .ensures) ∙ length-line (s .args .n) (s .args .count) (s .args .proposals .now) (h .loop .c) (s .pre .0 .len) (omega arith)),
-    omega (arith, h .loop .inv .1))
+    let h = c .before .before .before in (
+      (s .pre .0 .few, s .pre .1, ap length (c .before .line .ensures) ∙ length-line (s .args .n) (s .args .count) (s .args .proposals .now) (h .loop .c) (s .pre .0 .len) (omega arith)),
+      omega (arith, h .loop .inv .1),
+    )
 
 add-c : tie.Need-add-c Inv-loop μ-loop
 add-c c = omega arith
@@ -45,12 +46,12 @@ loop-again c =
     let s = h .before .before in
     let v = boxVerdict (s .args .n) (s .args .bounds .now) (proposal (s .args .n) (s .args .proposals .now) (h .loop .c)) in
     let e : c .before .before .hold-box .last .1 .1 .1 .1 .0 ≡ withVerdict (h .loop .verdicts) (h .loop .c) v =
-        c .before .before .hold-box .ensures
-        ∙ ap (λ (x : List ℤ). withVerdict (h .loop .verdicts) (h .loop .c) (boxVerdict (s .args .n) (s .args .bounds .now) x)) (c .before .before .before .before .line .ensures) in (
+    c .before .before .hold-box .ensures
+    ∙ ap (λ (x : List ℤ). withVerdict (h .loop .verdicts) (h .loop .c) (boxVerdict (s .args .n) (s .args .bounds .now) x)) (c .before .before .before .before .line .ensures) in (
       omega arith,
       subst (λ (X : List ℕ). length X ≡ 2 * s .args .count) (sym e) (length-told (h .loop .verdicts) (h .loop .c) v ∙ h .loop .inv .1),
       subst (λ (X : List ℕ). (d : ℕ) → d < h .loop .c + 1 → Says X d (boxVerdict (s .args .n) (s .args .bounds .now) (proposal (s .args .n) (s .args .proposals .now) d)))
-      (sym e) (says-more (h .loop .verdicts) (h .loop .c) v _ (omega (arith, h .loop .inv .1)) refl (h .loop .inv .2)),
+          (sym e) (says-more (h .loop .verdicts) (h .loop .c) v _ (omega (arith, h .loop .inv .1)) refl (h .loop .inv .2)),
     )
 
 same-length : tie.Need-same-length Inv-loop μ-loop

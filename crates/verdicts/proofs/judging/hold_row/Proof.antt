@@ -44,9 +44,11 @@ hold-one-requires c κs =
     let A = s .args .coefs .now in
     let k : h .loop .c < s .args .count = omega arith in
     let l = s .pre .0 .len in (
-      ((λ e. subst (λ (j : ℕ). Holdable j A (now (c .before .line .result))) (sym l)
-      (subst (Holdable (s .args .n) A) (sym (c .before .line .ensures)) (s .pre .0 .small (h .loop .c) k (sym (h .loop .inv .1 .rest (2 * h .loop .c) (omega arith)) ∙ e)))),
-      subst (λ (j : ℕ). Steps j A (s .args .steps .now)) (sym l) (s .pre .1)),
+      (
+        (λ e. subst (λ (j : ℕ). Holdable j A (now (c .before .line .result))) (sym l)
+            (subst (Holdable (s .args .n) A) (sym (c .before .line .ensures)) (s .pre .0 .small (h .loop .c) k (sym (h .loop .inv .1 .rest (2 * h .loop .c) (omega arith)) ∙ e)))),
+        subst (λ (j : ℕ). Steps j A (s .args .steps .now)) (sym l) (s .pre .1),
+      ),
       omega (arith, h .loop .inv .1 .len, s .pre .0 .lent .room),
     )
 
@@ -61,11 +63,13 @@ loop-again c =
     let h = c .before .before .before .before .before .before in
     let s = h .before .before .before in
     let k : h .loop .c < s .args .count = omega arith in
-    let b = toZ w32 (ofZ w32 (s .args .b)) in
-    (omega arith, halfway-more (heldAt (s .args .n) (s .args .coefs .now) b (s .args .kind) (s .args .i) (s .args .proposals .now)) (h .loop .inv .1) (s .pre .0 .told (h .loop .c) k)
-    (omega (arith, s .pre .0 .lent .room)) (λ v t. c .before .before .hold-one .ensures v t
-    ∙ ap₂ (λ (j : ℕ) (x : List ℤ). withVerdict (h .loop .verdicts) (h .loop .c) (held (s .args .i) (meets j (rowWith (s .args .coefs .now) b (s .args .kind)) x) v))
-    (s .pre .0 .len) (c .before .before .before .before .line .ensures)))
+    let b = toZ w32 (ofZ w32 (s .args .b)) in (
+      omega arith,
+      halfway-more (heldAt (s .args .n) (s .args .coefs .now) b (s .args .kind) (s .args .i) (s .args .proposals .now)) (h .loop .inv .1) (s .pre .0 .told (h .loop .c) k)
+          (omega (arith, s .pre .0 .lent .room)) (λ v t. c .before .before .hold-one .ensures v t
+          ∙ ap₂ (λ (j : ℕ) (x : List ℤ). withVerdict (h .loop .verdicts) (h .loop .c) (held (s .args .i) (meets j (rowWith (s .args .coefs .now) b (s .args .kind)) x) v))
+          (s .pre .0 .len) (c .before .before .before .before .line .ensures)),
+    )
 
 same-length : tie.Need-same-length Inv-loop μ-loop
 same-length c = c .before .loop .inv .1 .len

@@ -108,9 +108,11 @@ loop-again : tie.Need-loop-again Inv-loop μ-loop
 loop-again c =
     let d = c .before .before in
     let l = ge-read (number-is d) (low-is d) (c .before .if1 .left) in
-    let u = ge-read (high-is d) (number-is d) (c .if2 .left) in
-    (omega arith, rw (all-more (inBounds (B d) (x d)) (j d)) (and-i (all (j d) (inBounds (B d) (x d))) (inBounds (B d) (x d) (j d)) (head d .loop .inv .1)
-    (inBounds-test (B d) (x d) (j d) .1 (l, u))))
+    let u = ge-read (high-is d) (number-is d) (c .if2 .left) in (
+      omega arith,
+      rw (all-more (inBounds (B d) (x d)) (j d)) (and-i (all (j d) (inBounds (B d) (x d))) (inBounds (B d) (x d) (j d)) (head d .loop .inv .1)
+          (inBounds-test (B d) (x d) (j d) .1 (l, u))),
+    )
 
 returns-3 : tie.Need-returns-3 Inv-loop μ-loop
 returns-3 c =

@@ -102,14 +102,14 @@ loop-less : tie.Need-loop-less Inv-loop μ-loop
 loop-less c = let h = c .before .before .before .before in omega (arith, step-in h (omega arith), step-on h (omega arith))
 
 loop-again : tie.Need-loop-again Inv-loop μ-loop
-loop-again c = 
+loop-again c =
     let h = c .before .before .before .before in
     let k : j h < length (A h) = omega arith in
     (step-in h k, toZ-ofZ (add-sum (c .before)) ∙ turn (terms (small h)) (j h) (h .loop .inv .1) (next h) ∙ step-dot (h .before .pre .1) (x h) k)
 
 returns : tie.Need-returns Inv-loop μ-loop
 unfolding dot
-returns c = 
+returns c =
     let h = c .before in
     let end : h .loop .j ≡ length (A h) = omega arith in
     h .loop .inv .1 ∙ ap (λ (i : ℕ). total i (termAt (A h) (x h))) end
