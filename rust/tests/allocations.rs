@@ -1,50 +1,12 @@
 //! Proposed allocations (02, C-21): the proved library against the plain Rust reference on generated cases, and
 //! the safe wrapper.
 
-use std::ptr;
+mod native_judge;
 
-use astrolabe::{Model, Refusal, Verdict, ffi};
-use compare::allocations::{self, Judge, Lent, Reference};
+use astrolabe::{Model, Refusal, RowKind, Verdict};
+use compare::allocations::{self, Reference};
 use compare::suite::Plan;
-
-/// The C interface, called as C does: pointer and count, null where the count is 0.
-struct Native;
-
-fn raw<T>(buffer: &mut [T]) -> (*mut T, usize) {
-    let pointer = if buffer.is_empty() { ptr::null_mut() } else { buffer.as_mut_ptr() };
-    (pointer, buffer.len())
-}
-
-impl Judge for Native {
-    fn check_allocations(&mut self, lent: &mut Lent) -> u32 {
-        let (bounds, bounds_len) = raw(&mut lent.model.bounds);
-        let (coefs, coefs_len) = raw(&mut lent.model.coefs);
-        let (rhs, rhs_len) = raw(&mut lent.model.rhs);
-        let (kinds, kinds_len) = raw(&mut lent.model.kinds);
-        let (proposals, proposals_len) = raw(&mut lent.proposals);
-        let (verdicts, verdicts_len) = raw(&mut lent.verdicts);
-        // SAFETY: each pointer and count is that of a slice of its own, or null and 0.
-        unsafe {
-            ffi::astrolabe_check_allocations(
-                lent.model.n,
-                lent.model.m,
-                bounds,
-                bounds_len,
-                coefs,
-                coefs_len,
-                rhs,
-                rhs_len,
-                kinds,
-                kinds_len,
-                proposals,
-                proposals_len,
-                lent.count,
-                verdicts,
-                verdicts_len,
-            )
-        }
-    }
-}
+use native_judge::Native;
 
 /// Enough cases to meet every check and every verdict.
 const ENOUGH: u64 = 6_000;
@@ -52,9 +14,10 @@ const ENOUGH: u64 = 6_000;
 #[test]
 fn generated_cases() {
     let plan = Plan::from_env(30_000);
-    let coverage = allocations::run(plan, &mut Reference, &mut Native).unwrap_or_else(|difference| {
-        panic!("the library differs from the reference: {difference}")
-    });
+    let coverage =
+        allocations::run(plan, &mut Reference, &mut Native).unwrap_or_else(|difference| {
+            panic!("the library differs from the reference: {difference}")
+        });
     if plan.cases >= ENOUGH {
         assert_eq!(coverage.missing(), Vec::<String>::new());
     }
@@ -64,7 +27,7 @@ fn generated_cases() {
 fn the_wrapper_says_what_the_call_says() {
     // x = y and x + 2y <= 4, both from 0 to 3.
     let mut model = Model::new(vec![0, 3, 0, 3], vec![1, -1, 1, 2], vec![0, 4]).unwrap();
-    model.set_kind(0, astrolabe::RowKind::Equal);
+    model.set_kind(0, RowKind::Equal);
     let proposals = [[1, 1], [4, 4], [0, -1], [0, 1], [2, 2], [i32::MIN, i32::MAX]];
     let expected = [
         Verdict::Inside,

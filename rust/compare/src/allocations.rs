@@ -207,7 +207,10 @@ impl Coverage {
     pub fn missing(&self) -> Vec<String> {
         let checks = CHECKS.iter().filter(|check| !self.refused.contains_key(check));
         let met = MET.iter().filter(|what| !self.met.contains(*what));
-        checks.map(|check| format!("refused by {check}")).chain(met.map(|s| s.to_string())).collect()
+        checks
+            .map(|check| format!("refused by {check}"))
+            .chain(met.map(|s| s.to_string()))
+            .collect()
     }
 }
 

@@ -82,7 +82,8 @@ fn catches_wrong_verdicts() {
     });
     is_caught(|before, said, lent| {
         for c in with(said, lent, 2) {
-            let broken = (0..before.model.m).find(|&i| sum(before, c, i) > before.model.rhs[i].into());
+            let broken =
+                (0..before.model.m).find(|&i| sum(before, c, i) > before.model.rhs[i].into());
             let told = broken.map_or([0, 0], |i| [2, i as u32]);
             lent.verdicts[2 * c..2 * c + 2].copy_from_slice(&told);
         }

@@ -71,7 +71,11 @@ fn check(
     checks::ensure(22, (1..=MAX_PROPOSALS).contains(&count))?;
     let count = count as usize;
     checks::lengths(&[(bounds.len(), 2 * n), (coefs.len(), m * n), (rhs.len(), m)])?;
-    checks::lengths(&[(kinds.len(), m), (proposals.len(), count * n), (verdicts.len(), 2 * count)])?;
+    checks::lengths(&[
+        (kinds.len(), m),
+        (proposals.len(), count * n),
+        (verdicts.len(), 2 * count),
+    ])?;
     checks::numbers(bounds, coefs, rhs)?;
     checks::kinds(kinds)
 }
