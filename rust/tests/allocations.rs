@@ -55,3 +55,37 @@ fn the_wrapper_refuses_counts_and_lengths() {
     let uneven: [&[i32]; 2] = [&[0], &[0, 0, 0]];
     assert_eq!(model.check_allocations(&uneven), Err(Refusal::BufferLength));
 }
+
+/// Every point around the box of small models, 64 at a time, against the raw model and against what the rounds made of
+/// it: inside exactly at the points that meet box and rows.
+#[test]
+fn every_point_of_small_models_raw_and_reduced() {
+    let points: Vec<[i32; 3]> =
+        (0..4 * 5 * 4).map(|i| [i % 4 - 1, i / 4 % 5 - 2, i / 20 - 1]).collect();
+    let small = -2..=2;
+    for (a, b) in small.clone().flat_map(|a| small.clone().map(move |b| (a, b))) {
+        for (c, kind) in small.clone().flat_map(|c| [(c, RowKind::AtMost), (c, RowKind::Equal)]) {
+            // a x + b y + c z ≤ b and c x + 2y + a z ≤ or = a, x 0..1, y −1..1, z 0..1.
+            let (bounds, coefs) = (vec![0, 1, -1, 1, 0, 1], vec![a, b, c, c, 2, a]);
+            let kinds = vec![RowKind::AtMost, kind];
+            let raw = Model::with_kinds(bounds, coefs, vec![b, a], kinds).unwrap();
+            let mut reduced = raw.clone();
+            reduced.rounds(8).unwrap();
+            let lawful = |&[x, y, z]: &[i32; 3]| {
+                let second = c * x + 2 * y + a * z;
+                let in_box = (0..=1).contains(&x) && (-1..=1).contains(&y) && (0..=1).contains(&z);
+                in_box
+                    && a * x + b * y + c * z <= b
+                    && if kind == RowKind::Equal { second == a } else { second <= a }
+            };
+            for some in points.chunks(64) {
+                let expected: Vec<bool> = some.iter().map(lawful).collect();
+                for model in [&raw, &reduced] {
+                    let verdicts = model.check_allocations(some).unwrap();
+                    let inside: Vec<bool> = verdicts.into_iter().map(Verdict::is_inside).collect();
+                    assert_eq!(inside, expected, "{model:?}");
+                }
+            }
+        }
+    }
+}

@@ -4,12 +4,12 @@ use borrow.Author.Tests.{ne-eqb}
 use lib.Dec.{T, eqb, leb}
 use lib.IntN.{ℤ}
 use lib.ListN.{getD, length}
-use mathlib.Core.Bool.{Bool, _&&_, cond, false, true}
+use mathlib.Core.Bool.{Bool, _&&_, false, true}
 use mathlib.Core.List.{List, _++_, _∷_}
 use mathlib.Core.Logic.{_↔_, _⊎_, inl, inr}
 use mathlib.Core.Path.{_∙_, _≡_, ap, refl, subst, sym}
 use native.Mathlib.Omega.{arith}
-use Rattle.integer.proofs.Tests.{both, eqb-test, leb-test, test-false, test-true, T→true}
+use Rattle.integer.proofs.Tests.{both, eqb-test, leb-test, test-false, test-true}
 use Rattle.model.specs.Checks.{boxChecks, first, lengthChecks, modelChecks, modelFault, must, none, numberChecks, sizeChecks, tableByteChecks, tableLengthChecks}
 use Rattle.model.specs.Model.{Model}
 use Rattle.model.specs.Point.{IntegerPoint}

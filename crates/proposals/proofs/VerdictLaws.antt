@@ -5,7 +5,7 @@ use lib.Dec.{T, T-not}
 use lib.IntN.{pos, ℤ}
 use lib.ListN.{length}
 use lib.Signed.{_≤ℤ_, leZ}
-use mathlib.Core.Bool.{cond, not}
+use mathlib.Core.Bool.{not}
 use mathlib.Core.List.{List}
 use mathlib.Core.Logic.{_↔_, _⊎_, inl, inr}
 use mathlib.Core.Path.{_∙_, _≡_, ap, refl, sym}

@@ -1,7 +1,6 @@
 -- "up to 64 proposed allocations against a book, each n signed numbers of 32 bits" (02, C-21), and the numbers that tell their verdicts.
-use Prim.Native.Nat.{_*_, _+_, suc, zero, ℕ}
+use Prim.Native.Nat.{suc, zero, ℕ}
 use lib.IntN.{ℤ}
-use lib.ListN.{set}
 use mathlib.Core.List.{List, [], _∷_}
 use Rattle.model.specs.Rows.{rowOf}
 use Rattle.proposals.specs.Verdict.{Verdict, breaks, inside, outsideAt}
@@ -28,7 +27,3 @@ numberOf (breaks i) = i
 unfoldable pub numbers : ℕ → (ℕ → Verdict) → List ℕ
 numbers zero f = []
 numbers (suc k) f = caseOf (f 0) ∷ numberOf (f 0) ∷ numbers k (λ c. f (suc c))
-
--- Y with the numbers a and b for the verdict of proposal c
-unfoldable pub withNumbers : List ℕ → ℕ → ℕ → ℕ → List ℕ
-withNumbers Y c a b = set (set Y (2 * c) a) (2 * c + 1) b

@@ -1,7 +1,7 @@
 -- Laws of the rows' turn: an accepted call can hold its proposals against the next row, and each is then judged by one row more.
 use Prim.Native.Nat.{_*_, _+_, _-_, _<_, ℕ}
 use lib.IntN.{ℤ}
-use lib.ListN.{drop, getD, length, take}
+use lib.ListN.{drop, take}
 use mathlib.Core.List.{List}
 use mathlib.Core.Path.{_∙_, _≡_, sym}
 use native.Mathlib.Omega.{arith}
@@ -21,7 +21,7 @@ use Rattle.proposals.proofs.CallLaws.{accepted}
 use Rattle.verdicts.specs.Holding.{Judgeable, Lent, Pending}
 use Rattle.proposals.specs.Proposals.{proposal}
 use Rattle.verdicts.specs.Telling.{Tells, held}
-use Rattle.proposals.specs.Verdict.{Verdict, inside, meets, rowMet, verdictBy}
+use Rattle.proposals.specs.Verdict.{meets, rowMet, verdictBy}
 use Rattle.proposals.proofs.VerdictLaws.{inBox-test, inside-by, inside-case}
 use Rattle.verdicts.proofs.HeldLaws.{held-verdict, inside-small}
 

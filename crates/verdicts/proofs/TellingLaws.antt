@@ -7,11 +7,8 @@ use mathlib.Core.Logic.{_≢_}
 use mathlib.Core.Path.{_∙_, _≡_, ap, refl, subst, sym}
 use native.Mathlib.Decide.{ℕ-discrete}
 use native.Mathlib.Omega.{arith}
-use lib.IntN.{ℤ}
-use Rattle.model.specs.Rows.{rowOf}
-use Rattle.model.proofs.RowsLaws.{length-rowOf}
-use Rattle.proposals.specs.Proposals.{caseOf, numberOf, numbers, withNumbers}
-use Rattle.verdicts.specs.Telling.{Says, Tells, withVerdict}
+use Rattle.proposals.specs.Proposals.{caseOf, numberOf, numbers}
+use Rattle.verdicts.specs.Telling.{Says, Tells, withNumbers, withVerdict}
 use Rattle.proposals.specs.Verdict.{Verdict, breaks, inside, outsideAt}
 
 -- ---- a list that tells them has those numbers and no others
@@ -128,6 +125,3 @@ halfway-more {Y₀} {Y} {Z} {c} g w told h e = record {
 
 pub tells-as : {count : ℕ} {f g : ℕ → Verdict} {Y : List ℕ} → ((c : ℕ) → f c ≡ g c) → Tells count f Y → Tells count g Y
 tells-as {Y = Y} e t = record { len = t .len; says = λ c h. subst (Says Y c) (e c) (t .says c h) }
-
-pub length-line : (n count : ℕ) (P : List ℤ) (c : ℕ) → length P ≡ count * n → c < count → length (rowOf n P c) ≡ n
-length-line n count P c l h = length-rowOf n count P c l h

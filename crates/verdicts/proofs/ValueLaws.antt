@@ -9,7 +9,7 @@ use Rattle.integer.specs.Index.{sum}
 use Rattle.integer.proofs.IndexLaws.{sum-cong}
 use Rattle.integer.proofs.RangeLaws.{within-mul}
 use Rattle.integer.proofs.Tests.{cond-ind}
-use Rattle.model.specs.Box.{at, lower, upper}
+use Rattle.model.specs.Box.{at}
 use Rattle.row.specs.Activity.{minTerm}
 use Rattle.row.proofs.PointBox.{boxAt, lower-at, upper-at}
 use Rattle.row.proofs.ReachLaws.{minTermAt}

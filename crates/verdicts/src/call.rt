@@ -6,7 +6,7 @@ use model::model_fault;
 use model::size_fault;
 ghost use mathlib.Core.Path.{_≡_};
 ghost use mathlib.Core.Bool.{_&&_};
-ghost use Prim.Native.Nat.{ℕ, _*_, _≤_};
+ghost use Prim.Native.Nat.{_*_, _≤_};
 ghost use lib.Dec.{eqb};
 ghost use lib.ListN.{length};
 ghost use Rattle.model.specs.Model.{modelOf};
@@ -24,8 +24,9 @@ const MAX_PROPOSALS: u32 = 64;
 fn is_lent(n: usize, count: u32, proposals: &[i32], verdicts: &[u32]) -> bool
     requires { ⌜ count ≤ 64 ⌝ }
     ensures { λ r.
-        let fits = eqb (length (now (proposals .entry))) (count * n) && eqb (length (now (verdicts .entry))) (2 * count) in
-        ⌜ r ≡ fits ⌝ }
+        let P = now (proposals .entry) in
+        let Y = now (verdicts .entry) in
+        ⌜ r ≡ (eqb (length P) (count * n) && eqb (length Y) (2 * count)) ⌝ }
 {
     let count = count as usize;
     is_product(proposals.len(), count, n) && verdicts.len() == 2 * count

@@ -12,10 +12,10 @@ ghost use Rattle.model.specs.Rows.{rowAt, rowOf, rowWith, rowsOf};
 ghost use Rattle.row_marks.specs.Index.{RowSteps};
 ghost use Rattle.row_view.specs.RowIn.{RowIn, StepsIn};
 ghost use Rattle.sweep.specs.Steps.{Steps};
-ghost use Rattle.verdicts.specs.Holding.{Holdable, Judgeable, Lent, Pending};
-ghost use Rattle.proposals.specs.Proposals.{proposal, withNumbers};
-ghost use Rattle.verdicts.specs.Telling.{Says, Tells, boxVerdict, held, withVerdict};
+ghost use Rattle.proposals.specs.Proposals.{proposal};
 ghost use Rattle.proposals.specs.Verdict.{Verdict, meets, verdict};
+ghost use Rattle.verdicts.specs.Holding.{Holdable, Judgeable, Lent, Pending};
+ghost use Rattle.verdicts.specs.Telling.{Says, Tells, boxVerdict, held, withNumbers, withVerdict};
 
 // The first number of a verdict.
 const INSIDE: u32 = 0;
@@ -128,7 +128,8 @@ fn hold_row_at(
     proposals: &[i32],
     verdicts: &mut [u32],
 )
-    requires { ⌜ (i ≤ 120) × RowIn n (rowsOf (now coefs) (now rhs) (now kinds)) i × StepsIn n (now coefs) (now across) i ⌝ }
+    requires { let A = rowsOf (now coefs) (now rhs) (now kinds) in
+        ⌜ (i ≤ 120) × RowIn n A i × StepsIn n (now coefs) (now across) i ⌝ }
     requires { ⌜ Pending n count (rowOf n (now coefs) i) (now proposals) (now verdicts) ⌝ }
     ensures { λ _.
         let r = rowAt n (rowsOf (now (coefs .entry)) (now (rhs .entry)) (now (kinds .entry))) i in

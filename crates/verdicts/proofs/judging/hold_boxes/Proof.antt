@@ -6,10 +6,11 @@ use lib.ListN.{length}
 use mathlib.Core.List.{List}
 use mathlib.Core.Path.{_∙_, _≡_, ap, refl, subst, sym}
 use native.Mathlib.Omega.{arith}
+use Rattle.model.proofs.RowsLaws.{length-rowOf}
 use Rattle.row_marks.proofs.IndexLoops.{line-end}
 use Rattle.proposals.specs.Proposals.{proposal}
 use Rattle.verdicts.specs.Telling.{Says, boxVerdict, withVerdict}
-use Rattle.verdicts.proofs.TellingLaws.{length-line, length-told, says-more}
+use Rattle.verdicts.proofs.TellingLaws.{length-told, says-more}
 use Rattle.verdicts.proofs.judging.hold_boxes.Statement.{statement}
 use Rattle.verdicts.proofs.judging.hold_boxes.Tie as tie
 
@@ -30,7 +31,7 @@ hold-box-requires : tie.Need-hold-box-requires Inv-loop μ-loop
 hold-box-requires c κs =
     let s = c .before .before .before .before .before in
     let h = c .before .before .before in (
-      (s .pre .0 .few, s .pre .1, ap length (c .before .line .ensures) ∙ length-line (s .args .n) (s .args .count) (s .args .proposals .now) (h .loop .c) (s .pre .0 .len) (omega arith)),
+      (s .pre .0 .few, s .pre .1, ap length (c .before .line .ensures) ∙ length-rowOf (s .args .n) (s .args .count) (s .args .proposals .now) (h .loop .c) (s .pre .0 .len) (omega arith)),
       omega (arith, h .loop .inv .1),
     )
 

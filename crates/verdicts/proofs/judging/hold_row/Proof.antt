@@ -1,9 +1,8 @@
 -- `verdicts::judging::hold_row`: the invariant says that the proposals so far are held against the row, and that the others' numbers are
 -- as they were. Assumes nothing.
-use Prim.Native.Nat.{_*_, _+_, _-_, _<_, _≤_, ℕ}
+use Prim.Native.Nat.{_*_, _-_, _<_, _≤_, ℕ}
 use denote.Ref.{now}
 use lib.IntN.{ℤ}
-use lib.ListN.{getD, length}
 use mathlib.Core.List.{List}
 use mathlib.Core.Path.{_∙_, _≡_, ap₂, subst, sym}
 use mir.Facts.{toZ-ofZ}

@@ -8,7 +8,6 @@ use Rattle.model.specs.Rows.{rowsOf}
 use Rattle.marked_row.proofs.MarkedRowLaws.{steps-in}
 use Rattle.row_marks.specs.Index.{RowSteps}
 use Rattle.row_marks.proofs.IndexLoops.{row-end}
-use Rattle.verdicts.specs.Holding.{Lent}
 use Rattle.proposals.specs.Proposals.{proposal}
 use Rattle.verdicts.specs.Telling.{Tells}
 use Rattle.proposals.specs.Verdict.{verdict, verdictBy}

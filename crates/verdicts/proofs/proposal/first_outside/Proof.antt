@@ -1,12 +1,11 @@
 -- `verdicts::proposal::first_outside`: the variables so far are between their bounds, and the first that is not is the lowest
 -- (`lowest-is`). Assumes nothing.
-use Prim.Native.Nat.{_*_, _+_, _-_, _<_, _≤_, ℕ}
+use Prim.Native.Nat.{_-_, _≤_, ℕ}
 use lib.Dec.{T, not-T}
 use lib.IntN.{ℤ}
 use lib.Signed.{_≤ℤ_}
-use mathlib.Core.Bool.{Bool}
 use mathlib.Core.List.{List}
-use mathlib.Core.Path.{_∙_, _≡_, ap, sym}
+use mathlib.Core.Path.{_≡_, sym}
 use mir.Facts.{toZ-ofZ}
 use mir.Syntax.{w32}
 use mir.Val.{ofZ, toZ}
