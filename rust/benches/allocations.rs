@@ -24,7 +24,7 @@ use reference::calls::ANSWER;
 const COUNT: usize = 64;
 
 /// The books in the folder, without their ending.
-const BOOKS: [&str; 4] = ["dense", "sparse", "lseu", "p0033"];
+const BOOKS: [&str; 6] = ["dense", "big", "sparse", "lseu", "p0033", "knapsack"];
 
 fn main() {
     let arguments: Vec<String> = env::args().skip(1).collect();
@@ -85,7 +85,7 @@ fn described(folder: &str, name: &str) -> String {
     format!("{name}\t{n} × {m}, {percent} %, {inside} of {COUNT} inside")
 }
 
-/// The model of a book, and proposals near one corner of its box: what breaks a row there breaks it late.
+/// The model of a book, and proposals at corners of its box, many of which meet every row.
 fn lent(folder: &str, name: &str) -> Lent {
     let path = Path::new(folder).join(name).with_extension("book");
     let book = fs::read(&path).unwrap_or_else(|error| panic!("{}: {error}", path.display()));
@@ -111,13 +111,24 @@ fn lent(folder: &str, name: &str) -> Lent {
     Lent { model, proposals, count: COUNT as u32, verdicts: vec![9; 2 * COUNT] }
 }
 
-/// A bound of each variable: mostly the one that more rows are met by.
+/// A bound of each variable, and then, as long as a row is broken and for a while, bounds that the row is nearer to.
 fn corner(rng: &mut Rng, model: &lent::Lent) -> Vec<i32> {
-    let column = |j| model.coefs.iter().skip(j).step_by(model.n).map(|a| i64::from(a.signum()));
-    (0..model.n)
-        .map(|j| {
-            let upper = (column(j).sum::<i64>() < 0) != rng.chance(2);
-            model.bounds[2 * j + usize::from(upper)]
-        })
-        .collect()
+    let n = model.n;
+    let mut x: Vec<i32> = (0..n).map(|j| model.bounds[2 * j + rng.index(2)]).collect();
+    for _ in 0..400 {
+        let row = |i: usize| &model.coefs[i * n..][..n];
+        let excess = |i: usize, x: &[i32]| -> i64 {
+            let terms = row(i).iter().zip(x).map(|(&a, &x)| i64::from(a) * i64::from(x));
+            terms.sum::<i64>() - i64::from(model.rhs[i])
+        };
+        let Some(i) = (0..model.m).find(|&i| excess(i, &x) > 0) else { break };
+        let start = rng.index(n);
+        for j in (start..n).chain(0..start).filter(|&j| row(i)[j] != 0) {
+            x[j] = model.bounds[2 * j + usize::from(row(i)[j] < 0)];
+            if excess(i, &x) <= 0 {
+                break;
+            }
+        }
+    }
+    x
 }
