@@ -1,4 +1,4 @@
-//! The fourteen calls as the C interface has them.
+//! The calls as the C interface has them.
 //!
 //! Each returns 0 or the number of the failed check, and writes its answer into twelve places, 0 into
 //! those that it does not use. On a refusal nothing is written. The length of `answer` is check 5, with
@@ -7,6 +7,7 @@
 
 use crate::checks::{self, Check};
 use crate::list;
+use crate::pages;
 use crate::plan;
 use crate::probing::{self, Rest, Verdict};
 use crate::propagation::{self, Ending};
@@ -311,6 +312,33 @@ pub fn plan_run(n: usize, bounds: &[i32], calls: &[u32], answer: &mut [u64]) -> 
         check_bounds(n, bounds, &[(rest.len(), 0), (beyond, 0), (places_lent, ANSWER)])?;
         Ok(places([plan::width(bounds), plan::budget(bounds), plan::passes(bounds, records)]))
     })
+}
+
+/// The number of pages of a table (02, C-23). Checks 3, 5 and 10.
+pub fn page_count(n: usize, table: &[u8], answer: &mut [u64]) -> u32 {
+    reply(answer, |places_lent| {
+        checks::size(n, 0)?;
+        checks::lengths(&[(table.len(), 4 * n * n), (places_lent, ANSWER)])?;
+        checks::table(table)?;
+        Ok(places([pages::count(n, table) as u64]))
+    })
+}
+
+/// Writes the pages of a box and a table (02, C-23). Checks 3, 5, 6, 7, 23 and 10: the number of pages, which
+/// gives the length, is that of the bytes that are 1, and other bytes are left to 10.
+pub fn write_pages(n: usize, bounds: &[i32], table: &[u8], lent: &mut [u8]) -> u32 {
+    let check = || -> Check {
+        checks::size(n, 0)?;
+        checks::lengths(&[(bounds.len(), 2 * n), (table.len(), 4 * n * n)])?;
+        checks::lengths(&[(lent.len(), pages::PAGE * pages::count(n, table))])?;
+        checks::numbers(bounds, &[], &[])?;
+        checks::table(table)
+    };
+    if let Err(check) = check() {
+        return check;
+    }
+    lent.copy_from_slice(&pages::write(n, bounds, table));
+    0
 }
 
 /// Reads a book into lent buffers. 02, C-14: "First-edition books have kind 0 throughout."

@@ -16,7 +16,8 @@
 //! | [`book`] | Book |
 //! | [`checks`] | Checks in their order; 02's new numbers in their places |
 //! | [`plan`] | size and passes told beforehand (02, C-17) |
-//! | [`calls`] | the fourteen calls as the C interface has them: a refusal number and twelve places of answer |
+//! | [`pages`] | the pages for the floor (02, C-23) |
+//! | [`calls`] | the calls as the C interface has them: a refusal number and twelve places of answer |
 //! | [`report`] | what `reduce` prints |
 
 pub mod book;
@@ -24,6 +25,7 @@ pub mod bounds;
 pub mod calls;
 pub mod checks;
 pub mod list;
+pub mod pages;
 pub mod plan;
 pub mod probing;
 pub mod propagation;
