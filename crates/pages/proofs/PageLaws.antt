@@ -154,7 +154,7 @@ contents-length n B t =
     let e = further-count (furtherCount (length (implied n t k))) (drop 8 (implied n t k)) in
     omega (arith, e)
 
-line-most : (n : ℕ) (t : List ℕ) (k : ℕ) → n ≤ 128 → 1 + furtherCount (length (implied n t k)) ≤ 32
+pub line-most : (n : ℕ) (t : List ℕ) (k : ℕ) → n ≤ 128 → 1 + furtherCount (length (implied n t k)) ≤ 32
 unfolding furtherCount
 line-most n t k h = omega (arith, implied-length n t k)
 
