@@ -39,6 +39,7 @@
 mod answer;
 pub mod ffi;
 mod model;
+pub mod pages;
 pub mod plan;
 mod refusal;
 

@@ -19,7 +19,7 @@ pub struct Coverage {
     pub most_passes: u64,
     /// The most bounds that one propagation moved.
     pub most_moved: u64,
-    /// Which of [`MOVES`], [`EQUALITIES`], [`UNREST`], [`PLANS`] and [`RETIRED`] were met.
+    /// Which of [`MOVES`], [`EQUALITIES`], [`UNREST`], [`PLANS`], [`RETIRED`] and [`PAGES`] were met.
     pub met: BTreeSet<&'static str>,
 }
 
@@ -65,7 +65,32 @@ const RETIRED: [&str; 3] = [
     "a call list with a retired kind on the empty box",
 ];
 
+/// The same of the pages for the floor (02, C-23).
+const PAGES: [&str; 6] = [
+    "pages of the empty box",
+    "pages with a bound of -32,768",
+    "a variable with eight literals",
+    "a variable with nine literals",
+    "a last page without an empty line",
+    "seventy pages",
+];
+
 impl Coverage {
+    /// Notes what pages were written.
+    fn note_pages(&mut self, before: &Lent, pages: &[u8]) {
+        let [empty, lowest, eight, nine, full, most] = PAGES;
+        let n = before.n;
+        let literals = |k: usize| {
+            before.table[(2 * k + 1) * 2 * n..][..2 * n].iter().filter(|&&byte| byte == 1).count()
+        };
+        self.met(empty, bounds::is_empty(&before.bounds));
+        self.met(lowest, before.bounds.contains(&-32_768));
+        self.met(eight, (0..n).any(|k| literals(k) == 8));
+        self.met(nine, (0..n).any(|k| literals(k) == 9));
+        self.met(full, !pages[pages.len() - 81..].trim_ascii().is_empty());
+        self.met(most, pages.len() == 70 * reference::pages::PAGE);
+    }
+
     /// Notes how many passes a list made that was lent `before`, and their limit.
     pub fn planned(&mut self, before: &Lent, made: u64, limit: u64) {
         let [reached, below, on_empty, _] = PLANS;
@@ -91,13 +116,18 @@ impl Coverage {
             | Operation::PlanLengths
             | Operation::BookTrailer
             | Operation::BookRead
-            | Operation::BookWrite => 0,
+            | Operation::BookWrite
+            | Operation::PageCount
+            | Operation::WritePages => 0,
             _ => answer[0],
         };
         *self.answered.entry((operation.name(), case)).or_default() += 1;
         self.note_equalities(operation, before, after);
         if operation == Operation::IsProbingFixpoint {
             self.note_unrest(before, answer);
+        }
+        if operation == Operation::WritePages {
+            self.note_pages(before, &after.book);
         }
         let [several, again, before_infeasible, side_before_infeasible] = MOVES;
         match answer[..] {
@@ -205,7 +235,7 @@ impl Coverage {
     }
 
     /// What a long enough run must have met and has not: each check of each call, each case of each
-    /// answer, and each of [`MOVES`], [`EQUALITIES`], [`UNREST`], [`PLANS`] and [`RETIRED`].
+    /// answer, and each of [`MOVES`], [`EQUALITIES`], [`UNREST`], [`PLANS`], [`RETIRED`] and [`PAGES`].
     pub fn missing(&self) -> Vec<String> {
         let (row, variable, budget, limit) = (0, 0, 0, 0);
         let all = [
@@ -223,8 +253,10 @@ impl Coverage {
             (Operation::BookTrailer, 1),
             (Operation::BookRead, 1),
             (Operation::BookWrite, 1),
+            (Operation::PageCount, 1),
+            (Operation::WritePages, 1),
         ];
-        let mut missing: Vec<String> = [&MOVES[..], &EQUALITIES, &UNREST, &PLANS, &RETIRED]
+        let mut missing: Vec<String> = [&MOVES[..], &EQUALITIES, &UNREST, &PLANS, &RETIRED, &PAGES]
             .concat()
             .into_iter()
             .filter(|what| !self.met.contains(what))

@@ -22,6 +22,8 @@ pub fn checks(operation: Operation) -> &'static [u32] {
         Operation::PlanWidth | Operation::PlanRun => &[3, 5, 6, 7, 23],
         Operation::BookTrailer | Operation::PlanLengths => &[1, 5, 3, 4],
         Operation::BookRead => &[1, 2, 3, 4, 5, 6, 7, 23, 8, 9],
+        Operation::PageCount => &[3, 5, 10],
+        Operation::WritePages => &[3, 5, 6, 7, 23, 10],
     }
 }
 
@@ -55,7 +57,12 @@ fn damage_one(rng: &mut Rng, operation: &mut Operation, lent: &mut Lent, check: 
         }
         16 => *any(rng, &mut lent.kinds) = rng.pick(&[2, 3, 128, 255]),
         17 => *any(rng, &mut lent.kinds) = EQUAL,
-        10 => *any(rng, &mut lent.table) = rng.pick(&[2, 3, 128, 255]),
+        10 => {
+            *any(rng, &mut lent.table) = rng.pick(&[2, 3, 128, 255]);
+            if *operation == Operation::WritePages {
+                pages_room(lent); // a byte that is no longer 1 counts no more
+            }
+        }
         _ => wrong_argument(rng, operation, lent, check),
     }
 }
@@ -63,6 +70,12 @@ fn damage_one(rng: &mut Rng, operation: &mut Operation, lent: &mut Lent, check: 
 /// The book of the model as it stands, accepted or not.
 pub fn write_book(lent: &mut Lent) {
     lent.book = reference::book::write(lent.n, lent.m, &lent.bounds, &lent.coefs, &lent.rhs);
+}
+
+/// A buffer for the pages of the table as it stands, filled with what no page has.
+pub fn pages_room(lent: &mut Lent) {
+    let pages = reference::pages::count(lent.n, &lent.table);
+    lent.book = vec![0x55; reference::pages::PAGE * pages];
 }
 
 /// A place of the buffer: often the first or the last.
@@ -104,7 +117,10 @@ fn wrong_book_length(rng: &mut Rng, book: &mut Vec<u8>) {
 fn wrong_size(rng: &mut Rng, operation: Operation, lent: &mut Lent) {
     let in_book =
         matches!(operation, Operation::BookTrailer | Operation::PlanLengths | Operation::BookRead);
-    let only_n = matches!(operation, Operation::PlanWidth | Operation::PlanRun);
+    let only_n = matches!(
+        operation,
+        Operation::PlanWidth | Operation::PlanRun | Operation::PageCount | Operation::WritePages
+    );
     let n_is_wrong = only_n || rng.chance(50);
     match operation {
         _ if in_book && n_is_wrong => {
@@ -159,11 +175,14 @@ fn wrong_length(rng: &mut Rng, operation: Operation, lent: &mut Lent) {
         Operation::PlanRun => &["answer", "bounds", "calls"],
         Operation::BookTrailer | Operation::PlanLengths => &["answer", "trailer"],
         Operation::BookWrite => &["book"],
+        Operation::PageCount => &["answer", "table"],
+        Operation::WritePages => &["bounds", "table", "pages"],
         _ => &["answer"],
     };
     let buffers = match operation {
         Operation::PlanWidth | Operation::PlanRun => others.to_vec(),
         Operation::BookTrailer | Operation::PlanLengths => others.to_vec(),
+        Operation::PageCount | Operation::WritePages => others.to_vec(),
         _ => [&model, others].concat(),
     };
     match rng.pick(&buffers) {
@@ -175,6 +194,8 @@ fn wrong_length(rng: &mut Rng, operation: Operation, lent: &mut Lent) {
         "answer" if rng.chance(20) => lent.answer.truncate(6), // its length before C-11
         "answer" => resize(rng, &mut lent.answer),
         "book" => resize(rng, &mut lent.book),
+        "pages" if rng.chance(50) => lent.book.resize(lent.book.len() + reference::pages::PAGE, 0),
+        "pages" => resize(rng, &mut lent.book),
         "calls" if operation == Operation::PlanRun && rng.chance(5) => {
             lent.calls = vec![2; 4 * (reference::plan::MAX_RECORDS + 1)];
         }

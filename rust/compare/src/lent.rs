@@ -1,4 +1,4 @@
-//! What a call can be lent, the fourteen calls, and the trait of an implementation of them.
+//! What a call can be lent, the calls, and the trait of an implementation of them.
 
 use reference::calls;
 
@@ -14,7 +14,7 @@ pub struct Lent {
     pub table: Vec<u8>,
     /// Four numbers a record.
     pub calls: Vec<u32>,
-    /// A book, or the bytes of a trailer.
+    /// A book, the bytes of a trailer, or pages.
     pub book: Vec<u8>,
     pub answer: Vec<u64>,
 }
@@ -63,7 +63,7 @@ impl Lent {
     }
 }
 
-/// One of the fourteen calls, with its numbers.
+/// One of the calls, with its numbers.
 #[derive(Clone, Copy, Debug, PartialEq, Eq)]
 pub enum Operation {
     PropagateRow { row: u32 },
@@ -80,10 +80,12 @@ pub enum Operation {
     BookTrailer,
     BookRead,
     BookWrite,
+    PageCount,
+    WritePages,
 }
 
 impl Operation {
-    /// Each of the fourteen with these numbers, where it has them: first the eight on a model, then the three
+    /// Each of fourteen with these numbers, where it has them: first the eight on a model, then the three
     /// that tell beforehand, and the three on books.
     pub fn each(row: u32, variable: u32, budget: u32, limit: u32) -> [Operation; 14] {
         [
@@ -104,6 +106,9 @@ impl Operation {
         ]
     }
 
+    /// The two on pages; they are lent the table, and `book` for the pages.
+    pub const ON_PAGES: [Operation; 2] = [Operation::PageCount, Operation::WritePages];
+
     /// The call's name in the C interface, without `astrolabe_`.
     pub fn name(self) -> &'static str {
         match self {
@@ -121,11 +126,13 @@ impl Operation {
             Operation::BookTrailer => "book_trailer",
             Operation::BookRead => "book_read",
             Operation::BookWrite => "book_write",
+            Operation::PageCount => "page_count",
+            Operation::WritePages => "write_pages",
         }
     }
 }
 
-/// An implementation of the fourteen calls.
+/// An implementation of the calls.
 pub trait Backend {
     /// Makes the call; 0, or the number of the failed check.
     fn call(&mut self, operation: Operation, loan: Loan) -> u32;
@@ -166,6 +173,8 @@ impl Backend for Reference {
             Operation::BookTrailer => calls::book_trailer(book, answer),
             Operation::BookRead => calls::book_read(book, bounds, coefs, rhs, kinds, answer),
             Operation::BookWrite => calls::book_write(n, m, bounds, coefs, rhs, kinds, book),
+            Operation::PageCount => calls::page_count(n, table, answer),
+            Operation::WritePages => calls::write_pages(n, bounds, table, book),
         }
     }
 }

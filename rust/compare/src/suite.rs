@@ -299,7 +299,7 @@ impl fmt::Display for Difference {
         first(f, "calls", [&left.calls, &right.calls])?;
         first(f, "book", [&left.book, &right.book])?;
         first(f, "answer", [&left.answer, &right.answer])?;
-        if self.before.n * self.before.m <= 64 {
+        if self.before.n.saturating_mul(self.before.m) <= 64 {
             writeln!(f, "  before: {:?}", self.before)?;
         }
         Ok(())

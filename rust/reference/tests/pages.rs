@@ -163,12 +163,10 @@ fn what_is_refused() {
     assert_eq!([0, 129].map(|n| write(n, &bounds, &none, 0)), [Err(3), Err(3)]);
     assert_eq!(write(2, &bounds[..3], &none, PAGE), Err(5));
     assert_eq!(write(2, &bounds, &none[..15], PAGE), Err(5));
-    assert_eq!([0, PAGE - 1, PAGE + 1, 2 * PAGE].map(|n| write(2, &bounds, &none, n)), [
-        Err(5),
-        Err(5),
-        Err(5),
-        Err(5)
-    ]);
+    assert_eq!(
+        [0, PAGE - 1, PAGE + 1, 2 * PAGE].map(|n| write(2, &bounds, &none, n)),
+        [Err(5), Err(5), Err(5), Err(5)]
+    );
     assert_eq!(write(2, &[0, 40_000, 0, 1], &none, PAGE), Err(6));
     assert_eq!(write(2, &[0, 1, 1, 0], &none, PAGE), Err(7));
     assert_eq!(write(2, &[0, 4_097, 0, 1], &none, PAGE), Err(23));
