@@ -143,11 +143,11 @@ whole-right w (negsuc n) =
 
 sign-digits : (q : ℕ) → keep isDigit (literalText q) ≡ decimal (q / 2)
 unfolding literalText keep isDigit
-sign-digits q = go (eqb (q % 2) 1)
+sign-digits q = go (decLt (q % 2) 1)
   where
-    go : (x : Bool) → keep isDigit (cond x 43 45 ∷ decimal (q / 2)) ≡ decimal (q / 2)
-    go true = decimal-digits (q / 2)
-    go false = decimal-digits (q / 2)
+    go : Dec (q % 2 < 1) → keep isDigit (literalText q) ≡ decimal (q / 2)
+    go (yes h) = rw (ne-eqb (q % 2) 1 (λ e. omega arith)) (decimal-digits (q / 2))
+    go (no h) = rw (eq-eqb (q % 2) 1 (omega arith)) (decimal-digits (q / 2))
 
 sign-zero : (q : ℕ) → q % 2 < 1 → isNone (keep isMinus (literalText q)) ≡ false
 unfolding literalText keep isMinus isNone

@@ -1,7 +1,7 @@
 -- Lines: every line has 80 columns, and what was written on it is read from it.
 use Prim.Native.Nat.{_*_, _+_, _-_, _/_, _<_, _≤_, suc, zero, ℕ}
 use lib.IntN.{natAbs, ℤ}
-use lib.ListN.{drop, length, length-append, length-drop, replicate, take, take-append-drop}
+use lib.ListN.{drop, length, length-append, length-drop, length-replicate, replicate, take, take-append-drop}
 use lib.Seq.{drop-append-add, drop-at, take-at, take-nil}
 use mathlib.Core.Bool.{false, true}
 use mathlib.Core.List.{List, [], _++_, _∷_, append-assoc, append-nil}
@@ -39,7 +39,7 @@ slots-length (suc c) (q ∷ qs) (one l h) =
 
 pub literals-length : (qs : List ℕ) → Small qs → length (literals qs) ≡ 57
 unfolding literals
-literals-length qs h = length-append (slots 8 qs) (spaces 9) ∙ rw (slots-length 8 qs h)
+literals-length qs h = simp (length-append, length-replicate, slots-length) (omega arith)
 
 number-length : (k : ℕ) → k < 1_000_000 → length (right 6 (decimal k)) ≡ 6
 number-length k h = right-length 6 (decimal k) (decimal-length 5 k h)
@@ -58,7 +58,7 @@ further-length qs h = length-append (spaces 23) (literals qs) ∙ rw (literals-l
 
 pub number-line-length : (p : ℕ) → suc p < 1_000_000 → length (numberLine p) ≡ 80
 unfolding numberLine
-number-line-length p h = length-append (spaces 74) (right 6 (decimal (suc p))) ∙ rw (number-length (suc p) h)
+number-line-length p h = let k : p < 1_000_000 = omega arith in simp (length-append, length-replicate, number-length) (omega arith)
 
 -- ---- the literals of a line
 

@@ -114,12 +114,12 @@ contents-lines n B t p =
 
 pub page-line-length : (ls : List (List ℕ)) → Lines ls → (p : ℕ) → p < 999_999 → (i : ℕ) → length (pageLine ls p i) ≡ 80
 unfolding pageLine
-page-line-length ls h p l zero = number-line-length p (omega arith)
+page-line-length ls h p l zero = number-line-length _ (omega arith)
 page-line-length ls h p l (suc i) = lines-at h (59 * p + i)
 
 pub page-line-print : (ls : List (List ℕ)) → Lines ls → (p i : ℕ) → Printed (pageLine ls p i)
 unfolding pageLine
-page-line-print ls h p zero = printed-number p
+page-line-print ls h p zero = printed-number _
 page-line-print ls h p (suc i) = lines-print h (59 * p + i)
 
 pub page-length : (ls : List (List ℕ)) → Lines ls → (p : ℕ) → p < 999_999 → length (page ls p) ≡ 4_860

@@ -79,4 +79,4 @@ printed-further qs = printed-append (printed-spaces 23) (printed-literals qs)
 
 pub printed-number : (p : ℕ) → Printed (numberLine p)
 unfolding numberLine
-printed-number p = printed-append (printed-spaces 74) (printed-right 6 (printed-decimal (suc p)))
+printed-number p = printed-append (printed-spaces 74) (printed-right 6 (printed-decimal _))

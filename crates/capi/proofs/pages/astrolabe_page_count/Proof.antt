@@ -12,7 +12,7 @@ answer-fault-requires c κs = search needs
 
 returns : tie.Need-returns
 unfolding countExport
-returns c = let s = c .before .before .before in book-refused (s .args .answer .now) _ _ (c .before .if1 .taken) (c .answer-fault .ensures)
+returns c = let s = c .before .before .before .before in book-refused (s .args .answer .now) _ _ (c .before .if1 .taken) (c .answer-fault .ensures)
 
 page-count-requires : tie.Need-page-count-requires
 page-count-requires c κs = search needs
@@ -29,7 +29,7 @@ same-length c = search needs
 returns-2 : tie.Need-returns-2
 unfolding countExport
 returns-2 c =
-    let s = c .before .before .before .before .before .before .before .before in
+    let s = c .before .before .before .before .before .before .before .before .before in
     book-replied (s .args .answer .now) _ (c .before .before .before .before .before .before .if1 .left) (c .before .before .put .ensures)
     (c .before .before .before .before .count-reply .ensures ∙ ap pageReply (c .before .before .before .before .before .page-count .ensures))
 
