@@ -93,7 +93,7 @@ fn the_example_of_01_on_paper() {
 
 #[test]
 fn columns() {
-    let bounds = [-32_768, -28_672, 28_671, 32_767, 1, 0].repeat(1);
+    let bounds = [-32_768, -28_672, 28_671, 32_767, 1, 0];
     let pages = pages::write(3, &bounds, &table(3, &[[0, 1, 2, 1], [0, 1, 0, 1], [0, 0, 1, 1]]));
     let page = lines(&pages);
     assert_eq!(page[1].trim_end(), "     0  -32768  -28672 +0    +2");
