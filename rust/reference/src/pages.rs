@@ -1,5 +1,9 @@
 //! The pages for the floor (02, C-23). Variables count from 0, pages and columns from 1.
 
+use crate::calls::{self, ANSWER};
+use crate::row::AT_MOST;
+use crate::{book, checks};
+
 /// "A page has 60 lines of 80 columns, space filled, each ended by a line feed."
 const LINES: usize = 60;
 const COLUMNS: usize = 80;
@@ -54,4 +58,27 @@ pub fn write(n: usize, bounds: &[i32], table: &[u8]) -> Vec<u8> {
         }
     }
     pages.into_bytes()
+}
+
+/// The output of the program `floor` for a book on standard input: the pages of the reduced model.
+pub fn floor(input: &[u8]) -> Vec<u8> {
+    match reduced(input) {
+        Err(check) => format!("refused {check}\n").into_bytes(),
+        Ok(None) => b"none\n".to_vec(),
+        Ok(Some(pages)) => pages,
+    }
+}
+
+/// `None` where the model is infeasible.
+fn reduced(input: &[u8]) -> Result<Option<Vec<u8>>, u32> {
+    let (n, m) = book::size(input)?;
+    let (mut bounds, mut coefs, mut rhs) = book::numbers(input, n, m);
+    checks::numbers(&bounds, &coefs, &rhs)?;
+    let (mut kinds, mut table) = (vec![AT_MOST; m], vec![0; 4 * n * n]);
+    let mut answer = [0; ANSWER];
+    // As many rounds as it takes: none of these books takes so many.
+    let rounds = calls::rounds;
+    let limit = u32::MAX as _;
+    rounds(n, m, &mut bounds, &mut coefs, &mut rhs, &mut kinds, &mut table, limit, &mut answer);
+    Ok((answer[0] != 0).then(|| write(n, &bounds, &table)))
 }
