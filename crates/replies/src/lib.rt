@@ -2,6 +2,9 @@
 // and the reply to each answer of the open calls (`answers`, `plans`, `tied`, `clique_rows`).
 pub mod answers;
 pub mod clique_rows;
+// and the reply to each answer of the open calls (`answers`, `pages`, `plans`).
+pub mod answers;
+pub mod pages;
 pub mod plans;
 pub mod reply;
 pub mod tied;
