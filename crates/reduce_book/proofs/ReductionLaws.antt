@@ -3,7 +3,7 @@
 use Prim.Native.Nat.{_*_, _+_, _-_, _≤_, ℕ}
 use borrow.Author.Tests.{eq-eqb, ne-eqb}
 use lib.IntN.{ℤ}
-use lib.ListN.{length, length-append, length-replicate, replicate, replicate-append-replicate, take}
+use lib.ListN.{length, length-replicate, replicate, replicate-append-replicate, take}
 use lib.Seq.{length-take-le, take-at}
 use mathlib.Core.List.{List, _++_}
 use mathlib.Core.Path.{_∙_, _≡_, ap, refl, sym}
@@ -18,14 +18,16 @@ use Rattle.book.specs.Book.{decode, modelIn, rows, trailerOf, variables}
 use Rattle.book.specs.BookChecks.{bookChecks, bookFault, headChecks, modelNumberChecks, readChecks}
 use Rattle.book.proofs.AcceptLaws.{head-numbered}
 use Rattle.book.proofs.AnswerLaws.{accepted-by, becomes, refused-by}
-use Rattle.intake.specs.Checks.{TooLong, headCall}
+use Rattle.bytes.specs.Bytes.{Bytes}
+use Rattle.intake.specs.Checks.{headCall}
 use Rattle.intake.specs.Intake.{Held}
 use Rattle.intake.proofs.CheckLaws.{accepted}
 use Rattle.report.specs.Report.{refusedLine}
+use Rattle.streams.specs.Input.{RefusedSoFar}
 use Rattle.model.specs.State.{stateOf}
 use Rattle.model.specs.Model.{modelOf}
 use Rattle.model.specs.Rows.{Rows, rowsOf}
-use Rattle.reduce_book.specs.Answers.{Ready, RefusedSoFar, Sized}
+use Rattle.reduce_book.specs.Answers.{Ready, Sized}
 use Rattle.reduce_book.specs.Output.{output, roundsText, stateRead, zeros}
 
 -- what is refused is refused by the fault
@@ -99,11 +101,9 @@ head-output limit bs number e =
     let f : bookFault bs ≡ first (headChecks bs) = first-stop (headChecks bs) (modelNumberChecks (decode bs)) (r .1) in
     rw (ne-eqb (bookFault bs) 0 (λ z. r .1 (sym f ∙ z))) (ap refusedLine (r .0 ∙ sym f))
 
--- an input that is too long already: so is every book that starts so
-pub too-long-output : (bs : List ℕ) → TooLong (length bs) → RefusedSoFar bs
-too-long-output bs h = record {
-  refusal = λ limit more b. head-output limit (bs ++ more) 2 (sym (h .refusal (bs ++ more) b (omega (arith, length-append bs more))));
-}
+-- an input of which no more is read, for it is refused whatever follows: every book that starts so prints `refused 2`
+pub too-long-output : {bs : List ℕ} → RefusedSoFar bs → (limit : ℕ) (more : List ℕ) → Bytes (bs ++ more) → refusedLine 2 ≡ output limit (bs ++ more)
+too-long-output {bs} h limit more b = head-output limit (bs ++ more) 2 (sym (h .refusal more b))
 
 -- an accepted input that is held whole is a book that says n and m
 pub held-sized : {bs start tail : List ℕ} {len n m : ℕ} → Held bs start tail len → len ≤ length start → sizesAre n m ≡ headCall bs → Sized n m (take len start)

@@ -4,7 +4,6 @@
 // that `output` gives, that its text is written into a buffer and that as many bytes as it has are handed to standard
 // output are proved. A read or a write that fails is told on standard error, and then nothing more is printed.
 mod buffers;
-mod input;
 mod output;
 mod reduction;
 
@@ -15,9 +14,11 @@ use buffers::most_bounds;
 use buffers::most_coefs;
 use buffers::most_kinds;
 use buffers::most_rhs;
-use input::Input;
 use reduction::Answer;
 use reduction::solve;
+use streams::input::Input;
+use streams::input::read_all;
+use streams::output::refused;
 ghost use mathlib.Core.Bool.{true};
 ghost use mathlib.Core.Path.{_≡_};
 ghost use mathlib.Core.List.{List};
@@ -38,9 +39,9 @@ pub fn program(limit: u64, printed: &mut usize) -> bool
 {
     let mut start = longest_book();
     let mut tail = [0u8; 16];
-    match input::read_all(&mut start, &mut tail) {
+    match read_all(&mut start, &mut tail) {
         Input::Length(len) => answer(&start, &tail, len, limit, printed),
-        Input::TooLong => output::refused(2, printed),
+        Input::TooLong => refused(2, printed),
         Input::Failed => false,
     }
 }
@@ -56,7 +57,7 @@ fn answer(start: &[u8], tail: &[u8], len: usize, limit: u64, printed: &mut usize
         now (printed .exit) ≡ length (printedText limit bs)) ⌝ }
 {
     match intake::sizes(tail, len) {
-        SizesAnswer::Refused(number) => output::refused(number, printed),
+        SizesAnswer::Refused(number) => refused(number, printed),
         SizesAnswer::Sizes { n, m } => reduce(n, m, &start[..len], limit, printed),
     }
 }
@@ -106,7 +107,7 @@ fn reduce_in(
     ensures { λ r. ⌜ (r ≡ true → now (printed .exit) ≡ length (printedText limit (now (book .entry)))) ⌝ }
 {
     match solve(n, m, book, bounds, coefs, rhs, kinds, table, limit) {
-        Answer::Refused(number) => output::refused(number, printed),
+        Answer::Refused(number) => refused(number, printed),
         Answer::Infeasible => output::none(printed),
         Answer::Reduced(made) => output::reduced(n, m, made, bounds, coefs, rhs, table, printed),
     }

@@ -1,37 +1,13 @@
 // Standard output, in few writes. `printed` counts the bytes that were written: so a contract can say that an answer's
 // text is printed once, and whole.
-use libc::STDOUT_FILENO;
 use report::fill;
 use report::line_count;
 use report::write_none;
-use report::write_refused;
+use streams::output::print;
 ghost use mathlib.Core.Bool.{true};
 ghost use mathlib.Core.Path.{_≡_};
-ghost use Prim.Native.Nat.{_+_, _<_};
 ghost use lib.ListN.{length};
-ghost use Rattle.report.specs.Report.{Printable, noneLine, refusedLine, report};
-
-// Whether the whole text was written.
-fn print(text: &[u8], printed: &mut usize) -> bool
-    requires { ⌜ now printed + length (now text) < 18_446_744_073_709_551_616 ⌝ }
-    ensures { λ r. ⌜ (r ≡ true → now (printed .exit) ≡ now (printed .entry) + length (now (text .entry))) ⌝ }
-{
-    if io::write_all(STDOUT_FILENO, text) {
-        *printed = *printed + text.len();
-        return true;
-    }
-    os::fail(b"standard output");
-    false
-}
-
-pub fn refused(number: u32, printed: &mut usize) -> bool
-    requires { ⌜ now printed ≡ 0 ⌝ }
-    ensures { λ r. ⌜ (r ≡ true → now (printed .exit) ≡ length (refusedLine number)) ⌝ }
-{
-    let mut buf = [0u8; 64];
-    let end = write_refused(number, &mut buf, 0);
-    print(&buf[..end], printed)
-}
+ghost use Rattle.report.specs.Report.{Printable, noneLine, report};
 
 pub fn none(printed: &mut usize) -> bool
     requires { ⌜ now printed ≡ 0 ⌝ }
