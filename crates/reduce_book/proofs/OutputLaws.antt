@@ -28,10 +28,11 @@ use Rattle.semantics.specs.TwoRuns.{Demand3, EveryModelHandedIn, HandedIn, Narr
 use Rattle.semantics.proofs.Demand3.{demand-3, handed-in}
 use Rattle.semantics.proofs.Preserved.{run-preserves}
 use Rattle.reduce_book.specs.Meaning.{Implied, NonePrinted, OutputMeans, Reported}
-use Rattle.reduce_book.specs.Output.{output, roundsText, stateRead, textOf, zeros}
+use Rattle.reduce_book.specs.Output.{leftText, outputAs, roundsText, stateRead, textOf, zeros}
+use Rattle.reduce_book.specs.declared.output.Form.the-variants.{Report}
 
 -- the model of an accepted book is handed in
-book-handed-in : (bs : List ℕ) → bookFault bs ≡ 0 → HandedIn (stateRead bs)
+pub book-handed-in : (bs : List ℕ) → bookFault bs ≡ 0 → HandedIn (stateRead bs)
 unfolding stateRead zeros EveryModelHandedIn
 book-handed-in bs e =
     let M = decode bs in
@@ -95,8 +96,8 @@ implication s left h i b =
 
 text-means : (s left : State) (a : RoundsAnswer) → ((number : ℕ) → a ≡ refusedRounds number → ⊥) → SamePoints s left a
     → ((i : ℕ) → i < 4 * (left .model .n * left .model .n) → (implicationAt (left .model .n) (left .table) i ≡ []) ⊎ Implied s left i)
-    → NonePrinted s (textOf a left) ⊎ Reported s (textOf a left)
-unfolding textOf
+    → NonePrinted s (textOf Report a left) ⊎ Reported s (textOf Report a left)
+unfolding textOf leftText
 text-means s left (refusedRounds number) n p l = absurd (n number refl)
 text-means s left (ended infeasible k b) n p l = inl (record { printed = refl; noPoint = p .noPoint k b refl })
 text-means s left (ended nothingChanged k b) n p l =
@@ -113,7 +114,7 @@ not-refused : (limit : ℕ) (s : State) → HandedIn s → (number : ℕ) → ru
 unfolding runRounds roundsFault
 not-refused limit s g number e = subst Refused (sym (rw (g .accepted) at e)) tt
 
-rounds-text : (limit : ℕ) (s : State) → HandedIn s → NonePrinted s (roundsText limit s) ⊎ Reported s (roundsText limit s)
+rounds-text : (limit : ℕ) (s : State) → HandedIn s → NonePrinted s (roundsText Report limit s) ⊎ Reported s (roundsText Report limit s)
 unfolding roundsText Demand3 Narrows run
 rounds-text limit s g =
     let cs = runRounds limit s .calls in
@@ -121,7 +122,7 @@ rounds-text limit s g =
     text-means s (run s cs) (runRounds limit s .answer) (not-refused limit s g) (rounds-mean limit s) (implication s (run s cs) (rw (run-preserves s cs .sizes .0) (d .implied1)))
 
 pub output-means : (limit : ℕ) (bs : List ℕ) → OutputMeans limit bs
-unfolding output
+unfolding outputAs
 output-means limit bs = record {
   refused = λ n. rw (ne-eqb (bookFault bs) 0 n);
   handedIn = book-handed-in bs;
