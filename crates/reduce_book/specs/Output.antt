@@ -1,4 +1,4 @@
--- What `reduce` and `reduce8` print for an input, as a text (01, "Book"): "It prints `refused N`, or `none`, or: `reduced n m rounds`; .."
+-- What the programs print for an input, as a text (01, "Book"): "It prints `refused N`, or `none`, or: `reduced n m rounds`; .."
 -- No kind is printed: a first-edition book has none.
 use Prim.Native.Nat.{_*_, ℕ}
 use lib.Dec.{eqb}
@@ -40,10 +40,11 @@ unfoldable pub roundsText : Form → ℕ → State → List ℕ
 roundsText form limit s = textOf form (runRounds limit s .answer) (run s (runRounds limit s .calls))
 
 -- the whole: refused by the first check of the book that fails, else what its rounds leave. `reduce` prints it with the limit that is
--- none: "It now goes on until a round changes nothing, or None."; "a second program, `reduce8`, still stops at 8 and prints as before"
--- `floor` prints the pages with the limit that is none
+-- none: "It now goes on until a round changes nothing, or None."; "a second program, `reduce8`, still stops at 8 and prints as before".
+-- `floor` has the limit that is none too, and paper.
 unfoldable pub outputAs : Form → ℕ → List ℕ → List ℕ
 outputAs form limit bs = cond (eqb (bookFault bs) 0) (roundsText form limit (stateRead bs)) (refusedLine (bookFault bs))
 
+-- of `reduce` and `reduce8`
 abbrev pub output : ℕ → List ℕ → List ℕ
 output limit bs = outputAs Report limit bs

@@ -1,8 +1,9 @@
-// The programs `reduce` and `reduce8` (01, "Book"; 02, C-20): a book is read on standard input, rounds are made up to a
-// limit, and `refused N`, `none` or what is left of the model is printed. What is printed for an input is `output` of
-// it. No contract can say which bytes are read or written; that the input is kept as it came, that the answer is the one
-// that `output` gives, that its text is written into a buffer and that as many bytes as it has are handed to standard
-// output are proved. A read or a write that fails is told on standard error, and then nothing more is printed.
+// The programs `reduce`, `reduce8` and `floor` (01, "Book"; 02, C-20 and C-23): a book is read on standard input, rounds
+// are made up to a limit, and `refused N`, `none` or what is left of the model, as a report or as pages, is printed. What
+// is printed for an input is `outputAs` of it. No contract can say which bytes are read or written; that the input is
+// kept as it came, that the answer is the one that `outputAs` gives, that its text is written into a buffer and that as
+// many bytes as it has are handed to standard output are proved. A read or a write that fails is told on standard error,
+// and then nothing more is printed; nothing else ends a program before its text is printed whole.
 mod buffers;
 pub mod output;
 mod reduction;
@@ -48,7 +49,7 @@ pub fn program(form: Form, limit: u64, printed: &mut usize) -> bool
 }
 
 // The answer to an input of `len` bytes that ends in `tail`; where it is no longer than `start`, `start`
-// begins with it. A number by which `sizes` refuses the input is the one of its `output` (`head-output`). True
+// begins with it. A number by which `sizes` refuses the input is the one of its text (`head-output`). True
 // where the whole text was printed.
 fn answer(
     start: &[u8],

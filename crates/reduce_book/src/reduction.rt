@@ -34,8 +34,8 @@ fn answer_of(rounds: RoundsAnswer) -> Answer
     }
 }
 
-// Reads the book into the lent buffers and makes at most `limit` rounds there. `meaning`: what `output` of
-// the book means for its points; `valid`: the model and the table that are left pass their checks.
+// Reads the book into the lent buffers and makes at most `limit` rounds there. `meaning`: what the text
+// means for the book's points; `valid`: the model and the table that are left pass their checks.
 pub fn solve(
     n: usize,
     m: usize,
@@ -52,7 +52,7 @@ pub fn solve(
         ⌜ ((form : Form) →
         answerText form r n m (now (bounds .exit)) (now (coefs .exit)) (now (rhs .exit)) (now (table .exit)) ≡
         outputAs form limit (now (book .entry))) ⌝ }
-    ensures meaning { λ r. ⌜ OutputMeans limit (now (book .entry)) ⌝ }
+    ensures meaning { λ r. ⌜ ((form : Form) → OutputMeans form limit (now (book .entry))) ⌝ }
     ensures valid { λ r.
         let A = rowsOf (now (coefs .exit)) (now (rhs .exit)) (now (kinds .exit)) in
         ⌜ Leaves r (stateOf n m (now (bounds .exit)) A (now (table .exit))) ⌝ }

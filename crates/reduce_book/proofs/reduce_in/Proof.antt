@@ -1,4 +1,5 @@
--- `reduce_book::reduce_in`: what is printed is the text of the answer, which is `output` of the book. Assumes nothing.
+-- `reduce_book::reduce_in`: what is printed is the text of the answer, which is that of the book; it can be printed, since it is valid. Assumes
+-- nothing.
 use borrow.Author.Needs.{needs}
 use lib.ListN.{length}
 use mathlib.Core.Path.{_∙_, ap}

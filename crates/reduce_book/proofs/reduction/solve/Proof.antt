@@ -37,7 +37,7 @@ returns : tie.Need-returns
 unfolding answerText sizesAnswer
 returns c =
     let d = c .before .before .before .before .before .before .before .before in
-    ((λ form. refused-output (d .before .before .before .before .before .before .before .before .pre) form _ _ (ap sizesAnswer (sym (c .before .number .given .1)) ∙ d .read .ensures .0)), (output-means _ _, tt))
+    ((λ form. refused-output (d .before .before .before .before .before .before .before .before .pre) form _ _ (ap sizesAnswer (sym (c .before .number .given .1)) ∙ d .read .ensures .0)), ((λ form. output-means form _ _), tt))
 
 enum-told : tie.Need-enum-told
 enum-told c = search needs
@@ -78,7 +78,7 @@ returns-2 c =
           ∙ ap (roundsText form (a .limit)) state
           ∙ sym (accepted-output h _ _ e form (a .limit))),
       (
-        output-means _ _,
+        (λ form. output-means form _ _),
         leaves-valid (c .answer-of .result) (subst ValidState (sym (run .run .ensures .1 .0 ∙ ap (λ s. ran s (runRounds (a .limit) s .calls)) state)) (accepted-valid h _ _ e (a .limit))),
       ),
     )
