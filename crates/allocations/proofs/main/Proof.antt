@@ -1,0 +1,70 @@
+use borrow.Author.Needs.{needs}
+use Rattle.allocations.proofs.main.Statement.{statement}
+use Rattle.allocations.proofs.main.Tie as tie
+use Rattle.allocations.proofs.main.Reads as reads
+use Rattle.allocations.proofs.main.Lts as lts
+use Rattle.allocations.proofs.answer.Reads as answer-reads
+use Rattle.allocations.proofs.buffers.longest_input.Reads as longest-input-reads
+use Rattle.streams.proofs.input.read_all.Reads as read-all-reads
+use Rattle.streams.proofs.output.refused.Reads as refused-reads
+
+longest-input-requires : tie.Need-longest-input-requires
+longest-input-requires c κs = search needs
+
+slice-aggregate-read-all : tie.Need-slice-aggregate-read-all
+slice-aggregate-read-all c = search needs
+
+slice-aggregate-read-all-2 : tie.Need-slice-aggregate-read-all-2
+slice-aggregate-read-all-2 c = search needs
+
+read-all-requires : tie.Need-read-all-requires
+read-all-requires c κs = search needs
+
+enum-known-len : tie.Need-enum-known-len
+enum-known-len c = search needs
+
+slice-aggregate-answer : tie.Need-slice-aggregate-answer
+slice-aggregate-answer c = search needs
+
+slice-aggregate-answer-2 : tie.Need-slice-aggregate-answer-2
+slice-aggregate-answer-2 c = search needs
+
+answer-requires : tie.Need-answer-requires
+answer-requires c κs = ?
+
+enum-told : tie.Need-enum-told
+enum-told c = search needs
+
+refused-requires : tie.Need-refused-requires
+refused-requires c κs = search needs
+
+enum-told-2 : tie.Need-enum-told-2
+enum-told-2 c = search needs
+
+returns : tie.Need-returns
+returns c = search needs
+
+returns-2 : tie.Need-returns-2
+returns-2 c = search needs
+
+returns-3 : tie.Need-returns-3
+returns-3 c = search needs
+
+pub main-spec : {M : Type 1} → statement M
+main-spec =
+    tie.close
+    (tie.spec
+    longest-input-requires
+    slice-aggregate-read-all
+    slice-aggregate-read-all-2
+    read-all-requires
+    enum-known-len
+    slice-aggregate-answer
+    slice-aggregate-answer-2
+    answer-requires
+    enum-told
+    refused-requires
+    enum-told-2
+    returns
+    returns-2
+    returns-3)
