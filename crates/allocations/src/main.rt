@@ -47,7 +47,7 @@ fn main() {
 // The lines of `count` proposals. True where all of them were written.
 fn print_verdicts(verdicts: &[u32], count: usize, printed: &mut usize) -> bool
     requires { ⌜ (count ≤ 64) × (now printed ≡ 0) ⌝ }
-    requires { ⌜ ((f : ℕ → Verdict) × (now verdicts ≡ numbers count f)) ⌝ }
+    requires { ⌜ length (now verdicts) ≡ 2 * count ⌝ }
     ensures { λ r.
         ⌜ ((f : ℕ → Verdict) → now (verdicts .entry) ≡ numbers count f → r ≡ true →
         now (printed .exit) ≡ length (texts count (λ c. verdictLine (f c)))) ⌝ }

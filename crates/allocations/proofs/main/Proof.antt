@@ -1,12 +1,11 @@
+-- `allocations::main`: the buffers hold what `read_all` kept of the input. Assumes nothing.
+use mathlib.Core.Path.{refl, subst}
+use native.Mathlib.Omega.{arith}
+use Rattle.streams.specs.Input.{InputHeld}
+use Rattle.streams.specs.declared.input.Input.{Input}
 use borrow.Author.Needs.{needs}
 use Rattle.allocations.proofs.main.Statement.{statement}
 use Rattle.allocations.proofs.main.Tie as tie
-use Rattle.allocations.proofs.main.Reads as reads
-use Rattle.allocations.proofs.main.Lts as lts
-use Rattle.allocations.proofs.answer.Reads as answer-reads
-use Rattle.allocations.proofs.buffers.longest_input.Reads as longest-input-reads
-use Rattle.streams.proofs.input.read_all.Reads as read-all-reads
-use Rattle.streams.proofs.output.refused.Reads as refused-reads
 
 longest-input-requires : tie.Need-longest-input-requires
 longest-input-requires c κs = search needs
@@ -30,7 +29,14 @@ slice-aggregate-answer-2 : tie.Need-slice-aggregate-answer-2
 slice-aggregate-answer-2 c = search needs
 
 answer-requires : tie.Need-answer-requires
-answer-requires c κs = ?
+answer-requires c κs =
+    let r = c .before .before .before .before .before .before .before .before .read-all in (
+      (
+        omega (arith, r .kept .0),
+        subst (λ (i : Input). InputHeld i (r .last .0) (r .last .1 .0)) (c .before .before .before .before .len .given .1) (r .ensures),
+      ),
+      refl,
+    )
 
 enum-told : tie.Need-enum-told
 enum-told c = search needs

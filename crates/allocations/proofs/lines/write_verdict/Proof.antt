@@ -1,11 +1,12 @@
+-- `allocations::lines::write_verdict`: the first number tells the word (`line-inside`, `line-outside`, `line-breaks`). Assumes nothing.
 use borrow.Author.Needs.{needs}
+use mathlib.Core.Path.{_∙_, sym}
+use native.Mathlib.Omega.{arith}
+use Rattle.text.proofs.TextLaws.{_⨾_}
+use Rattle.allocations.specs.Output.{verdictLine}
+use Rattle.allocations.proofs.OutputLaws.{line-breaks, line-inside, line-outside, wrote-as}
 use Rattle.allocations.proofs.lines.write_verdict.Statement.{statement}
 use Rattle.allocations.proofs.lines.write_verdict.Tie as tie
-use Rattle.allocations.proofs.lines.write_verdict.Reads as reads
-use Rattle.allocations.proofs.lines.write_verdict.Lts as lts
-use Rattle.text.proofs.number.write_byte.Reads as write-byte-reads
-use Rattle.text.proofs.number.write_natural.Reads as write-natural-reads
-use Rattle.text.proofs.number.write_text.Reads as write-text-reads
 
 slice-aggregate-write-text : tie.Need-slice-aggregate-write-text
 slice-aggregate-write-text c = search needs
@@ -20,31 +21,46 @@ same-length : tie.Need-same-length
 same-length c = search needs
 
 returns : tie.Need-returns
-returns c = ?
+unfolding verdictLine
+returns c =
+    let w2 = c .before .before in
+    let w1 = w2 .before .before .before .before in
+    let t = w1 .before .before .before in
+    ((λ v e k. wrote-as (line-inside v (sym (t .if1 .taken) ∙ e)) (w1 .write-text .ensures ⨾ w2 .write-byte .ensures)), omega arith)
 
-slice-aggregate-write-text-2 : tie.Need-slice-aggregate-write-text-2
-slice-aggregate-write-text-2 c = search needs
+slice-aggregate-write-numbered : tie.Need-slice-aggregate-write-numbered
+slice-aggregate-write-numbered c = search needs
 
-write-text-requires-2 : tie.Need-write-text-requires-2
-write-text-requires-2 c κs = search needs
-
-slice-aggregate-write-text-3 : tie.Need-slice-aggregate-write-text-3
-slice-aggregate-write-text-3 c = search needs
-
-write-text-requires-3 : tie.Need-write-text-requires-3
-write-text-requires-3 c κs = search needs
-
-write-natural-requires : tie.Need-write-natural-requires
-write-natural-requires c κs = ?
-
-write-byte-requires-2 : tie.Need-write-byte-requires-2
-write-byte-requires-2 c κs = ?
+write-numbered-requires : tie.Need-write-numbered-requires
+write-numbered-requires c κs = search needs
 
 same-length-2 : tie.Need-same-length-2
-same-length-2 c = ?
+same-length-2 c = search needs
 
 returns-2 : tie.Need-returns-2
-returns-2 c = ?
+unfolding verdictLine
+returns-2 c =
+    let w = c .before .before in
+    let t = w .before .before .before in
+    ((λ v e k. wrote-as (line-outside v _ (sym (t .if2 .taken) ∙ e) k) (w .write-numbered .ensures .0)), w .write-numbered .ensures .1)
+
+slice-aggregate-write-numbered-2 : tie.Need-slice-aggregate-write-numbered-2
+slice-aggregate-write-numbered-2 c = search needs
+
+write-numbered-requires-2 : tie.Need-write-numbered-requires-2
+write-numbered-requires-2 c κs = search needs
+
+same-length-3 : tie.Need-same-length-3
+same-length-3 c = search needs
+
+returns-3 : tie.Need-returns-3
+unfolding verdictLine
+returns-3 c =
+    let w = c .before .before in
+    let t = w .before .before .before in (
+      (λ v e k. wrote-as (line-breaks v _ (λ z. t .before .if1 .left (e ∙ z)) (λ z. t .if2 .left (e ∙ z)) k) (w .write-numbered2 .ensures .0)),
+      w .write-numbered2 .ensures .1,
+    )
 
 pub write-verdict-spec : {M : Type 1} → statement M
 write-verdict-spec =
@@ -55,11 +71,11 @@ write-verdict-spec =
     write-byte-requires
     same-length
     returns
-    slice-aggregate-write-text-2
-    write-text-requires-2
-    slice-aggregate-write-text-3
-    write-text-requires-3
-    write-natural-requires
-    write-byte-requires-2
+    slice-aggregate-write-numbered
+    write-numbered-requires
     same-length-2
-    returns-2)
+    returns-2
+    slice-aggregate-write-numbered-2
+    write-numbered-requires-2
+    same-length-3
+    returns-3)
