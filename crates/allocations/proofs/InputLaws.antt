@@ -3,7 +3,7 @@ use Prim.Native.Nat.{_*_, _+_, _-_, _<_, _≤_, ℕ}
 use borrow.Author.Tests.{eq-eqb, le-leb, lt-leb, ne-eqb}
 use lib.Dec.{T, T-not, eqb, leb}
 use lib.IntN.{ℤ}
-use lib.ListN.{drop, length, length-drop, take}
+use lib.ListN.{drop, length, length-append, length-drop, take}
 use lib.Seq.{length-take-le, take-all, take-at, take-length}
 use mathlib.Core.Bool.{Bool, _&&_, false, not, true}
 use mathlib.Core.List.{List, _++_, _∷_}
@@ -12,7 +12,7 @@ use mathlib.Core.Path.{_∙_, _≡_, ap, ap₂, refl, subst, sym}
 use native.Mathlib.Decide.{ℕ-discrete}
 use native.Mathlib.Omega.{arith}
 use Rattle.integer.specs.Index.{all}
-use Rattle.integer.proofs.IndexLaws.{all-more}
+use Rattle.integer.proofs.IndexLaws.{all-more, all-test}
 use Rattle.integer.proofs.Tests.{and-i, both, eqb-test, leb-test}
 use Rattle.model.specs.Checks.{Check, boxChecks, first, lengthChecks, must, numberChecks, sizeChecks}
 use Rattle.model.specs.Model.{Model, modelOf}
@@ -28,6 +28,7 @@ use Rattle.intake.proofs.CheckLaws.{accepted}
 use Rattle.bytes.specs.Bytes.{integersAt, numberAt}
 use Rattle.bytes.specs.Pieces.{part}
 use Rattle.bytes.proofs.ByteLaws.{length-integersAt}
+use Rattle.bytes.proofs.PieceLaws.{part-left}
 use Rattle.proposals.specs.Call.{allocationChecks, allocationFault, verdictsLeft}
 use Rattle.proposals.specs.Proposals.{maxProposals, numbers, proposal}
 use Rattle.proposals.specs.Verdict.{verdict}
@@ -36,6 +37,7 @@ use Rattle.semantics.specs.Lowest.{lowest}
 use Rattle.semantics.proofs.LowestLaws.{lowest-all, lowest-below, lowest-fails, lowest-is}
 use Rattle.allocations.specs.Answers.{Holdable, Judged, Room, Splits, verdictsOf}
 use Rattle.allocations.specs.Input.{bookEnd, bookOf, countAt, inputChecks, inputFault, maxInput, modelOfInput, noBook, proposalChecks, proposalsAt}
+use Rattle.allocations.specs.Meaning.{BookFound}
 use Rattle.allocations.specs.Output.{inputCount, inputVerdict}
 
 -- ---- where the book ends
@@ -80,6 +82,18 @@ book-whole bs h = take-all (bookEnd bs) bs (omega arith)
 pub not-before : (bs : List ℕ) (p : ℕ) → p < bookEnd bs → first (headChecks (take p bs)) ≡ 0 → ⊥
 unfolding bookEnd
 not-before bs p h e = T-not (noBook bs p) (found bs p e) (lowest-below (noBook bs) (length bs + 1) p h)
+
+pub book-found : BookFound
+unfolding bookOf
+book-found book behind e none =
+    let bs = book ++ behind in
+    let k = length book in
+    let l : length bs ≡ k + length behind = length-append book behind in
+    let whole : take k bs ≡ book = take-at book behind k refl in
+    let before : T (all k (noBook bs)) = all-test k (noBook bs) (λ i. ((λ t. t), (λ t. t))) .1 (λ i h. missed bs i (λ z. none i h
+        (ap (λ (xs : List ℕ). first (headChecks xs)) (sym (part-left 0 i book behind (omega arith))) ∙ z))) in
+    let end = end-here bs k (omega (arith, l)) before (ap (λ (xs : List ℕ). first (headChecks xs)) whole ∙ e) in
+    ap (λ (q : ℕ). take q bs) (sym end) ∙ whole
 
 -- ---- what stands behind it
 
