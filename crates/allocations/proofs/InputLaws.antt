@@ -9,11 +9,11 @@ use mathlib.Core.Bool.{Bool, _&&_, false, not, true}
 use mathlib.Core.List.{List, _++_, _∷_}
 use mathlib.Core.Logic.{inl, inr}
 use mathlib.Core.Path.{_∙_, _≡_, ap, ap₂, refl, subst, sym}
-use native.Mathlib.Decide.{ℕ-discrete}
+use native.Mathlib.Decide.{decLt, ℕ-discrete}
 use native.Mathlib.Omega.{arith}
 use Rattle.integer.specs.Index.{all}
 use Rattle.integer.proofs.IndexLaws.{all-more, all-test}
-use Rattle.integer.proofs.Tests.{and-i, both, eqb-test, leb-test}
+use Rattle.integer.proofs.Tests.{and-i, both, eqb-test, false→T, leb-test, not-or-l, true→T}
 use Rattle.model.specs.Checks.{Check, boxChecks, first, lengthChecks, must, numberChecks, sizeChecks}
 use Rattle.model.specs.Model.{Model, modelOf}
 use Rattle.model.specs.Rows.{Rows, rowsOf}
@@ -28,7 +28,6 @@ use Rattle.intake.proofs.CheckLaws.{accepted}
 use Rattle.bytes.specs.Bytes.{integersAt, numberAt}
 use Rattle.bytes.specs.Pieces.{part}
 use Rattle.bytes.proofs.ByteLaws.{length-integersAt}
-use Rattle.bytes.proofs.PieceLaws.{part-left}
 use Rattle.proposals.specs.Call.{allocationChecks, allocationFault, verdictsLeft}
 use Rattle.proposals.specs.Proposals.{maxProposals, numbers, proposal}
 use Rattle.proposals.specs.Verdict.{verdict}
@@ -36,63 +35,115 @@ use Rattle.proposals.proofs.CallLaws.{count-in, count-out, left-accepted}
 use Rattle.semantics.specs.Lowest.{lowest}
 use Rattle.semantics.proofs.LowestLaws.{lowest-all, lowest-below, lowest-fails, lowest-is}
 use Rattle.allocations.specs.Answers.{Holdable, Judged, Room, Splits, verdictsOf}
-use Rattle.allocations.specs.Input.{bookEnd, bookOf, countAt, inputChecks, inputFault, maxInput, modelOfInput, noBook, proposalChecks, proposalsAt}
+use Rattle.allocations.specs.Input.{bookEnd, bookOf, countAt, firstEnd, inputChecks, inputFault, maxInput, modelOfInput, noBook, noSplit, proposalChecks, proposalsAt, wholeEnd}
 use Rattle.allocations.specs.Meaning.{BookFound}
 use Rattle.allocations.specs.Output.{inputCount, inputVerdict}
 
 -- ---- where the book ends
 
+-- the first place that passes a test of the places of bs
+module _ (bs : List ℕ) (f : ℕ → Bool) (p : ℕ) where
+  pub end-here : p ≤ length bs → T (all p f) → f p ≡ false → p ≡ lowest (length bs + 1) f
+  end-here h t e = sym (lowest-is f (length bs + 1) p (omega arith) t (false→T (f p) e))
+
+  pub end-further : T (all p f) → f p ≡ true → T (all (p + 1) f)
+  end-further t e = rw (all-more f p) (and-i (all p f) (f p) t (true→T (f p) e))
+
+  pub end-nowhere : p ≡ length bs + 1 → T (all p f) → p ≡ lowest (length bs + 1) f
+  end-nowhere e t = e ∙ sym (lowest-all f (length bs + 1) (subst (λ (q : ℕ). T (all q f)) e t))
+
 module _ (bs : List ℕ) (p : ℕ) where
-  found : first (headChecks (take p bs)) ≡ 0 → T (not (noBook bs p))
+  pub book-ends : first (headChecks (take p bs)) ≡ 0 → noBook bs p ≡ false
   unfolding noBook
-  found e = rw e tt
+  book-ends e = rw e
 
-  missed : (first (headChecks (take p bs)) ≡ 0 → ⊥) → T (noBook bs p)
+  pub no-book-ends : (first (headChecks (take p bs)) ≡ 0 → ⊥) → noBook bs p ≡ true
   unfolding noBook
-  missed n = rw (ne-eqb (first (headChecks (take p bs))) 0 n) tt
+  no-book-ends n = rw (ne-eqb (first (headChecks (take p bs))) 0 n)
 
-  pub end-here : p ≤ length bs → T (all p (noBook bs)) → first (headChecks (take p bs)) ≡ 0 → p ≡ bookEnd bs
+  ends-book : T (not (noBook bs p)) → first (headChecks (take p bs)) ≡ 0
+  ends-book t = go (ℕ-discrete (first (headChecks (take p bs))) 0)
+    where
+      go : Dec (first (headChecks (take p bs)) ≡ 0) → first (headChecks (take p bs)) ≡ 0
+      go (yes e) = e
+      go (no n) = absurd (T-not (noBook bs p) t (true→T (noBook bs p) (no-book-ends n)))
+
+  -- whether it splits the input
+  pub splits-not : (first (headChecks (take p bs)) ≡ 0 → ⊥) → false ≡ not (noSplit bs p)
+  unfolding noSplit
+  splits-not n = rw (no-book-ends n)
+
+  pub splits-by : first (headChecks (take p bs)) ≡ 0 → eqb (first (proposalChecks (decode (take p bs) .n) p bs)) 0 ≡ not (noSplit bs p)
+  unfolding noSplit
+  splits-by e = rw (book-ends e) (twice (eqb (first (proposalChecks (decode (take p bs) .n) p bs)) 0))
+    where
+      twice : (b : Bool) → b ≡ not (not b)
+      twice true = refl
+      twice false = refl
+
+  splits : first (headChecks (take p bs)) ≡ 0 → first (proposalChecks (decode (take p bs) .n) p bs) ≡ 0 → noSplit bs p ≡ false
+  unfolding noSplit
+  splits b c = rw (book-ends b, c)
+
+module _ (bs : List ℕ) where
+  pub end-whole : wholeEnd bs ≤ length bs → wholeEnd bs ≡ bookEnd bs
   unfolding bookEnd
-  end-here h t e = sym (lowest-is (noBook bs) (length bs + 1) p (omega arith) t (found e))
+  end-whole h = rw (le-leb (wholeEnd bs) (length bs) h)
 
-  pub end-further : T (all p (noBook bs)) → (first (headChecks (take p bs)) ≡ 0 → ⊥) → T (all (p + 1) (noBook bs))
-  end-further t n = rw (all-more (noBook bs) p) (and-i (all p (noBook bs)) (noBook bs p) t (missed n))
-
-  pub end-nowhere : p ≡ length bs + 1 → T (all p (noBook bs)) → p ≡ bookEnd bs
+  pub end-first : length bs < wholeEnd bs → firstEnd bs ≡ bookEnd bs
   unfolding bookEnd
-  end-nowhere e t = e ∙ sym (lowest-all (noBook bs) (length bs + 1) (subst (λ (q : ℕ). T (all q (noBook bs))) e t))
+  end-first h = rw (lt-leb (wholeEnd bs) (length bs) h)
 
--- the book passes checks 1 to 4 where it ends within the input
-pub book-head : (bs : List ℕ) → bookEnd bs ≤ length bs → first (headChecks (bookOf bs)) ≡ 0
-unfolding bookOf bookEnd noBook
-book-head bs h = go (ℕ-discrete (first (headChecks (take (bookEnd bs) bs))) 0)
-  where
-    go : Dec (first (headChecks (take (bookEnd bs) bs)) ≡ 0) → first (headChecks (take (bookEnd bs) bs)) ≡ 0
-    go (yes e) = e
-    go (no n) =
-        let t : T (not (noBook bs (bookEnd bs))) = lowest-fails (noBook bs) (length bs + 1) (omega arith) in
-        absurd (rw (ne-eqb (first (headChecks (take (bookEnd bs) bs))) 0 n) at t)
+  by-first : firstEnd bs ≤ length bs → first (headChecks (take (firstEnd bs) bs)) ≡ 0
+  unfolding firstEnd
+  by-first l = ends-book bs (firstEnd bs) (lowest-fails (noBook bs) (length bs + 1) (omega arith))
 
--- and where it does not, it is the whole input
-pub book-whole : (bs : List ℕ) → length bs < bookEnd bs → bookOf bs ≡ bs
-unfolding bookOf
-book-whole bs h = take-all (bookEnd bs) bs (omega arith)
+  by-whole : wholeEnd bs ≤ length bs → first (headChecks (take (wholeEnd bs) bs)) ≡ 0
+  unfolding wholeEnd noSplit
+  by-whole l = ends-book bs (wholeEnd bs) (not-or-l (noBook bs (wholeEnd bs)) _ (lowest-fails (noSplit bs) (length bs + 1) (omega arith)))
 
--- no shorter part passes them
-pub not-before : (bs : List ℕ) (p : ℕ) → p < bookEnd bs → first (headChecks (take p bs)) ≡ 0 → ⊥
-unfolding bookEnd
-not-before bs p h e = T-not (noBook bs p) (found bs p e) (lowest-below (noBook bs) (length bs + 1) p h)
+  -- the book passes checks 1 to 4 where it ends within the input
+  pub book-head : bookEnd bs ≤ length bs → first (headChecks (bookOf bs)) ≡ 0
+  unfolding bookOf
+  book-head h = go (decLt (length bs) (wholeEnd bs))
+    where
+      go : Dec (length bs < wholeEnd bs) → first (headChecks (take (bookEnd bs) bs)) ≡ 0
+      go (yes k) = subst (λ (q : ℕ). first (headChecks (take q bs)) ≡ 0) (end-first k) (by-first (omega (arith, end-first k)))
+      go (no k) = subst (λ (q : ℕ). first (headChecks (take q bs)) ≡ 0) (end-whole (omega arith)) (by-whole (omega arith))
+
+  -- and where it does not, it is the whole input, which fails one of them
+  pub book-whole : length bs < bookEnd bs → bookOf bs ≡ bs
+  unfolding bookOf
+  book-whole h = take-all (bookEnd bs) bs (omega arith)
+
+  past-first : length bs < firstEnd bs → first (headChecks bs) ≡ 0 → ⊥
+  unfolding firstEnd
+  past-first l e =
+      T-not (noBook bs (length bs)) (false→T (noBook bs (length bs)) (book-ends bs (length bs) (ap (λ (b : List ℕ). first (headChecks b)) (take-length bs) ∙ e)))
+      (lowest-below (noBook bs) (length bs + 1) (length bs) l)
+
+  pub no-book : length bs < bookEnd bs → first (headChecks bs) ≡ 0 → ⊥
+  no-book h e = go (decLt (length bs) (wholeEnd bs))
+    where
+      go : Dec (length bs < wholeEnd bs) → ⊥
+      go (yes k) = past-first (omega (arith, end-first k)) e
+      go (no k) = let l : wholeEnd bs ≤ length bs = omega arith in let q = end-whole l in omega (arith, q)
+
+  -- a place that splits the input, and no lower one does
+  split-found : (k : ℕ) → k ≤ length bs → T (all k (noSplit bs)) → noSplit bs k ≡ false → k ≡ bookEnd bs
+  unfolding wholeEnd
+  split-found k h t f = let q : k ≡ wholeEnd bs = end-here bs (noSplit bs) k h t f in q ∙ end-whole (omega (arith, q))
 
 pub book-found : BookFound
 unfolding bookOf
-book-found book behind e none =
+book-found book behind e z none =
     let bs = book ++ behind in
     let k = length book in
     let l : length bs ≡ k + length behind = length-append book behind in
     let whole : take k bs ≡ book = take-at book behind k refl in
-    let before : T (all k (noBook bs)) = all-test k (noBook bs) (λ i. ((λ t. t), (λ t. t))) .1 (λ i h. missed bs i (λ z. none i h
-        (ap (λ (xs : List ℕ). first (headChecks xs)) (sym (part-left 0 i book behind (omega arith))) ∙ z))) in
-    let end = end-here bs k (omega (arith, l)) before (ap (λ (xs : List ℕ). first (headChecks xs)) whole ∙ e) in
+    let b = ap (λ (xs : List ℕ). first (headChecks xs)) whole ∙ e in
+    let c = ap (λ (xs : List ℕ). first (proposalChecks (decode xs .n) k bs)) whole ∙ z in
+    let end = split-found bs k (omega (arith, l)) (all-test k (noSplit bs) (λ i. ((λ t. t), (λ t. t))) .1 none) (splits bs k b c) in
     ap (λ (q : ℕ). take q bs) (sym end) ∙ whole
 
 -- ---- what stands behind it
@@ -140,7 +191,7 @@ module _ (bs : List ℕ) (short : length bs ≤ maxInput) where
   unfolding inputFault inputChecks
   refused-head h {k} e =
       let w = book-whole bs h in
-      let n : k ≡ 0 → ⊥ = λ z. not-before bs (length bs) h (ap (λ (b : List ℕ). first (headChecks b)) (take-length bs) ∙ sym e ∙ z) in
+      let n : k ≡ 0 → ⊥ = λ z. no-book bs h (sym e ∙ z) in
       (past _ 2 _ (le-leb (length bs) maxInput short) (stops _ _ (e ∙ ap (λ (b : List ℕ). first (headChecks b)) (sym w)) n), n)
 
   module _ (within : bookEnd bs ≤ length bs) where
@@ -239,6 +290,10 @@ pub end-head : (bs : List ℕ) (e : ℕ) → e ≡ bookEnd bs → e ≤ length b
 unfolding bookOf
 end-head bs e q h =
     subst (λ (p : ℕ). first (headChecks (take p bs)) ≡ 0) (sym q) (book-head bs (subst (λ (p : ℕ). p ≤ length bs) q h))
+
+pub book-variables : (book : List ℕ) → variables (trailerOf book) ≡ decode book .n
+unfolding decode modelIn
+book-variables book = refl
 
 pub end-variables : (bs : List ℕ) (e : ℕ) → e ≡ bookEnd bs → variables (trailerOf (take e bs)) ≡ modelOfInput bs .n
 unfolding modelOfInput bookOf decode modelIn

@@ -1,58 +1,22 @@
--- `allocations::split::book_end`: no place so far ends a book, and the first that does is the lowest (`end-here`). Assumes nothing.
-use Prim.Native.Nat.{_+_, _-_, _≤_}
-use lib.Dec.{T}
-use lib.ListN.{length}
-use lib.Seq.{length-take-le}
-use mathlib.Core.Path.{_∙_, sym}
+-- `allocations::split::book_end`: the first place that splits the input, else the first that ends a book. Assumes nothing.
+use borrow.Author.Needs.{needs}
+use mathlib.Core.Path.{_∙_}
 use native.Mathlib.Omega.{arith}
-use Rattle.integer.specs.Index.{all}
-use Rattle.allocations.specs.Input.{noBook}
-use Rattle.allocations.proofs.InputLaws.{end-further, end-here, end-nowhere}
+use Rattle.allocations.proofs.InputLaws.{end-first, end-whole}
 use Rattle.allocations.proofs.split.book_end.Statement.{statement}
 use Rattle.allocations.proofs.split.book_end.Tie as tie
 
-abbrev Inv-loop : tie.InvT-loop
-Inv-loop input end₀ end = (end ≤ length input + 1) × T (all end (noBook input))
+whole-end-requires : tie.Need-whole-end-requires
+whole-end-requires c κs = search needs
 
-abbrev μ-loop : tie.MeasureT-loop
-μ-loop input end₀ end = length input + 1 - end
+returns : tie.Need-returns
+returns c = c .before .whole-end .ensures ∙ end-whole _ (omega (arith, c .before .whole-end .ensures, c .if1 .taken))
 
-loop-holds : tie.Need-loop-holds Inv-loop μ-loop
-unfolding all
-loop-holds c = (omega arith, tt)
+first-end-requires : tie.Need-first-end-requires
+first-end-requires c κs = search needs
 
-slice-aggregate-head-fault : tie.Need-slice-aggregate-head-fault Inv-loop μ-loop
-slice-aggregate-head-fault c = sym (length-take-le _ _ (omega arith))
-
-head-fault-requires : tie.Need-head-fault-requires Inv-loop μ-loop
-head-fault-requires c κs = tt
-
-returns : tie.Need-returns Inv-loop μ-loop
-returns c = end-here _ _ (omega arith) (c .before .before .before .before .loop .inv .1) (sym (c .before .head-fault .ensures) ∙ c .if1 .taken)
-
-add-end : tie.Need-add-end Inv-loop μ-loop
-add-end c = omega arith
-
-loop-less : tie.Need-loop-less Inv-loop μ-loop
-loop-less c = omega arith
-
-loop-again : tie.Need-loop-again Inv-loop μ-loop
-loop-again c = (omega arith, end-further _ _ (c .before .before .before .before .loop .inv .1) (λ z. c .if1 .left (c .before .head-fault .ensures ∙ z)))
-
-returns-2 : tie.Need-returns-2 Inv-loop μ-loop
-returns-2 c = end-nowhere _ _ (omega arith) (c .before .loop .inv .1)
+returns-2 : tie.Need-returns-2
+returns-2 c = c .first-end .ensures ∙ end-first _ (omega (arith, c .before .before .whole-end .ensures, c .before .if1 .left))
 
 pub book-end-spec : {M : Type 1} → statement M
-book-end-spec =
-    tie.close
-    (tie.spec
-    Inv-loop
-    μ-loop
-    loop-holds
-    slice-aggregate-head-fault
-    head-fault-requires
-    returns
-    add-end
-    loop-less
-    loop-again
-    returns-2)
+book-end-spec = tie.close (tie.spec whole-end-requires returns first-end-requires returns-2)
