@@ -99,7 +99,12 @@ fn judge_at(input: &[u8], end: usize, verdicts: &mut [u32]) -> Answer
 {
     let count = count_behind(input, end);
     let room = 2 * count as usize;
-    let fault = hold(&input[..end], &input[end + 4..], count, &mut verdicts[..room]);
+    let fault = hold(
+        &input[..end],
+        &input[end + 4..],
+        count,
+        &mut verdicts[..room],
+    );
     if fault != 0 {
         return Answer::Refused(fault);
     }

@@ -56,7 +56,7 @@ returns-2 c =
     let b = f .before .before .before .before in
     let bs = b .before .before .before .args .input .now in (
       refused-behind bs (b .before .before .before .pre .0) (omega (arith, b .book-end .ensures, f .before .before .before .if1 .left))
-      (subst (λ (e : ℕ). f .proposals-fault .result ≡ first (proposalChecks (modelOfInput bs .n) e bs)) (b .book-end .ensures) (behind f)) (c .if2 .taken),
+          (subst (λ (e : ℕ). f .proposals-fault .result ≡ first (proposalChecks (modelOfInput bs .n) e bs)) (b .book-end .ensures) (behind f)) (c .if2 .taken),
       c .if2 .taken,
     )
 
