@@ -8,7 +8,8 @@ ghost use mathlib.Core.Path.{_≡_};
 ghost use Prim.Native.Nat.{_≤_};
 ghost use lib.ListN.{length};
 ghost use Rattle.model.specs.Checks.{first};
-ghost use Rattle.allocations.specs.Input.{bookEnd, countAt, firstEnd, maxInput, noSplit, proposalChecks, wholeEnd};
+ghost use Rattle.allocations.specs.Input.{bookEnd, countAt, firstEnd, maxInput, noSplit};
+ghost use Rattle.allocations.specs.Input.{proposalChecks, wholeEnd};
 
 const COUNT: usize = 4;
 
