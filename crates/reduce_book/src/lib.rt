@@ -3,7 +3,7 @@
 // is printed for an input is `outputAs` of it. No contract can say which bytes are read or written; that the input is
 // kept as it came, that the answer is the one that `outputAs` gives, that its text is written into a buffer and that as
 // many bytes as it has are handed to standard output are proved. A read or a write that fails is told on standard error,
-// and then nothing more is printed; nothing else ends a program before its text is printed whole.
+// and then nothing more is printed; the code has no other way to end without its text.
 mod buffers;
 pub mod output;
 mod reduction;
