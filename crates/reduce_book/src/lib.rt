@@ -1,9 +1,9 @@
-// The programs `reduce`, `reduce8` and `floor` (01, "Book"; 02, C-20 and C-23): a book is read on standard input, rounds
-// are made up to a limit, and `refused N`, `none` or what is left of the model, as a report or as pages, is printed. What
-// is printed for an input is `outputAs` of it. No contract can say which bytes are read or written; that the input is
-// kept as it came, that the answer is the one that `outputAs` gives, that its text is written into a buffer and that as
-// many bytes as it has are handed to standard output are proved. A read or a write that fails is told on standard error,
-// and then nothing more is printed; nothing else ends a program before its text is printed whole.
+// The programs `reduce`, `reduce8` and `floor` (01, "Book"; 02, C-20 and C-23): a book is read on standard input,
+// rounds are made up to a limit, and `refused N`, `none` or what is left of the model, as a report or as pages, is
+// printed. What is printed for an input is `outputAs` of it. No contract can say which bytes are read or written; that
+// the input is kept as it came, that the answer is the one that `outputAs` gives, that its text is written into a
+// buffer and that as many bytes as it has are handed to standard output are proved. A read or a write that fails is
+// told on standard error, and then nothing more is printed; the code has no other way to end without its text.
 mod buffers;
 pub mod output;
 mod reduction;
@@ -33,8 +33,8 @@ ghost use Rattle.intake.specs.Intake.{Held};
 ghost use Rattle.reduce_book.specs.Answers.{Printed, Ready, Sized};
 ghost use Rattle.reduce_book.specs.Output.{outputAs as printedText};
 
-// The whole program, with at most `limit` rounds; `reduce` and `floor` have the limit that is none, `reduce8` has 8. True
-// where the whole text was printed.
+// The whole program, with at most `limit` rounds; `reduce` and `floor` have the limit that is none, `reduce8` has 8.
+// True where the whole text was printed.
 pub fn program(form: Form, limit: u64, printed: &mut usize) -> bool
     requires { ⌜ now printed ≡ 0 ⌝ }
     ensures { λ r. ⌜ (r ≡ true → Printed form limit (now (printed .exit))) ⌝ }
