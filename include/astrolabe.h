@@ -20,6 +20,9 @@
  *                                 when literal p implies literal q; the literal
  *                                 "variable k is v" has the number 2k + v.
  *                                 Start it with all 0
+ *     ties     uint16_t   n       the tie list: place j is 0, or 1 plus the number    0 .. 2n
+ *                                 of the literal that holds just when variable j
+ *                                 is 1. Start it with all 0
  *     calls    uint32_t   4 each  call records: kind, row, variable, budget       any
  *     book     uint8_t    16+     a model as a file, see "Books" below
  *     answer   uint64_t   12      the answer; places that a call does not use
@@ -35,14 +38,18 @@
  * same numbers; its negated form is the row of kind 0 with each coefficient and the right-hand side
  * negated. Propagating it propagates the one and then the other.
  *
+ * A TIED VARIABLE (astrolabe_tie) is put into the rows as another one or as 1 minus it, and place j of the tie
+ * list says which. From then on the model is its box, its rows and its ties: an integer point, or a fractional
+ * one, meets the ties too. No other call is lent the list, and no book holds it.
+ *
  * WHAT IS PROMISED, and proved for every input: each call does exactly what the specification
  * (document 01, and 02 where it changes 01) says; the integer points after it are those before it, and
  * no fractional point is added; a call answers INFEASIBLE only where no integer point exists.
  *
  * REFUSALS. Every function returns ASTROLABE_OK (0), or the number of the first check that fails. The
  * order of the checks is that of the numbers but for those that came later: 23 stands straight after 7,
- * 16 and 17 after 9:
- *     1 2 3 4 5 6 7 23 8 9 16 17 10 11 12 13 14 15
+ * 16 and 17 after 9, 21 straight after 10, 18 straight after 11:
+ *     1 2 3 4 5 6 7 23 8 9 16 17 10 21 11 18 12 13 14 15
  * Each function's comment lists the checks that it makes, in its order. On a refusal no lent number
  * changes, the answer's places among them. All that is lent is checked in every call, so a model can be
  * changed freely between calls.
@@ -122,6 +129,7 @@ extern "C" {
 #define ASTROLABE_REFUSED_ROW_KIND 16            /* a kind byte is above 1; made after 9 */
 #define ASTROLABE_REFUSED_EQUALITY_ROW 17        /* an = row is to be written into a book; made straight after 16 */
 #define ASTROLABE_REFUSED_RETIRED_KIND 18        /* kind 4 or 5 of a record of astrolabe_run; made straight after 11 */
+#define ASTROLABE_REFUSED_TIE_PLACE 21           /* a place of the tie list is above 2n; made straight after 10 */
 #define ASTROLABE_REFUSED_VARIABLE_TOO_WIDE 23   /* u - l of a variable is over 4,096; made straight after 7 */
 
 /* ---------------------------------------------------------------------------------------------
@@ -297,6 +305,46 @@ uint32_t astrolabe_remove_redundant_row(size_t n, size_t m,
                                         uint8_t *kinds, size_t kinds_len,
                                         uint32_t row,
                                         uint64_t *answer, size_t answer_len);
+
+/* ---------------------------------------------------------------------------------------------
+ * Tied variables
+ */
+
+/* Cases of astrolabe_tie, answer[0]. */
+#define ASTROLABE_TIE_TIED 1      /* 02's Tied */
+#define ASTROLABE_TIE_UNCHANGED 2 /* 02's Same */
+
+/*
+ * Ties variable `j` to variable `k` where the table says that j always equals k, or always 1 - k: k at 0 gives
+ * j at w, and k at 1 gives j at 1 - w, with w 0 for k and 1 for 1 - k; where it says both, w is 0. That is put
+ * into every row: the coefficient of k becomes a_k + a_j (w = 0), or a_k - a_j with the right-hand side less a_j
+ * (w = 1), and the coefficient of j becomes 0. Place j of the list becomes 1 plus the number of the literal of k
+ * that holds just when j is 1: 2k + 2 (w = 0) or 2k + 1 (w = 1). Kinds, bounds and table stay; j stays free.
+ *
+ * UNCHANGED, and nothing changes: the table does not say so; k is j; k or j is not free binary (so always on the
+ * empty box) or is replaced already (its place is not 0); a coefficient or right-hand side of some row would leave
+ * its limits. A k that others are tied to can be tied itself later: then their places still name it.
+ *
+ * With a table that calls on this model filled from all 0, and the list as they left it, whole values in the box
+ * meet the new rows and ties exactly when they met the old ones. With any other table no point is added, and
+ * some may be lost. Make ties before the branches part, and give each branch its copy of the list.
+ *
+ *     coefs       written   the columns of k and j
+ *     rhs         written   where w is 1
+ *     ties        written   place j
+ *     answer[0]   ASTROLABE_TIE_TIED or _UNCHANGED
+ *
+ * Refused by 3 5 6 7 23 8 9 16 10 21 13 (k, then j), in this order.
+ */
+uint32_t astrolabe_tie(size_t n, size_t m,
+                       const int32_t *bounds, size_t bounds_len,
+                       int32_t *coefs, size_t coefs_len,
+                       int32_t *rhs, size_t rhs_len,
+                       const uint8_t *kinds, size_t kinds_len,
+                       const uint8_t *table, size_t table_len,
+                       uint16_t *ties, size_t ties_len,
+                       uint32_t k, uint32_t j,
+                       uint64_t *answer, size_t answer_len);
 
 /* ---------------------------------------------------------------------------------------------
  * Many calls at once

@@ -58,6 +58,8 @@ const LINES: &[Line] = &[
     line("rest_first_sparse", "rest, a box that the first row narrows", "sparse_first", REST),
     line("rest_quiet_dense", "rest, quiet box", "dense", REST),
     line("rest_quiet_sparse", "rest, quiet box", "sparse", REST),
+    line("tie_dense", "tie two variables", "dense", Operation::Tie { k: 0, j: 1 }),
+    line("tie_sparse", "tie two variables", "sparse", Operation::Tie { k: 0, j: 1 }),
     Line { refusal: 15, ..line("refused_propagate", "propagate, refused by 15", "dense", Operation::Propagate { budget: 0 }) },
     Line { refusal: 15, ..line("refused_probe", "probe, refused by 15", "dense", Operation::Probe { variable: 0, budget: 0 }) },
 ];
@@ -77,7 +79,7 @@ fn main() {
         [folder] => LINES.iter().for_each(|line| println!("{}", described(line, folder))),
         [folder, name, side] => {
             let line = LINES.iter().find(|line| line.name == *name).expect("a call of the list");
-            let mut lent = lent(folder, line.book);
+            let mut lent = lent(folder, line);
             match *side {
                 "plain" => measured(&mut Reference, line.operation, &mut lent),
                 "proved" => measured(&mut Native, line.operation, &mut lent),
@@ -96,7 +98,7 @@ fn measured(side: &mut impl Backend, operation: Operation, lent: &mut Lent) -> u
 
 /// Both sides do the same work, or there is nothing to compare; then the line's parts, divided by tabs.
 fn described(line: &Line, folder: &str) -> String {
-    let (mut left, mut right) = (lent(folder, line.book), lent(folder, line.book));
+    let (mut left, mut right) = (lent(folder, line), lent(folder, line));
     let (n, m) = (left.n, left.m);
     let nonzeros = left.coefs.iter().filter(|&&a| a != 0).count();
     let plain = Reference.call(line.operation, left.lend());
@@ -127,8 +129,10 @@ fn remark(operation: Operation, answer: &[u64], refusal: u32) -> String {
     }
 }
 
-/// The model of a book with an empty table and a call list that probes each variable.
-fn lent(folder: &str, name: &str) -> Lent {
+/// The model of a line's book with an empty table and a call list that probes each variable; for a tie the table
+/// says that j is k.
+fn lent(folder: &str, line: &Line) -> Lent {
+    let name = line.book;
     let path = Path::new(folder).join(name).with_extension("book");
     let book = fs::read(&path).unwrap_or_else(|error| panic!("{}: {error}", path.display()));
     let trailer = &book[book.len() - 16..];
@@ -144,10 +148,15 @@ fn lent(folder: &str, name: &str) -> Lent {
         rhs: vec![0; m],
         kinds: vec![0; m],
         table: vec![0; 4 * n * n],
+        ties: vec![0; n],
         calls: (0..n as u32).flat_map(|k| [KIND_PROBE, 0, k, MAX_BUDGET]).collect(),
         book,
         answer: vec![0; ANSWER],
     };
     assert_eq!(Reference.call(Operation::BookRead, lent.lend()), 0, "{name}");
+    if let Operation::Tie { k, j } = line.operation {
+        let (k, j) = (k as usize, j as usize);
+        [0, 1].iter().for_each(|v| lent.table[(2 * k + v) * 2 * n + 2 * j + v] = 1);
+    }
     lent
 }

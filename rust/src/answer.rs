@@ -1,6 +1,7 @@
 //! What the calls answer, taken from the places of the C interface.
 
 use crate::ffi;
+use crate::ties::Tie;
 
 /// The places of an answer; those that a call does not use are 0.
 pub(crate) type Places = [u64; ffi::ANSWER_LEN];
@@ -171,6 +172,16 @@ impl From<Places> for Rest {
             [0, 0, row] => Rest::NoByRow(count(row)),
             [0, 1, variable] => Rest::NoByVariable(count(variable)),
             _ => no_such_case(places[0]),
+        }
+    }
+}
+
+impl From<Places> for Tie {
+    fn from(places: Places) -> Self {
+        match places[0] {
+            1 => Tie::Tied,
+            2 => Tie::Unchanged,
+            case => no_such_case(case),
         }
     }
 }

@@ -159,6 +159,28 @@ unsafe extern "C" {
         answer_len: usize,
     ) -> u32;
 
+    /// Answer: case (1 tied, 2 unchanged).
+    pub fn astrolabe_tie(
+        n: usize,
+        m: usize,
+        bounds: *const i32,
+        bounds_len: usize,
+        coefs: *mut i32,
+        coefs_len: usize,
+        rhs: *mut i32,
+        rhs_len: usize,
+        kinds: *const u8,
+        kinds_len: usize,
+        table: *const u8,
+        table_len: usize,
+        ties: *mut u16,
+        ties_len: usize,
+        k: u32,
+        j: u32,
+        answer: *mut u64,
+        answer_len: usize,
+    ) -> u32;
+
     /// Answer: total width, a budget that is never spent.
     pub fn astrolabe_plan_width(
         n: usize,

@@ -3,6 +3,7 @@
 use crate::answer::{Counts, Outcome, Places, Probe, Propagation, Rest, Rounds, RowPropagation};
 use crate::ffi;
 use crate::refusal::Refusal;
+use crate::ties::{Tie, Ties};
 
 /// The trailer's length in bytes.
 const TRAILER: usize = 16;
@@ -515,6 +516,44 @@ impl Model {
             self.table.as_mut_ptr(),
             self.table.len(),
             limit
+        )
+    }
+
+    /// Ties variable j to variable k where the implications say that j always equals k, or always 1 − k: puts that
+    /// into every row, so that no row has j any more, and records it in the list. From a table that calls on this
+    /// model filled, and the list as they left it, the integer points that meet the ties too stay exactly what they
+    /// were. The bounds of j stay 0 and 1: [`Ties::expand`] writes its value.
+    ///
+    /// Where they say both, j is taken as k. Unchanged where they say neither, where k is j, where either is not free
+    /// binary or is replaced already, and where a coefficient or right-hand side would leave its limits. Make ties
+    /// before two branches part, and give each branch its copy of the list.
+    ///
+    /// ```
+    /// use astrolabe::{Model, Tie, Ties};
+    ///
+    /// // x + y ≤ 1 and x + y ≥ 1: y is 1 − x. And 2x + 3y + z ≤ 4.
+    /// let coefs = vec![1, 1, 0, -1, -1, 0, 2, 3, 1];
+    /// let mut model = Model::new(vec![0, 1, 0, 1, 0, 1], coefs, vec![1, -1, 4])?;
+    /// let mut ties = Ties::new(3);
+    /// assert_eq!(model.tie(&mut ties, 0, 1)?, Tie::Unchanged); // nothing is said yet
+    /// model.probe(0, 1_000)?;
+    /// assert_eq!(model.tie(&mut ties, 0, 1)?, Tie::Tied);
+    /// assert_eq!((&model.coefs()[6..], model.rhs()), (&[-1, 0, 1][..], &[0, 0, 1][..])); // −x + z ≤ 1
+    /// assert_eq!(ties.literal(1), Some((0, false)));
+    /// # Ok::<(), astrolabe::Refusal>(())
+    /// ```
+    pub fn tie(&mut self, ties: &mut Ties, k: u32, j: u32) -> Result<Tie, Refusal> {
+        call!(
+            self.astrolabe_tie,
+            as_ptr,
+            as_mut_ptr,
+            as_ptr,
+            self.table.as_ptr(),
+            self.table.len(),
+            ties.places.as_mut_ptr(),
+            ties.places.len(),
+            k,
+            j
         )
     }
 }

@@ -7,8 +7,9 @@ use std::fmt;
 ///
 /// The discriminants are the check numbers of the specification and of its requests. The checks are made
 /// in the order of the numbers but for [`Refusal::VariableTooWide`], 23, which comes straight after 7,
-/// [`Refusal::RowKind`] and [`Refusal::EqualityRow`], 16 and 17, which come after 9 and before 10, and
-/// [`Refusal::RetiredKind`], 18, which comes straight after 11:
+/// [`Refusal::RowKind`] and [`Refusal::EqualityRow`], 16 and 17, which come after 9 and before 10,
+/// [`Refusal::TiePlace`], 21, which comes straight after 10, and [`Refusal::RetiredKind`], 18, which comes
+/// straight after 11:
 ///
 /// ```
 /// use astrolabe::{Model, Refusal};
@@ -60,13 +61,15 @@ pub enum Refusal {
     /// by [`Model::tighten_coefficient`](crate::Model::tighten_coefficient) and
     /// [`Model::remove_redundant_row`](crate::Model::remove_redundant_row).
     RetiredKind = 18,
+    /// A place of a tie list is above 2n: it names no literal.
+    TiePlace = 21,
     /// A variable's upper bound is more than 4,096 above its lower. A stored book that is refused by it
     /// has to be retyped: see `docs/INTEGRATION.md`.
     VariableTooWide = 23,
 }
 
 impl Refusal {
-    const ALL: [Refusal; 19] = [
+    const ALL: [Refusal; 20] = [
         Refusal::BookTooShort,
         Refusal::BookLengthMismatch,
         Refusal::SizeOutOfRange,
@@ -85,6 +88,7 @@ impl Refusal {
         Refusal::RowKind,
         Refusal::EqualityRow,
         Refusal::RetiredKind,
+        Refusal::TiePlace,
         Refusal::VariableTooWide,
     ];
 
@@ -126,6 +130,7 @@ impl Refusal {
             Refusal::RowKind => "a kind byte is above 1",
             Refusal::EqualityRow => "a book of the first edition holds no = row",
             Refusal::RetiredKind => "the kind is retired from call lists",
+            Refusal::TiePlace => "a place of the tie list is above 2n",
             Refusal::VariableTooWide => "a variable is over 4096 wide",
         }
     }
@@ -146,7 +151,7 @@ mod tests {
     #[test]
     fn each_number_gives_its_own_refusal() {
         assert_eq!(Refusal::from_returned(0), Ok(()));
-        for number in (1..=17).chain([23]) {
+        for number in (1..=18).chain([21, 23]) {
             assert_eq!(Refusal::from_returned(number).unwrap_err().check(), number);
         }
     }

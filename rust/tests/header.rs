@@ -26,6 +26,7 @@ fn parameter_from_c(text: &str) -> String {
         "const uint32_t *" => "*const u32",
         "uint8_t *" => "*mut u8",
         "const uint8_t *" => "*const u8",
+        "uint16_t *" => "*mut u16",
         "uint64_t *" => "*mut u64",
         other => panic!("{other} is no type of the interface"),
     };
@@ -54,7 +55,7 @@ fn the_header_and_the_rust_declarations_agree() {
     let mut rust = declarations(FFI, "pub fn astrolabe_", ") -> u32;", str::to_string);
     c.sort();
     rust.sort();
-    assert_eq!(c.len(), 14);
+    assert_eq!(c.len(), 15);
     assert_eq!(c, rust);
 }
 
@@ -94,6 +95,7 @@ fn the_header_has_the_limits_and_numbers_of_the_wrapper() {
     assert_eq!(defined("REFUSED_BUDGET"), Refusal::BudgetOutOfRange.check().to_string());
     assert_eq!(defined("REFUSED_ROW_KIND"), Refusal::RowKind.check().to_string());
     assert_eq!(defined("REFUSED_EQUALITY_ROW"), Refusal::EqualityRow.check().to_string());
+    assert_eq!(defined("REFUSED_TIE_PLACE"), Refusal::TiePlace.check().to_string());
     assert_eq!(defined("REFUSED_VARIABLE_TOO_WIDE"), Refusal::VariableTooWide.check().to_string());
     assert_eq!(defined("ROW_KIND_AT_MOST"), (RowKind::AtMost as u8).to_string());
     assert_eq!(defined("ROW_KIND_EQUAL"), (RowKind::Equal as u8).to_string());

@@ -2,8 +2,8 @@
 
 use astrolabe::ffi::ANSWER_LEN;
 use astrolabe::{
-    Call, Model, Outcome, Probe, Propagation, Refusal, Rest, Rounds, Row, RowKind, RowPropagation,
-    Side, plan,
+    Call, CircularTies, Model, Outcome, Probe, Propagation, Refusal, Rest, Rounds, Row, RowKind,
+    RowPropagation, Side, Tie, Ties, plan,
 };
 use compare::lent::{Backend, Lent, Operation, Reference};
 use compare::models::{self, Family};
@@ -77,8 +77,16 @@ fn width(told: plan::Width) -> [u64; 2] {
     [told.width.into(), told.budget.into()]
 }
 
-fn call(model: &mut Model, operation: Operation, list: &[Call]) -> Said {
+fn tie(answer: Tie) -> [u64; 1] {
+    match answer {
+        Tie::Tied => [1],
+        Tie::Unchanged => [2],
+    }
+}
+
+fn call(model: &mut Model, ties: &mut Ties, operation: Operation, list: &[Call]) -> Said {
     match operation {
+        Operation::Tie { k, j } => said(model.tie(ties, k, j), tie),
         Operation::PropagateRow { row } => said(model.propagate_row(row), row_propagation),
         Operation::Propagate { budget } => said(model.propagate(budget), propagation),
         Operation::Probe { variable, budget } => said(model.probe(variable, budget), probe),
@@ -131,7 +139,7 @@ fn methods_say_what_the_calls_say() {
     for _ in 0..3_000 {
         let family = rng.pick(&[Family::Tiny, Family::Binary, Family::Empty]);
         let mut lent = models::model(&mut rng, family).with_table();
-        let mut model = wrapped(&lent);
+        let (mut model, mut ties) = (wrapped(&lent), Ties::new(lent.n));
         for _ in 0..6 {
             let (row, variable) = (rng.index(lent.m + 1) as u32, rng.index(lent.n + 1) as u32);
             let budget = rng.between(0, 20) as u32;
@@ -147,7 +155,7 @@ fn methods_say_what_the_calls_say() {
             let [on_model @ .., _, _, _, _] = Operation::each(row, variable, budget, budget);
             let operation = rng.pick(&on_model);
             assert_eq!(
-                call(&mut model, operation, &list),
+                call(&mut model, &mut ties, operation, &list),
                 expected(&mut lent, operation),
                 "{operation:?}"
             );
@@ -158,6 +166,117 @@ fn methods_say_what_the_calls_say() {
             assert_eq!(model.table(), lent.table);
         }
     }
+}
+
+/// Every list of whole numbers in the box that meets the rows.
+fn integer_points(model: &Model) -> Vec<Vec<i32>> {
+    let mut points = model.bounds().chunks(2).fold(vec![vec![]], |points: Vec<Vec<i32>>, pair| {
+        let longer = |point: &Vec<i32>, x| [&point[..], &[x]].concat();
+        points.iter().flat_map(|p| (pair[0]..=pair[1]).map(move |x| longer(p, x))).collect()
+    });
+    points.retain(|point| {
+        model.rows().all(|row| {
+            let terms = row.coefs.iter().zip(point);
+            let sum: i64 = terms.map(|(&a, &x)| i64::from(a) * i64::from(x)).sum();
+            let b = row.rhs.into();
+            if row.kind == RowKind::Equal { sum == b } else { sum <= b }
+        })
+    });
+    points
+}
+
+#[test]
+fn ties_say_what_the_calls_say_and_solutions_are_read_back() {
+    let mut rng = Rng::new(SEED);
+    let (mut tied, mut chains) = (0, 0);
+    for _ in 0..10_000 {
+        let mut lent = loop {
+            // Probes alone fill the table, and no list is from elsewhere.
+            let lent = models::tied(&mut rng).0.with_table();
+            if lent.bounds.chunks(2).map(|pair| pair[1] - pair[0] + 1).product::<i32>() <= 256 {
+                break lent;
+            }
+        };
+        let (mut model, mut ties) = (wrapped(&lent), Ties::new(lent.n));
+        let points = integer_points(&model);
+        let n = lent.n as u32;
+        let probes = (0..n).map(|variable| Operation::Probe { variable, budget: 1_000 });
+        let mut any = || rng.index(lent.n + 1) as u32;
+        let pairs: Vec<_> = (0..40).map(|_| Operation::Tie { k: any(), j: any() }).collect();
+        for operation in probes.chain(pairs) {
+            assert_eq!(
+                call(&mut model, &mut ties, operation, &[]),
+                expected(&mut lent, operation),
+                "{operation:?}"
+            );
+            assert_eq!((model.coefs(), model.rhs()), (&lent.coefs[..], &lent.rhs[..]));
+            assert_eq!((model.bounds(), model.table()), (&lent.bounds[..], &lent.table[..]));
+            assert_eq!(ties.places(), lent.ties);
+        }
+        let replaced = |j: usize| ties.literal(j).is_some();
+        tied += (0..lent.n).filter(|&j| replaced(j)).count();
+        let chained = |j| ties.literal(j).is_some_and(|(k, _)| replaced(k));
+        chains += (0..lent.n).filter(|&j| chained(j)).count();
+        // A solver gives a replaced variable any value of its bounds; read back, its solutions are the points
+        // of the model that was handed in.
+        let mut read = integer_points(&model);
+        read.iter_mut().for_each(|point| ties.expand(point).expect("no circle"));
+        read.sort();
+        read.dedup();
+        assert_eq!(read, points);
+        assert_eq!(Ties::from_places(ties.places().to_vec()), Ok(ties));
+    }
+    assert!(tied > 500 && chains > 20, "{tied} {chains}");
+}
+
+#[test]
+fn tie_lists_from_elsewhere() {
+    let ties = |places: &[u16]| Ties::from_places(places.to_vec()).unwrap();
+    let expand = |places: &[u16], point: &[i32]| {
+        let mut read = point.to_vec();
+        match ties(places).expand(&mut read) {
+            Ok(()) => Ok(read),
+            Err(CircularTies { variable }) => {
+                assert_eq!(read, point, "nothing is written");
+                Err(variable)
+            }
+        }
+    };
+    // Chains upwards and downwards, with an opposite on the way; what stands in replaced places is not read.
+    assert_eq!(expand(&[0, 2, 3, 6], &[1, 7, 7, 7]), Ok(vec![1, 1, 0, 0]));
+    assert_eq!(expand(&[4, 6, 7, 0], &[7, 7, 7, 0]), Ok(vec![1, 1, 1, 0]));
+    assert_eq!(expand(&[3, 5, 7, 0], &[7, 7, 7, 0]), Ok(vec![1, 0, 1, 0]));
+    // As long as a chain can be.
+    let long: Vec<u16> = (0..128).map(|j| if j == 127 { 0 } else { 2 * (j + 1) + 1 }).collect();
+    let mut point = vec![0; 128];
+    ties(&long).expand(&mut point).unwrap();
+    assert_eq!(point, (0..128).map(|j| (127 - j) % 2).collect::<Vec<i32>>());
+    // A variable that is tied to itself, as its equal or its opposite; a circle of three, and one that leads there.
+    assert_eq!(expand(&[0, 4, 0], &[1, 1, 1]), Err(1));
+    assert_eq!(expand(&[0, 3, 0], &[1, 1, 1]), Err(1));
+    assert_eq!(expand(&[0, 6, 8, 4], &[1, 1, 1, 1]), Err(1));
+    assert_eq!(expand(&[4, 6, 4], &[1, 1, 1]), Err(0));
+    // As the equation says, whatever the value.
+    assert_eq!(expand(&[3, 0], &[0, -5]), Ok(vec![6, -5]));
+    assert_eq!(expand(&[3, 0], &[0, i32::MIN]), Ok(vec![i32::MIN + 1, i32::MIN]));
+    // The list of another model; a place that names no literal.
+    let mut model = Model::new(vec![0, 1, 0, 1], vec![1, 1], vec![1]).unwrap();
+    assert_eq!(model.tie(&mut Ties::new(3), 0, 1), Err(Refusal::BufferLength));
+    assert_eq!(model.tie(&mut ties(&[0, 4]), 0, 2), Err(Refusal::NoSuchVariable));
+    assert_eq!(model.tie(&mut ties(&[0, 4]), 2, 0), Err(Refusal::NoSuchVariable));
+    assert_eq!(model.tie(&mut ties(&[0, 4]), 0, 1), Ok(Tie::Unchanged));
+    assert_eq!(Ties::from_places(vec![0, 5]), Err(Refusal::TiePlace));
+    assert_eq!(Refusal::TiePlace.check(), 21);
+    assert_eq!(
+        Refusal::TiePlace.to_string(),
+        "refused by check 21: a place of the tie list is above 2n"
+    );
+}
+
+#[test]
+#[should_panic(expected = "a value for each variable")]
+fn a_point_has_a_value_for_each_variable() {
+    let _ = Ties::new(3).expand(&mut [0, 1]);
 }
 
 #[test]

@@ -1,2 +1,3 @@
 pub mod ExportLaws
 pub mod BookLaws
+pub mod TieLaws

@@ -19,7 +19,9 @@ use Rattle.semantics.specs.Perform.{perform}
 use Rattle.semantics.specs.Run.{run}
 use Rattle.model.specs.State.{State}
 use Rattle.semantics.specs.Call.{callOf}
-use Rattle.replies.specs.Replies.{Reply, answerLength, bookReply, callReply, listReply, planReply, restReply, returned, roundsReply, written, wrongLength}
+use Rattle.replies.specs.Replies.{Reply, answerLength, bookReply, callReply, listReply, planReply, restReply, returned, roundsReply, tieReply, written, wrongLength}
+use Rattle.ties.specs.TieCall.{performTie, tieCallOf}
+use Rattle.ties.specs.Ties.{TiedState}
 
 -- ---- calls on a model
 
@@ -51,6 +53,10 @@ listExport A s calls = let p = runList s calls in answered A s (listReply (p .an
 
 unfoldable pub roundsExport : List ℕ → State → ℕ → Exported
 roundsExport A s limit = let p = runRounds limit s in answered A s (roundsReply (p .answer)) (run s (p .calls))
+
+-- a tie of k and j: the state without its tie list
+unfoldable pub tieExport : List ℕ → TiedState → ℕ → ℕ → Exported
+tieExport A s k j = let p = performTie s (tieCallOf s k j) in answered A (s .state) (tieReply (p .answer)) (p .state .state)
 
 -- ---- books and plans
 
@@ -89,3 +95,7 @@ readExport A book B rows = bookAnswered A (headChecks book) (bookReply (readCall
 -- a buffer that was `before` and that an accepted reading leaves as `after`
 unfoldable pub lentTo : {X : Type 0} → List ℕ → List X → List X → List X
 lentTo A before after = cond (eqb (length A) answerLength) after before
+
+-- the tie list that a tie of k and j leaves
+unfoldable pub tiesExport : List ℕ → TiedState → ℕ → ℕ → List ℕ
+tiesExport A s k j = lentTo A (s .ties) (performTie s (tieCallOf s k j) .state .ties)

@@ -4,6 +4,7 @@
 pub mod books;
 pub mod calls;
 pub mod plans;
+pub mod tied;
 
 // The length of every answer buffer.
 const ANSWER: usize = 12;

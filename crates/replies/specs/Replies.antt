@@ -16,6 +16,7 @@ use Rattle.semantics.specs.Perform.{Answer, probed, propagated, propagatedRow, 
 use Rattle.semantics.specs.RestTest.{atRest, byRow, byVariable}
 use Rattle.semantics.specs.Probe as probe
 use Rattle.semantics.specs.Propagate as propagate
+use Rattle.ties.specs.TieCall as ties
 use Rattle.replies.specs.declared.reply.Reply as code
 use Rattle.replies.specs.declared.reply.Reply.the-variants as codes
 
@@ -109,6 +110,12 @@ roundsCase rounds.atLimit = 2
 unfoldable pub roundsReply : rounds.RoundsAnswer → Reply
 roundsReply (rounds.refusedRounds number) = refusedBy number
 roundsReply (rounds.ended e made) = says (roundsCase e ∷ made ∷ [])
+
+-- "{1 Tied | 2 Same}"
+unfoldable pub tieReply : ties.TieAnswer → Reply
+tieReply (ties.refused number) = refusedBy number
+tieReply ties.tied = says (1 ∷ [])
+tieReply ties.same = says (2 ∷ [])
 
 -- "{n, m}"; a book that was written has no answer, and its number says all
 unfoldable pub bookReply : books.Answer → Reply

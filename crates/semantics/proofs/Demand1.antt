@@ -108,7 +108,7 @@ lengths-test s c =
       )),
     )
 
-order-test : (B : List ℤ) → T (ordered B) ↔ ((j : ℕ) → 2 * j + 1 < length B → lower B j ≤ℤ upper B j)
+pub order-test : (B : List ℤ) → T (ordered B) ↔ ((j : ℕ) → 2 * j + 1 < length B → lower B j ≤ℤ upper B j)
 unfolding ordered
 order-test B =
     let d = all-test (length B / 2) (λ j. leZ (lower B j) (upper B j)) (λ j. le-test (lower B j) (upper B j)) in
@@ -148,7 +148,7 @@ retired-test k =
 
 -- ---- number by number
 
-also : {A B : Type 0} → A → B → A × B
+pub also : {A B : Type 0} → A → B → A × B
 also a b = (a, b)
 
 passes-test : (N : ℕ) (s : State) (c : Call) → AllPass N (flatChecks (kindOf (c .kind)) s c) ↔ Passes N s c
@@ -213,7 +213,7 @@ listed-test N s c =
 -- of checks that stand in their places, of which number N passes exactly where Pass N
 module _ (checks : List Check) (Pass : ℕ → Type 0) (test : (N : ℕ) → AllPass N checks ↔ Pass N)
     (some : T (numbered checks)) (placed : T (placedFrom 0 checks)) where
-  none-passes : first checks ≡ 0 → (N : ℕ) → Pass N
+  pub none-passes : first checks ≡ 0 → (N : ℕ) → Pass N
   none-passes e N = test N .0 (hold-pass N checks (first-none checks some .0 e))
 
   before-passes : (N : ℕ) → place N < place (first checks) → Pass N
@@ -222,14 +222,14 @@ module _ (checks : List Check) (Pass : ℕ → Type 0) (test : (N : ℕ) → All
   fault-fails : (first checks ≡ 0 → ⊥) → Pass (first checks) → ⊥
   fault-fails n p = first-fails checks n (test (first checks) .1 p)
 
-  all-pass : ((N : ℕ) → Pass N) → first checks ≡ 0
+  pub all-pass : ((N : ℕ) → Pass N) → first checks ≡ 0
   all-pass f = decided (ℕ-discrete (first checks) 0)
     where
       decided : Dec (first checks ≡ 0) → first checks ≡ 0
       decided (yes e) = e
       decided (no n) = absurd (fault-fails n (f (first checks)))
 
-  number-iff : (N : ℕ) → ((first checks ≡ N) × (first checks ≡ 0 → ⊥)) ↔ ((Pass N → ⊥) × ((M : ℕ) → place M < place N → Pass M))
+  pub number-iff : (N : ℕ) → ((first checks ≡ N) × (first checks ≡ 0 → ⊥)) ↔ ((Pass N → ⊥) × ((M : ℕ) → place M < place N → Pass M))
   number-iff N = (
     (λ h. ((λ p. fault-fails (h .1) (rw (h .0) p)), (λ M l. before-passes M (omega (arith, ap place (h .0)))))),
     (λ h. let n : first checks ≡ 0 → ⊥ = (λ e. h .0 (none-passes e N)) in (least h n (decLt (place (first checks)) (place N)) (decLt (place N) (place (first checks))), n)),

@@ -38,11 +38,11 @@ handed-in M e = record {
 
 -- ---- a run of visits, settles and probes narrows the box
 
-unchanged-narrowed : (s : State) → ValidModel (s .model) → NarrowedTo s s
+pub unchanged-narrowed : (s : State) → ValidModel (s .model) → NarrowedTo s s
 unfolding withBox
 unchanged-narrowed s v = record { box = s .model .box; table = s .table; is = refl; narrowed = narrowed-refl s v }
 
-narrowed-trans : {s r u : State} → 0 < s .model .n → NarrowedTo s r → NarrowedTo r u → NarrowedTo s u
+pub narrowed-trans : {s r u : State} → 0 < s .model .n → NarrowedTo s r → NarrowedTo r u → NarrowedTo s u
 unfolding withBox
 narrowed-trans {s} {r} {u} h p q = go (subst (λ (z : State). NarrowedTo z u) (p .is) q)
   where
@@ -62,11 +62,11 @@ narrowed-trans {s} {r} {u} h p q = go (subst (λ (z : State). NarrowedTo z u) (p
       };
     }
 
-step-narrowed : (s : State) (c : Call) → ValidModel (s .model) → (callFault s c ≡ 0 → T (narrows (kindOf (c .kind)))) → NarrowedTo s (step s c)
+pub step-narrowed : (s : State) (c : Call) → ValidModel (s .model) → (callFault s c ≡ 0 → T (narrows (kindOf (c .kind)))) → NarrowedTo s (step s c)
 step-narrowed s c v f =
     step-ind s c (NarrowedTo s) (λ e. act-narrowed (kindOf (c .kind)) s c (f e) (accepted s c e)) (unchanged-narrowed s v)
 
-run-narrowed : (s : State) (cs : List Call) → ValidState s → Narrows s cs → NarrowedTo s (run s cs)
+pub run-narrowed : (s : State) (cs : List Call) → ValidState s → Narrows s cs → NarrowedTo s (run s cs)
 unfolding run Narrows
 run-narrowed s [] v p = unchanged-narrowed s (v .model)
 run-narrowed s (c ∷ cs) v p =
@@ -89,7 +89,7 @@ same-box h a b (inr p) (inr q) =
     inside-antisymm (p .fixpoint .nonEmpty) (q .fixpoint .nonEmpty) (inside-other h a b p) (inside-other h b a q)
 
 -- at rest is judged with the rows of the state, which are those of s
-same-end : {s r u : State} → 0 < s .model .n → NarrowedTo s r → NarrowedTo s u → AtRest r → (r .model .box ≡ u .model .box) ↔ AtRest u
+pub same-end : {s r u : State} → 0 < s .model .n → NarrowedTo s r → NarrowedTo s u → AtRest r → (r .model .box ≡ u .model .box) ↔ AtRest u
 unfolding withBox
 same-end {s} {r} {u} h a b = rw (a .is, b .is) (λ p. (
   (λ e. subst (ProbingFixpoint (s .model .n) (s .model .m) (s .model .rows)) e p),

@@ -12,6 +12,8 @@
 //   FOUR X ..                      the same of four records, 16 numbers in all
 //   PLAN LENGTH X ..               the total width, a budget that is never spent, and of the list of as many
 //                                  numbers the passes at most
+//   KNOT K J LENGTH P ..           ties variable J to variable K on the model itself, with a tie list of as many
+//                                  places: the answer and the list
 //   fixpoint                       writes whether the box is at rest, or what shows that it is not
 //   READ                           reads the book into the buffers of the model
 //   TRAILER                        reads the sizes from the bytes, a trailer alone
@@ -29,6 +31,7 @@ use crate::parts::bytes_part_mut;
 use crate::parts::part_mut;
 use crate::plans;
 use crate::print;
+use crate::tied;
 use crate::transcript;
 use crate::words;
 use crate::words::natural;
@@ -119,6 +122,7 @@ fn answer(
         b'C' => transcript::step(n, m, bounds, coefs, rhs, kinds, table, record(name(line))),
         b'e' => lists::execute(line, n, m, bounds, coefs, rhs, kinds, table),
         b'F' => lists::execute_records(line, n, m, bounds, coefs, rhs, kinds, table),
+        b'K' => tied::knot(line, n, m, bounds, coefs, rhs, kinds, table),
         b'R' | b'T' | b'W' | b'B' | b'S' => {
             book_cases::answer(line, n, m, bounds, coefs, rhs, kinds, table)
         }

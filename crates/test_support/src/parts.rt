@@ -27,6 +27,11 @@ pub fn bytes_part_mut(xs: &mut [u8], len: usize) -> &mut [u8] {
     &mut xs[..k]
 }
 
+pub fn places_part_mut(xs: &mut [u16], len: usize) -> &mut [u16] {
+    let k = lesser(len, xs.len());
+    &mut xs[..k]
+}
+
 pub fn same_numbers(a: &[i32], b: &[i32]) -> bool {
     if a.len() != b.len() {
         return false;

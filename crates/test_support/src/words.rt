@@ -136,6 +136,13 @@ fn byte(x: Word) -> u8 {
     x.magnitude as u8
 }
 
+fn place(x: Word) -> u16 {
+    if 65_535 < x.magnitude {
+        return 65_535;
+    }
+    x.magnitude as u16
+}
+
 // Fills the first `len` numbers with the words of a line from place `at` on, over and over.
 pub fn fill(line: &[u8], at: usize, len: usize, xs: &mut [i32]) {
     let end = lesser(len, xs.len());
@@ -178,6 +185,21 @@ pub fn fill_bytes(line: &[u8], at: usize, len: usize, xs: &mut [u8]) {
         let word = word_at(line, place);
         xs[i] = byte(word);
         place = word.next;
+        i += 1;
+    }
+}
+
+pub fn fill_places(line: &[u8], at: usize, len: usize, xs: &mut [u16]) {
+    let end = lesser(len, xs.len());
+    let mut from = at;
+    let mut i = 0;
+    while i < end {
+        if line.len() <= from {
+            from = at;
+        }
+        let word = word_at(line, from);
+        xs[i] = place(word);
+        from = word.next;
         i += 1;
     }
 }

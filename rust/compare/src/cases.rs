@@ -33,7 +33,8 @@ fn single(lent: Lent, operation: Operation) -> Case {
 pub fn case(seed: u64, number: u64) -> Case {
     let mut rng = Rng::for_case(seed, number);
     match number % 10 {
-        0..5 => session(&mut rng),
+        0..4 => session(&mut rng),
+        4 => tied(&mut rng),
         5 => book(&mut rng),
         6 => around_the_widest(&mut rng),
         _ => damaged(&mut rng),
@@ -61,6 +62,32 @@ fn session(rng: &mut Rng) -> Case {
     Case { lent, steps, returns: None }
 }
 
+/// Ties and what leads to them: probes, which fill the table, and ties of any two variables.
+fn tied(rng: &mut Rng) -> Case {
+    let (mut lent, pairs) = models::tied(rng);
+    lent.calls = call_list(rng, &lent);
+    if rng.chance(5) {
+        lent.bounds = [1, 0].repeat(lent.n);
+    }
+    // A table from elsewhere says something already.
+    let said = lent.table.contains(&1);
+    let probes = if rng.chance(if said { 20 } else { 95 }) { lent.n as u32 } else { 0 };
+    let probed = (0..probes).map(|variable| Operation::Probe { variable, budget: 1_000 });
+    let mut operations: Vec<Operation> = probed.collect();
+    for _ in 0..rng.between(3, 12) {
+        operations.push(match rng.between(0, 9) {
+            0 => operation(rng, &lent),
+            1..6 => Operation::Tie { k: variable(rng, &lent), j: variable(rng, &lent) },
+            _ => {
+                let [k, j] = rng.pick(&pairs);
+                Operation::Tie { k, j }
+            }
+        });
+    }
+    let steps = operations.into_iter().map(|operation| Step { afresh: false, operation }).collect();
+    Case { lent, steps, returns: None }
+}
+
 /// The work of carrying propagation to its end where every pass moves one bound by one.
 fn longest_crawl(lent: &Lent) -> i64 {
     let width: i64 = lent.bounds.chunks(2).map(|pair| i64::from(pair[1] - pair[0]).max(0)).sum();
@@ -74,7 +101,7 @@ const LONGEST: i64 = 20_000_000;
 fn operation(rng: &mut Rng, lent: &Lent) -> Operation {
     let crawls_long = longest_crawl(lent) > LONGEST;
     let largest = lent.n * lent.m > 5_000;
-    let (row, variable) = (row(rng, lent), variable(rng, lent));
+    let (row, other, variable) = (row(rng, lent), variable(rng, lent), variable(rng, lent));
     let budget = if crawls_long { budget(rng).min(1_000) } else { budget(rng) };
     match rng.between(0, 16) {
         0..3 => Operation::PropagateRow { row },
@@ -86,6 +113,7 @@ fn operation(rng: &mut Rng, lent: &Lent) -> Operation {
         13 if largest => Operation::Rounds { limit: rng.pick(&[0, 1]) },
         13 => Operation::Rounds { limit: rng.pick(&[0, 1, 2, 3, 8, 100]) },
         14 => rng.pick(&[Operation::PlanWidth, Operation::PlanRun]),
+        15 => Operation::Tie { k: variable, j: other },
         _ => Operation::Run,
     }
 }
@@ -208,6 +236,9 @@ fn damaged(rng: &mut Rng) -> Case {
     };
     let (row, variable, budget) = (rng.index(lent.m) as u32, 0, rng.pick(&[1, MAX_BUDGET]));
     let mut operation = rng.pick(&Operation::each(row, variable, budget, 1));
+    if let Operation::Tie { j, .. } = &mut operation {
+        *j = rng.index(lent.n) as u32;
+    }
     lent.calls = call_list(rng, &lent);
     match operation {
         Operation::BookTrailer | Operation::PlanLengths => trailer_only(&mut lent),

@@ -6,6 +6,7 @@ use std::fmt;
 use reference::bounds;
 use reference::plan;
 use reference::row::{self, AT_MOST, EQUAL, Outcome, RowPropagation, Rows};
+use reference::ties::{Reason, Tied};
 
 use crate::damage;
 use crate::lent::{Lent, Operation};
@@ -19,7 +20,7 @@ pub struct Coverage {
     pub most_passes: u64,
     /// The most bounds that one propagation moved.
     pub most_moved: u64,
-    /// Which of [`MOVES`], [`EQUALITIES`], [`UNREST`], [`PLANS`] and [`RETIRED`] were met.
+    /// Which of [`MOVES`], [`EQUALITIES`], [`UNREST`], [`PLANS`], [`RETIRED`] and [`TIES`] were met.
     pub met: BTreeSet<&'static str>,
 }
 
@@ -65,7 +66,81 @@ const RETIRED: [&str; 3] = [
     "a call list with a retired kind on the empty box",
 ];
 
+/// The same of ties (02, C-19): those made, and for each reason one that is not made for it alone.
+const TIES: [&str; 17] = [
+    "a tie that keeps each of several points",
+    "a tie that loses a point, by a table from elsewhere",
+    "a tie of a variable and its equal",
+    "a tie of a variable and its opposite",
+    "a tie where the table says both values",
+    "a tie of a variable that another one is tied to",
+    "a tie that changes a right side of an equality row",
+    "no tie: the table says half of it",
+    "no tie: the table says nothing of it",
+    "no tie: k is j",
+    "no tie: a coefficient would leave its limits",
+    "no tie: a right side would leave its limits",
+    "no tie: k is not free",
+    "no tie: j is not free",
+    "no tie: k is replaced",
+    "no tie: j is replaced",
+    "no tie: the box is empty",
+];
+
 impl Coverage {
+    /// Notes how many points of a small model a tie kept and lost.
+    pub fn tied(&mut self, kept: usize, lost: usize) {
+        self.met(TIES[0], kept > 1 && lost == 0);
+        self.met(TIES[1], lost > 0);
+    }
+
+    /// What an accepted tie of k and j met.
+    fn note_tie(&mut self, before: &Lent, after: &Lent, k: usize, j: usize) {
+        let [_, _, equal, opposite, both, chain, equality, no @ ..] = TIES;
+        let byte = |v, w| before.table[(2 * k + v) * 2 * before.n + 2 * j + w] == 1;
+        let mut copy = before.clone();
+        let tied = Tied {
+            n: before.n,
+            bounds: &before.bounds,
+            coefs: &mut copy.coefs,
+            rhs: &mut copy.rhs,
+            table: &before.table,
+            ties: &mut copy.ties,
+        };
+        let Err(reasons) = tied.reasons(k, j) else {
+            let place = after.ties[j];
+            self.met(equal, place.is_multiple_of(2));
+            self.met(opposite, place % 2 == 1);
+            self.met(both, byte(0, 0) && byte(1, 1) && byte(0, 1) && byte(1, 0));
+            self.met(chain, before.ties.iter().any(|&p| p > 0 && usize::from(p - 1) / 2 == j));
+            let moved = |r: usize| before.kinds[r] == EQUAL && before.rhs[r] != after.rhs[r];
+            self.met(equality, (0..before.m).any(moved));
+            return;
+        };
+        let [half, nothing, one, coefficient, rhs, k_free, j_free, k_tied, j_tied, empty] = no;
+        let free = |variable| bounds::is_free(&before.bounds, variable);
+        let said = [byte(0, 0), byte(0, 1), byte(1, 0), byte(1, 1)];
+        self.met(empty, bounds::is_empty(&before.bounds) && reasons == [Reason::NotFree]);
+        match reasons[..] {
+            [Reason::NotSaid] => {
+                self.met(half, said.contains(&true));
+                self.met(nothing, !said.contains(&true));
+            }
+            [Reason::OneVariable] => self.met(one, true),
+            [Reason::Coefficient] => self.met(coefficient, true),
+            [Reason::RightSide] => self.met(rhs, true),
+            [Reason::NotFree] => {
+                self.met(k_free, free(j));
+                self.met(j_free, free(k));
+            }
+            [Reason::Replaced] => {
+                self.met(k_tied, before.ties[j] == 0);
+                self.met(j_tied, before.ties[k] == 0);
+            }
+            _ => {}
+        }
+    }
+
     /// Notes how many passes a list made that was lent `before`, and their limit.
     pub fn planned(&mut self, before: &Lent, made: u64, limit: u64) {
         let [reached, below, on_empty, _] = PLANS;
@@ -98,6 +173,9 @@ impl Coverage {
         self.note_equalities(operation, before, after);
         if operation == Operation::IsProbingFixpoint {
             self.note_unrest(before, answer);
+        }
+        if let Operation::Tie { k, j } = operation {
+            self.note_tie(before, after, k as usize, j as usize);
         }
         let [several, again, before_infeasible, side_before_infeasible] = MOVES;
         match answer[..] {
@@ -205,9 +283,10 @@ impl Coverage {
     }
 
     /// What a long enough run must have met and has not: each check of each call, each case of each
-    /// answer, and each of [`MOVES`], [`EQUALITIES`], [`UNREST`], [`PLANS`] and [`RETIRED`].
+    /// answer, and each of [`MOVES`], [`EQUALITIES`], [`UNREST`], [`PLANS`], [`RETIRED`] and [`TIES`].
     pub fn missing(&self) -> Vec<String> {
         let (row, variable, budget, limit) = (0, 0, 0, 0);
+        let tie = Operation::Tie { k: variable, j: variable };
         let all = [
             (Operation::PropagateRow { row }, 3),
             (Operation::Propagate { budget }, 3),
@@ -217,6 +296,7 @@ impl Coverage {
             (Operation::IsProbingFixpoint, 2),
             (Operation::Run, 1),
             (Operation::Rounds { limit }, 3),
+            (tie, 0), // its cases are among TIES
             (Operation::PlanWidth, 1),
             (Operation::PlanRun, 1),
             (Operation::PlanLengths, 1),
@@ -224,7 +304,7 @@ impl Coverage {
             (Operation::BookRead, 1),
             (Operation::BookWrite, 1),
         ];
-        let mut missing: Vec<String> = [&MOVES[..], &EQUALITIES, &UNREST, &PLANS, &RETIRED]
+        let mut missing: Vec<String> = [&MOVES[..], &EQUALITIES, &UNREST, &PLANS, &RETIRED, &TIES]
             .concat()
             .into_iter()
             .filter(|what| !self.met.contains(what))

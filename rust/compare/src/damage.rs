@@ -19,6 +19,7 @@ pub fn checks(operation: Operation) -> &'static [u32] {
         Operation::IsProbingFixpoint => &[3, 5, 6, 7, 23, 8, 9, 16],
         Operation::BookWrite => &[3, 5, 6, 7, 23, 8, 9, 16, 17],
         Operation::Run | Operation::Rounds { .. } => &[3, 5, 6, 7, 23, 8, 9, 16, 10],
+        Operation::Tie { .. } => &[3, 5, 6, 7, 23, 8, 9, 16, 10, 21, 13],
         Operation::PlanWidth | Operation::PlanRun => &[3, 5, 6, 7, 23],
         Operation::BookTrailer | Operation::PlanLengths => &[1, 5, 3, 4],
         Operation::BookRead => &[1, 2, 3, 4, 5, 6, 7, 23, 8, 9],
@@ -56,6 +57,10 @@ fn damage_one(rng: &mut Rng, operation: &mut Operation, lent: &mut Lent, check: 
         16 => *any(rng, &mut lent.kinds) = rng.pick(&[2, 3, 128, 255]),
         17 => *any(rng, &mut lent.kinds) = EQUAL,
         10 => *any(rng, &mut lent.table) = rng.pick(&[2, 3, 128, 255]),
+        21 => {
+            let most = 2 * lent.n as u16;
+            *any(rng, &mut lent.ties) = rng.pick(&[most + 1, most + 1, most + 2, u16::MAX]);
+        }
         _ => wrong_argument(rng, operation, lent, check),
     }
 }
@@ -123,6 +128,7 @@ fn wrong_size(rng: &mut Rng, operation: Operation, lent: &mut Lent) {
         lent.rhs.resize(lent.m, 0);
         lent.kinds.resize(lent.m, 0);
         lent.table.resize(4 * lent.n * lent.n, 0);
+        lent.ties.resize(lent.n, 0);
     }
 }
 
@@ -155,6 +161,7 @@ fn wrong_length(rng: &mut Rng, operation: Operation, lent: &mut Lent) {
     let others: &[&str] = match operation {
         Operation::Probe { .. } | Operation::Rounds { .. } => &["answer", "table"],
         Operation::Run => &["answer", "table", "calls"],
+        Operation::Tie { .. } => &["answer", "table", "ties"],
         Operation::PlanWidth => &["answer", "bounds"],
         Operation::PlanRun => &["answer", "bounds", "calls"],
         Operation::BookTrailer | Operation::PlanLengths => &["answer", "trailer"],
@@ -172,6 +179,7 @@ fn wrong_length(rng: &mut Rng, operation: Operation, lent: &mut Lent) {
         "rhs" => resize(rng, &mut lent.rhs),
         "kinds" => resize(rng, &mut lent.kinds),
         "table" => resize(rng, &mut lent.table),
+        "ties" => resize(rng, &mut lent.ties),
         "answer" if rng.chance(20) => lent.answer.truncate(6), // its length before C-11
         "answer" => resize(rng, &mut lent.answer),
         "book" => resize(rng, &mut lent.book),
@@ -249,6 +257,15 @@ fn wrong_argument(rng: &mut Rng, operation: &mut Operation, lent: &mut Lent, che
             Operation::Probe { variable, .. } | Operation::TightenCoefficient { variable, .. },
         ) => {
             *variable = rng.pick(&[n, n, n + 1, u32::MAX]);
+        }
+        (13, Operation::Tie { k, j }) => {
+            // Of k, of j or of both.
+            let beyond = rng.pick(&[n, n, n + 1, u32::MAX]);
+            match rng.between(0, 2) {
+                0 => *k = beyond,
+                1 => *j = beyond,
+                _ => (*k, *j) = (beyond, beyond),
+            }
         }
         (
             14,

@@ -1,4 +1,4 @@
-//! What a call can be lent, the fourteen calls, and the trait of an implementation of them.
+//! What a call can be lent, the fifteen calls, and the trait of an implementation of them.
 
 use reference::calls;
 
@@ -12,6 +12,8 @@ pub struct Lent {
     pub rhs: Vec<i32>,
     pub kinds: Vec<u8>,
     pub table: Vec<u8>,
+    /// A place for each variable (02, C-19).
+    pub ties: Vec<u16>,
     /// Four numbers a record.
     pub calls: Vec<u32>,
     /// A book, or the bytes of a trailer.
@@ -28,6 +30,7 @@ pub struct Loan<'a> {
     pub rhs: &'a mut [i32],
     pub kinds: &'a mut [u8],
     pub table: &'a mut [u8],
+    pub ties: &'a mut [u16],
     pub calls: &'a mut [u32],
     pub book: &'a mut [u8],
     pub answer: &'a mut [u64],
@@ -42,6 +45,7 @@ impl Lent {
         self.rhs.clone_from(&to.rhs);
         self.kinds.clone_from(&to.kinds);
         self.table.clone_from(&to.table);
+        self.ties.clone_from(&to.ties);
         self.calls.clone_from(&to.calls);
         self.book.clone_from(&to.book);
         self.answer.clone_from(&to.answer);
@@ -56,6 +60,7 @@ impl Lent {
             rhs: &mut self.rhs,
             kinds: &mut self.kinds,
             table: &mut self.table,
+            ties: &mut self.ties,
             calls: &mut self.calls,
             book: &mut self.book,
             answer: &mut self.answer,
@@ -63,7 +68,7 @@ impl Lent {
     }
 }
 
-/// One of the fourteen calls, with its numbers.
+/// One of the fifteen calls, with its numbers.
 #[derive(Clone, Copy, Debug, PartialEq, Eq)]
 pub enum Operation {
     PropagateRow { row: u32 },
@@ -74,6 +79,7 @@ pub enum Operation {
     IsProbingFixpoint,
     Run,
     Rounds { limit: u32 },
+    Tie { k: u32, j: u32 },
     PlanWidth,
     PlanRun,
     PlanLengths,
@@ -83,9 +89,9 @@ pub enum Operation {
 }
 
 impl Operation {
-    /// Each of the fourteen with these numbers, where it has them: first the eight on a model, then the three
+    /// Each of the fifteen with these numbers, where it has them: first the nine on a model, then the three
     /// that tell beforehand, and the three on books.
-    pub fn each(row: u32, variable: u32, budget: u32, limit: u32) -> [Operation; 14] {
+    pub fn each(row: u32, variable: u32, budget: u32, limit: u32) -> [Operation; 15] {
         [
             Operation::PropagateRow { row },
             Operation::Propagate { budget },
@@ -95,6 +101,7 @@ impl Operation {
             Operation::IsProbingFixpoint,
             Operation::Run,
             Operation::Rounds { limit },
+            Operation::Tie { k: variable, j: variable },
             Operation::PlanWidth,
             Operation::PlanRun,
             Operation::PlanLengths,
@@ -115,6 +122,7 @@ impl Operation {
             Operation::IsProbingFixpoint => "is_probing_fixpoint",
             Operation::Run => "run",
             Operation::Rounds { .. } => "rounds",
+            Operation::Tie { .. } => "tie",
             Operation::PlanWidth => "plan_width",
             Operation::PlanRun => "plan_run",
             Operation::PlanLengths => "plan_lengths",
@@ -125,7 +133,7 @@ impl Operation {
     }
 }
 
-/// An implementation of the fourteen calls.
+/// An implementation of the fifteen calls.
 pub trait Backend {
     /// Makes the call; 0, or the number of the failed check.
     fn call(&mut self, operation: Operation, loan: Loan) -> u32;
@@ -136,7 +144,7 @@ pub struct Reference;
 
 impl Backend for Reference {
     fn call(&mut self, operation: Operation, loan: Loan) -> u32 {
-        let Loan { n, m, bounds, coefs, rhs, kinds, table, calls, book, answer } = loan;
+        let Loan { n, m, bounds, coefs, rhs, kinds, table, ties, calls, book, answer } = loan;
         match operation {
             Operation::PropagateRow { row } => {
                 calls::propagate_row(n, m, bounds, coefs, rhs, kinds, row, answer)
@@ -159,6 +167,9 @@ impl Backend for Reference {
             Operation::Run => calls::run(n, m, bounds, coefs, rhs, kinds, table, calls, answer),
             Operation::Rounds { limit } => {
                 calls::rounds(n, m, bounds, coefs, rhs, kinds, table, limit, answer)
+            }
+            Operation::Tie { k, j } => {
+                calls::tie(n, m, bounds, coefs, rhs, kinds, table, ties, k, j, answer)
             }
             Operation::PlanWidth => calls::plan_width(n, bounds, answer),
             Operation::PlanRun => calls::plan_run(n, bounds, calls, answer),

@@ -7,11 +7,12 @@
 //!
 //! | module | what |
 //! |---|---|
-//! | [`lent`] | what a call can be lent, the fourteen calls, and the trait of an implementation |
+//! | [`lent`] | what a call can be lent, the fifteen calls, and the trait of an implementation |
 //! | [`models`] | families of accepted models: tiny and largest, dense and sparse, crawling, at the limits |
 //! | [`damage`] | makes a call fail a chosen check at its boundary |
 //! | [`cases`] | a case: a model, its calls, or one call that is refused |
 //! | [`suite`] | the comparison |
+//! | [`points`] | the integer points of a small model, before and after a tie |
 //! | [`coverage`] | what the cases met |
 
 pub mod cases;
@@ -19,5 +20,6 @@ pub mod coverage;
 pub mod damage;
 pub mod lent;
 pub mod models;
+pub mod points;
 pub mod rng;
 pub mod suite;

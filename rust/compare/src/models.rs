@@ -75,6 +75,7 @@ pub fn model(rng: &mut Rng, family: Family) -> Lent {
         }
     };
     lent.table = table(rng, lent.n);
+    lent.ties = vec![0; lent.n];
     lent.answer = vec![0; ANSWER];
     lent
 }
@@ -121,6 +122,7 @@ pub fn around_the_widest(rng: &mut Rng) -> Lent {
     }
     let mut lent = rows(rng, bounds, m, 75, 4);
     lent.table = table(rng, n);
+    lent.ties = vec![0; n];
     lent.answer = vec![0; ANSWER];
     lent
 }
@@ -248,6 +250,62 @@ fn least_rhs(rng: &mut Rng) -> Lent {
     }
 }
 
+/// Two to six variables, most of them free binary, some pairs of which are equal or opposite (02, C-19). With a
+/// table all 0, for probes to fill, or one from elsewhere that says ties; now and then with a tie list from
+/// elsewhere. The pairs stand beside it.
+pub fn tied(rng: &mut Rng) -> (Lent, Vec<[u32; 2]>) {
+    let (n, m) = (rng.between(2, 6) as usize, rng.between(0, 3) as usize);
+    let coef = rng.pick(&[1, 4, MAX_COEF]);
+    let bounds = mixed_box(rng, n, 97);
+    let mut lent = rows(rng, bounds, m, 75, coef);
+    if m > 0 && rng.chance(20) {
+        lent.rhs[rng.index(m)] = rng.pick(&[-MAX_RHS, MAX_RHS, MAX_RHS, MAX_RHS]);
+    }
+    lent = lent.with_table();
+    let foreign = rng.chance(50);
+    let mut pairs = vec![];
+    for _ in 0..rng.between(1, 4) {
+        let (k, j, w) = (rng.index(n), rng.index(n), rng.index(2));
+        pairs.extend([[k, j], [j, k]].map(|pair| pair.map(|variable| variable as u32)));
+        if foreign {
+            say(rng, &mut lent, k, j, w);
+        } else {
+            link(rng, &mut lent, k, j, w as i32);
+        }
+    }
+    if rng.chance(15) {
+        let most = 2 * n as i64;
+        lent.ties.fill_with(|| if rng.chance(25) { rng.between(0, most) as u16 } else { 0 });
+    }
+    (lent, pairs)
+}
+
+/// Records that j is k (w = 0) or 1 − k (w = 1): both, or at times a half of it or the other value too.
+fn say(rng: &mut Rng, lent: &mut Lent, k: usize, j: usize, w: usize) {
+    let half = rng.chance(20).then(|| rng.index(2));
+    let values = if rng.chance(20) { vec![0, 1] } else { vec![w] };
+    for w in values {
+        for v in (0..2).filter(|&v| half != Some(v)) {
+            lent.table[(2 * k + v) * 2 * lent.n + 2 * j + (v ^ w)] = 1;
+        }
+    }
+}
+
+/// Rows by which j is k (w = 0) or 1 − k (w = 1): one = row or two ≤ rows.
+fn link(rng: &mut Rng, lent: &mut Lent, k: usize, j: usize, w: i32) {
+    let mut row = vec![0; lent.n];
+    row[k] = 1;
+    row[j] += 2 * w - 1;
+    let negated = row.iter().map(|a| -a).collect();
+    let equal = rng.chance(50);
+    for (row, b) in [(row, w), (negated, -w)].into_iter().take(if equal { 1 } else { 2 }) {
+        lent.coefs.extend(row);
+        lent.rhs.push(b);
+        lent.kinds.push(if equal { EQUAL } else { AT_MOST });
+        lent.m += 1;
+    }
+}
+
 /// How far most crawls go, in passes: more would only repeat the same step.
 const CRAWL: i64 = 1_500;
 
@@ -346,9 +404,10 @@ pub fn sized(rng: &mut Rng, n: usize, m: usize, density: i64, equal: i64) -> Len
 }
 
 impl Lent {
-    /// The same model with a table all 0 and room for an answer.
+    /// The same model with a table all 0, no tie, and room for an answer.
     pub fn with_table(mut self) -> Self {
         self.table = vec![0; 4 * self.n * self.n];
+        self.ties = vec![0; self.n];
         self.answer = vec![0; ANSWER];
         self
     }

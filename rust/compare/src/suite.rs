@@ -8,6 +8,7 @@ use reference::plan;
 use crate::cases::{self, Case, Step};
 use crate::coverage::Coverage;
 use crate::lent::{Backend, Lent, Loan, Operation};
+use crate::points::{implications_hold, points};
 
 /// The default seed.
 pub const SEED: u64 = 20_240_917;
@@ -80,6 +81,10 @@ pub fn play(
                 let (made, limit) = check_passes(&before, &lent, expected, actual)?;
                 coverage.planned(&before, made, limit);
             }
+            if matches!(operation, Operation::Tie { .. }) {
+                let (kept, lost) = check_tie(&before, &lent);
+                coverage.tied(kept, lost);
+            }
         }
         coverage.note(operation, &before, said, &lent);
     }
@@ -126,6 +131,22 @@ fn check_not_spent(operation: Operation, before: &[i32], answer: &[u64]) {
     {
         assert_ne!(answer[0], 2, "{operation:?} was spent: {before:?}");
     }
+}
+
+/// What a tie promises of the points of a small model, whatever the two sides agree on (02, C-19): none is
+/// added, and none is lost at which every recorded implication holds. How many were kept and lost.
+fn check_tie(before: &Lent, after: &Lent) -> (usize, usize) {
+    if after.answer[0] == 2 {
+        let same = Lent { answer: after.answer.clone(), ..before.clone() };
+        assert!(same == *after, "nothing changes where no tie is made: {before:?}");
+        return (0, 0);
+    }
+    let (Some(old), Some(new)) = (points(before), points(after)) else { return (0, 0) };
+    assert!(new.iter().all(|point| old.contains(point)), "a point was added: {before:?}");
+    let lost: Vec<_> = old.iter().filter(|point| !new.contains(point)).collect();
+    let wrong = lost.iter().find(|point| implications_hold(before, point));
+    assert_eq!(wrong, None, "a point was lost: {before:?}");
+    (new.len(), lost.len())
 }
 
 /// A list's passes, counted call by call, never exceed the limit that the bounds and the list give (02,
@@ -211,6 +232,7 @@ impl Guarded {
             rhs: guard(&lent.rhs, 0x5555_5555),
             kinds: guard(&lent.kinds, 0x55),
             table: guard(&lent.table, 0x55),
+            ties: guard(&lent.ties, 0x5555),
             calls: guard(&lent.calls, 0x5555_5555),
             book: guard(&lent.book, 0x55),
             answer: guard(&lent.answer, 0x5555_5555_5555_5555),
@@ -232,6 +254,7 @@ impl Guarded {
             rhs: inner(&mut cells.rhs),
             kinds: inner(&mut cells.kinds),
             table: inner(&mut cells.table),
+            ties: inner(&mut cells.ties),
             calls: inner(&mut cells.calls),
             book: inner(&mut cells.book),
             answer: inner(&mut cells.answer),
@@ -248,6 +271,7 @@ impl Guarded {
             rhs: loan.rhs.to_vec(),
             kinds: loan.kinds.to_vec(),
             table: loan.table.to_vec(),
+            ties: loan.ties.to_vec(),
             calls: loan.calls.to_vec(),
             book: loan.book.to_vec(),
             answer: loan.answer.to_vec(),
@@ -296,6 +320,7 @@ impl fmt::Display for Difference {
         first(f, "rhs", [&left.rhs, &right.rhs])?;
         first(f, "kinds", [&left.kinds, &right.kinds])?;
         first(f, "table", [&left.table, &right.table])?;
+        first(f, "ties", [&left.ties, &right.ties])?;
         first(f, "calls", [&left.calls, &right.calls])?;
         first(f, "book", [&left.book, &right.book])?;
         first(f, "answer", [&left.answer, &right.answer])?;

@@ -26,6 +26,7 @@ struct Before {
     rhs: Vec<i32>,
     kinds: Vec<u8>,
     table: Vec<u8>,
+    ties: Vec<u16>,
 }
 
 impl<F: FnMut(Operation, &Before, u32, &mut Loan) -> u32> Backend for Broken<F> {
@@ -36,6 +37,7 @@ impl<F: FnMut(Operation, &Before, u32, &mut Loan) -> u32> Backend for Broken<F> 
             rhs: loan.rhs.to_vec(),
             kinds: loan.kinds.to_vec(),
             table: loan.table.to_vec(),
+            ties: loan.ties.to_vec(),
         };
         let said = Reference.call(operation, reborrow(&mut loan));
         (self.0)(operation, &before, said, &mut loan)
@@ -51,6 +53,7 @@ fn reborrow<'a>(loan: &'a mut Loan) -> Loan<'a> {
         rhs: loan.rhs,
         kinds: loan.kinds,
         table: loan.table,
+        ties: loan.ties,
         calls: loan.calls,
         book: loan.book,
         answer: loan.answer,
@@ -469,7 +472,7 @@ fn catches_the_width_in_another_place() {
 
 #[test]
 fn catches_each_check_left_out() {
-    for left_out in (1..=17).chain([23]) {
+    for left_out in (1..=17).chain([21, 23]) {
         // Check 11 refuses records only: it is seen in the counts.
         if left_out == 11 {
             continue;
@@ -638,6 +641,178 @@ fn catches_a_pending_row_called_converged() {
         }
         said
     });
+}
+
+/// Whether the call is a tie that was made.
+fn is_tied(operation: Operation, said: u32, loan: &Loan) -> bool {
+    matches!(operation, Operation::Tie { .. }) && said == 0 && loan.answer[0] == 1
+}
+
+#[test]
+fn catches_a_tie_that_is_not_put_into_the_rows() {
+    // The rows kept; j's column kept; the right side kept where j is 1 − k.
+    is_caught(|operation, before, said, loan| {
+        if is_tied(operation, said, loan) {
+            loan.coefs.copy_from_slice(&before.coefs);
+            loan.rhs.copy_from_slice(&before.rhs);
+        }
+        said
+    });
+    is_caught(|operation, before, said, loan| {
+        if let Operation::Tie { j, .. } = operation
+            && is_tied(operation, said, loan)
+        {
+            for at in (0..loan.m).map(|r| r * loan.n + j as usize) {
+                loan.coefs[at] = before.coefs[at];
+            }
+        }
+        said
+    });
+    is_caught(|operation, before, said, loan| {
+        if is_tied(operation, said, loan) {
+            loan.rhs.copy_from_slice(&before.rhs);
+        }
+        said
+    });
+}
+
+#[test]
+fn catches_another_place_of_the_list() {
+    // Not set; the other literal; that of k.
+    is_caught(|operation, before, said, loan| {
+        if is_tied(operation, said, loan) {
+            loan.ties.copy_from_slice(&before.ties);
+        }
+        said
+    });
+    is_caught(|operation, _, said, loan| {
+        if let Operation::Tie { j, .. } = operation
+            && is_tied(operation, said, loan)
+        {
+            let place = &mut loan.ties[j as usize];
+            *place = 1 + ((*place - 1) ^ 1);
+        }
+        said
+    });
+    is_caught(|operation, _, said, loan| {
+        if let Operation::Tie { k, j } = operation
+            && is_tied(operation, said, loan)
+        {
+            loan.ties.swap(k as usize, j as usize);
+        }
+        said
+    });
+}
+
+/// The tie that the reference makes where one of its tests is made to pass: Same becomes Tied.
+fn tied_all_the_same(
+    operation: Operation,
+    said: u32,
+    loan: &mut Loan,
+    allow: impl FnOnce(&mut Loan, usize, usize),
+) {
+    let Operation::Tie { k, j } = operation else { return };
+    if said != 0 || loan.answer[0] != 2 {
+        return;
+    }
+    let (bounds, table) = (loan.bounds.to_vec(), loan.table.to_vec());
+    let ties = loan.ties.to_vec();
+    allow(loan, k as usize, j as usize);
+    Reference.call(operation, reborrow(loan));
+    loan.bounds.copy_from_slice(&bounds);
+    loan.table.copy_from_slice(&table);
+    let tied = loan.answer[0] == 1;
+    for (at, place) in ties.into_iter().enumerate() {
+        if !(tied && at == j as usize) {
+            loan.ties[at] = place;
+        }
+    }
+}
+
+#[test]
+fn catches_a_tie_that_must_not_be_made() {
+    // A variable that is not free; one that is replaced already; half of what the table must say.
+    is_caught(|operation, _, said, loan| {
+        tied_all_the_same(operation, said, loan, |loan, k, j| {
+            for at in [k, j] {
+                loan.bounds[2 * at..][..2].copy_from_slice(&[0, 1]);
+            }
+        });
+        said
+    });
+    is_caught(|operation, _, said, loan| {
+        tied_all_the_same(operation, said, loan, |loan, k, j| {
+            for at in [k, j] {
+                loan.ties[at] = 0;
+            }
+        });
+        said
+    });
+    is_caught(|operation, _, said, loan| {
+        tied_all_the_same(operation, said, loan, |loan, k, j| {
+            let at = 2 * k * 2 * loan.n + 2 * j;
+            loan.table[at] = 1;
+        });
+        said
+    });
+}
+
+#[test]
+fn catches_w_1_taken_where_the_table_says_both() {
+    is_caught(|operation, before, said, loan| {
+        if let Operation::Tie { k, j } = operation
+            && is_tied(operation, said, loan)
+        {
+            let (k, j) = (k as usize, j as usize);
+            let at = |v, w| (2 * k + v) * 2 * loan.n + 2 * j + w;
+            if before.table[at(0, 1)] == 1 && before.table[at(1, 0)] == 1 {
+                loan.coefs.copy_from_slice(&before.coefs);
+                loan.rhs.copy_from_slice(&before.rhs);
+                loan.ties.copy_from_slice(&before.ties);
+                let lent = at(0, 0);
+                loan.table[lent] = 0;
+                Reference.call(operation, reborrow(loan));
+                loan.table[lent] = before.table[lent];
+            }
+        }
+        said
+    });
+}
+
+#[test]
+fn catches_the_tie_list_in_another_place() {
+    // 21 before 10, after 13; a place of 2n refused.
+    let above = |before: &Before| {
+        before.ties.iter().any(|&place| usize::from(place) > 2 * before.ties.len())
+    };
+    let is_tie = |operation| matches!(operation, Operation::Tie { .. });
+    is_caught(
+        |operation, before, said, _| {
+            if is_tie(operation) && said == 10 && above(before) { 21 } else { said }
+        },
+    );
+    is_caught(|operation, before, said, _| match operation {
+        Operation::Tie { k, j } if said == 21 && k.max(j) as usize >= before.ties.len() => 13,
+        _ => said,
+    });
+    is_caught(|operation, before, said, _| {
+        let most = 2 * before.ties.len();
+        let reached = before.ties.iter().any(|&place| usize::from(place) == most);
+        if is_tie(operation) && said == 0 && reached { 21 } else { said }
+    });
+}
+
+#[test]
+#[should_panic(expected = "a point was added")]
+fn a_tie_list_that_both_sides_leave_is_seen_too() {
+    // Both put the tie into the rows and leave the list: the replaced variable takes any value.
+    let forget = |operation: Operation, before: &Before, said: u32, loan: &mut Loan| {
+        if is_tied(operation, said, loan) {
+            loan.ties.copy_from_slice(&before.ties);
+        }
+        said
+    };
+    suite::run(PLAN, &mut Broken(forget), &mut Broken(forget)).expect("the two agree");
 }
 
 #[test]

@@ -1,4 +1,4 @@
-//! The fourteen calls as the C interface has them.
+//! The fifteen calls as the C interface has them.
 //!
 //! Each returns 0 or the number of the failed check, and writes its answer into twelve places, 0 into
 //! those that it does not use. On a refusal nothing is written. The length of `answer` is check 5, with
@@ -12,6 +12,7 @@ use crate::probing::{self, Rest, Verdict};
 use crate::propagation::{self, Ending};
 use crate::rounds::{self, Rounds};
 use crate::row::{self, AT_MOST, Outcome, RowPropagation, Rows};
+use crate::ties::Tied;
 use crate::{State, book, bounds as boxes};
 
 /// The places of an answer.
@@ -267,6 +268,31 @@ pub fn rounds(
             Rounds::Unchanged(made) => places([1, made.into()]),
             Rounds::LimitReached(made) => places([2, made.into()]),
         })
+    })
+}
+
+/// Ties variable j to variable k (02, C-19). It writes rows and the tie list.
+pub fn tie(
+    n: usize,
+    m: usize,
+    bounds: &[i32],
+    coefs: &mut [i32],
+    rhs: &mut [i32],
+    kinds: &[u8],
+    table: &[u8],
+    ties: &mut [u16],
+    k: u32,
+    j: u32,
+    answer: &mut [u64],
+) -> u32 {
+    reply(answer, |places_lent| {
+        let lengths = [(ties.len(), n), (places_lent, ANSWER)];
+        check_model(n, m, bounds, coefs, rhs, kinds, Some(table), &lengths)?;
+        checks::places(ties, n)?;
+        checks::variable(k, n)?;
+        checks::variable(j, n)?;
+        let tied = Tied { n, bounds, coefs, rhs, table, ties }.tie(k as usize, j as usize);
+        Ok(places([if tied { 1 } else { 2 }]))
     })
 }
 

@@ -49,15 +49,25 @@ pub fn table(bytes: &[u8]) -> Check {
     ensure(10, bytes.iter().all(|&byte| byte <= 1))
 }
 
+/// Check 21: "a place of the tie list above 2n, straight after check 10" (02, C-19).
+pub fn places(ties: &[u16], n: usize) -> Check {
+    ensure(21, ties.iter().all(|&place| usize::from(place) <= 2 * n))
+}
+
 /// Check 12.
 pub fn row(row: u32, m: usize) -> Check {
     ensure(12, (row as usize) < m)
 }
 
+/// Check 13.
+pub fn variable(variable: u32, n: usize) -> Check {
+    ensure(13, (variable as usize) < n)
+}
+
 /// Checks 13 and 14, the latter where the box is not empty.
-pub fn free_variable(variable: u32, bounds: &[i32]) -> Check {
-    let k = variable as usize;
-    ensure(13, k < bounds.len() / 2)?;
+pub fn free_variable(k: u32, bounds: &[i32]) -> Check {
+    variable(k, bounds.len() / 2)?;
+    let k = k as usize;
     ensure(14, bounds::is_empty(bounds) || bounds::is_free(bounds, k))
 }
 

@@ -16,7 +16,8 @@
 //! | [`book`] | Book |
 //! | [`checks`] | Checks in their order; 02's new numbers in their places |
 //! | [`plan`] | size and passes told beforehand (02, C-17) |
-//! | [`calls`] | the fourteen calls as the C interface has them: a refusal number and twelve places of answer |
+//! | [`ties`] | tied variables (02, C-19) |
+//! | [`calls`] | the fifteen calls as the C interface has them: a refusal number and twelve places of answer |
 //! | [`report`] | what `reduce` prints |
 
 pub mod book;
@@ -30,6 +31,7 @@ pub mod propagation;
 pub mod report;
 pub mod rounds;
 pub mod row;
+pub mod ties;
 
 /// A model and its implication table in lent memory: what a call list and the rounds work on.
 pub struct State<'a> {

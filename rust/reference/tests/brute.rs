@@ -6,6 +6,7 @@
 mod common;
 use common::Model;
 use reference::calls::ANSWER;
+use reference::ties;
 
 const MAX_BUDGET: u32 = 8_388_481;
 
@@ -24,6 +25,10 @@ impl Rng {
     /// A number from `low` to `high`, both included.
     fn between(&mut self, low: i32, high: i32) -> i32 {
         low + (self.next() % (high - low + 1) as u64) as i32
+    }
+
+    fn pick(&mut self, choices: &[u32]) -> u32 {
+        choices[self.between(0, choices.len() as i32 - 1) as usize]
     }
 }
 
@@ -83,9 +88,11 @@ fn meets_rows(model: &Model, point: &[i32]) -> bool {
     })
 }
 
-/// The integer points of the model.
+/// The integer points of the model. They read the ties too (02, C-19).
 fn integer_points(model: &Model) -> Vec<Vec<i32>> {
-    box_points(&model.bounds).into_iter().filter(|point| meets_rows(model, point)).collect()
+    let mut points = box_points(&model.bounds);
+    points.retain(|point| meets_rows(model, point) && ties::hold(&model.ties, point));
+    points
 }
 
 /// Whether each recorded implication holds at each of the points.
@@ -540,4 +547,142 @@ fn books_come_back() {
         assert_eq!(read.book(), book);
     }
     assert!(refused > 100);
+}
+
+/// Three to five free binary variables and a wider one, some pairs of which are equal or opposite: by one = row
+/// or by two ≤ rows, with coefficients as they come; and a row or two over all of them.
+fn tied_model(rng: &mut Rng) -> Model {
+    let free = rng.between(3, 5) as usize;
+    let mut bounds = vec![(0, 1); free];
+    bounds.push((-1, 1));
+    let (mut rows, mut equal) = (vec![], vec![]);
+    for _ in 0..rng.between(1, 3) {
+        let (k, j) = (rng.between(0, free as i32 - 1) as usize, rng.between(0, free as i32 - 1));
+        // a k − a j = 0, or a k + a j = a.
+        let (a, w) = (rng.between(1, 3), rng.between(0, 1));
+        let mut row = vec![0; free + 1];
+        row[k] = a;
+        row[j as usize] += a * (2 * w - 1);
+        if rng.between(0, 1) == 0 {
+            equal.push(rows.len());
+            rows.push((row, a * w));
+        } else {
+            rows.push((row.iter().map(|a| -a).collect(), -a * w));
+            rows.push((row, a * w));
+        }
+    }
+    for _ in 0..rng.between(0, 2) {
+        rows.push(((0..=free).map(|_| rng.between(-3, 3)).collect(), rng.between(-1, 5)));
+    }
+    let rows: Vec<(&[i32], i32)> = rows.iter().map(|(row, b)| (&row[..], *b)).collect();
+    Model::new(&bounds, &rows).with_equal(&equal)
+}
+
+/// A tie of any two variables, or any other call.
+fn any_call_or_tie(rng: &mut Rng, model: &mut Model) -> common::Said {
+    if rng.between(0, 1) == 0 {
+        let mut any = || rng.between(0, model.n as i32) as u32;
+        let (k, j) = (any(), any());
+        return model.tie(k, j);
+    }
+    let [_, row, variable, _] = any_call(rng, model);
+    let kind = rng.pick(&[1, 3, 3, 3, 3, 4, 5]);
+    direct(model, [kind, row, variable, 1_000])
+}
+
+#[test]
+fn ties_among_other_calls_keep_the_integer_points() {
+    // "for a table filled from empty by calls on this model, and the tie list as they left it .. a list of whole
+    // values in the box meets the new rows and ties exactly when it met the old ones" (02, C-19).
+    let mut rng = Rng(13);
+    let (mut tied, mut chains, mut opposite) = (0, 0, 0);
+    for _ in 0..6_000 {
+        let mut model = tied_model(&mut rng);
+        let points = integer_points(&model);
+        for _ in 0..24 {
+            let before = model.clone();
+            let _ = any_call_or_tie(&mut rng, &mut model);
+            assert_eq!(integer_points(&model), points, "{before:?} to {model:?}");
+            assert!(implications_hold(&model, &points), "{before:?} to {model:?}");
+            if model.ties == before.ties {
+                continue;
+            }
+            let j = (0..model.n).find(|&j| model.ties[j] != before.ties[j]).expect("a new tie");
+            let place = usize::from(model.ties[j]);
+            tied += 1;
+            opposite += u32::from(place % 2 == 1);
+            chains += u32::from(before.ties.iter().any(|&p| p > 0 && usize::from(p - 1) / 2 == j));
+            assert!((0..model.m).all(|r| model.row(r).0[j] == 0));
+        }
+    }
+    assert!(tied > 1_000 && chains > 50 && opposite > 300, "{tied} {chains} {opposite}");
+}
+
+#[test]
+fn a_tie_by_any_table_adds_no_point() {
+    // "With any other table the call does the same, and then it is promised only that no point is added." Whole
+    // and in quarters, with a list from elsewhere that may tie in a circle.
+    let mut rng = Rng(14);
+    let in_quarters = |model: &Model| -> Vec<Vec<i32>> {
+        let mut scaled = model.clone();
+        scaled.bounds.iter_mut().for_each(|x| *x *= 4);
+        scaled.rhs.iter_mut().for_each(|b| *b *= 4);
+        let mut points = box_points(&scaled.bounds);
+        // An equation j = 1 − k over a denominator of 4 is j = 4 − k.
+        let meets = |point: &[i32]| {
+            model.ties.iter().zip(point).all(|(&place, &x)| {
+                let k = usize::from(place.saturating_sub(1)) / 2;
+                place == 0 || x == if place % 2 == 0 { point[k] } else { 4 - point[k] }
+            })
+        };
+        points.retain(|point| meets_rows(&scaled, point) && meets(point));
+        points
+    };
+    let (mut tied, mut lost) = (0, 0);
+    for _ in 0..3_000 {
+        let mut model = small_model(&mut rng, 4);
+        model.table.iter_mut().for_each(|byte| *byte = u8::from(rng.between(0, 2) > 0));
+        if rng.between(0, 3) == 0 {
+            let places = 2 * model.n as i32;
+            let mut any = || rng.between(0, places) as u16;
+            model.ties.iter_mut().for_each(|place| *place = any() * any().min(1));
+        }
+        let before = model.clone();
+        let mut any = || rng.between(0, model.n as i32 - 1) as u32;
+        let (k, j) = (any(), any());
+        if model.tie(k, j).unwrap()[0] == 1 {
+            tied += 1;
+            let (old, new) = (integer_points(&before), integer_points(&model));
+            assert!(new.iter().all(|point| old.contains(point)), "{k} {j} {before:?}");
+            lost += u32::from(new.len() < old.len());
+            let old = in_quarters(&before);
+            let added = in_quarters(&model).into_iter().find(|p| old.binary_search(p).is_err());
+            assert_eq!(added, None, "{k} {j} {before:?}");
+        }
+    }
+    assert!(tied > 100 && lost > 30, "{tied} tied, {lost} lost a point");
+}
+
+#[test]
+fn two_runs_after_ties_end_in_equal_boxes() {
+    // Demand 3 with ties in the first list; the points read the list as it stands.
+    let mut rng = Rng(15);
+    let mut tied = 0;
+    for _ in 0..600 {
+        let mut model = tied_model(&mut rng);
+        let points = integer_points(&model);
+        for _ in 0..24 {
+            let _ = any_call_or_tie(&mut rng, &mut model);
+        }
+        tied += u32::from(model.ties.iter().any(|&place| place > 0));
+        let (mut left, mut right) = (model.clone(), model);
+        carry_to_rest(&mut rng, &mut left);
+        carry_to_rest(&mut rng, &mut right);
+        assert_eq!(left.bounds, right.bounds);
+        for end in [&left, &right] {
+            assert_eq!(integer_points(end), points);
+            assert!(implications_hold(end, &points));
+        }
+    }
+    assert!(tied > 100, "{tied}");
 }

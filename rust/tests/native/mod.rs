@@ -25,6 +25,7 @@ impl Backend for Native {
         let (rhs, rhs_len) = raw(loan.rhs);
         let (kinds, kinds_len) = raw(loan.kinds);
         let (table, table_len) = raw(loan.table);
+        let (ties, ties_len) = raw(loan.ties);
         let (calls, calls_len) = raw(loan.calls);
         let (book, book_len) = raw(loan.book);
         let (answer, answer_len) = raw(loan.answer);
@@ -64,6 +65,10 @@ impl Backend for Native {
                 Operation::Rounds { limit } => ffi::astrolabe_rounds(
                     n, m, bounds, bounds_len, coefs, coefs_len, rhs, rhs_len, kinds, kinds_len,
                     table, table_len, limit, answer, answer_len,
+                ),
+                Operation::Tie { k, j } => ffi::astrolabe_tie(
+                    n, m, bounds, bounds_len, coefs, coefs_len, rhs, rhs_len, kinds, kinds_len,
+                    table, table_len, ties, ties_len, k, j, answer, answer_len,
                 ),
                 Operation::PlanWidth => {
                     ffi::astrolabe_plan_width(n, bounds, bounds_len, answer, answer_len)

@@ -15,6 +15,7 @@ pub struct Model {
     pub rhs: Vec<i32>,
     pub kinds: Vec<u8>,
     pub table: Vec<u8>,
+    pub ties: Vec<u16>,
 }
 
 /// The answer of an accepted call, its unused places filled with 0.
@@ -35,6 +36,7 @@ impl Model {
             rhs: rows.iter().map(|&(_, b)| b).collect(),
             kinds: vec![0; rows.len()],
             table: vec![0; 4 * bounds.len() * bounds.len()],
+            ties: vec![0; bounds.len()],
         }
     }
 
@@ -62,7 +64,8 @@ impl Model {
         let bounds: Vec<(i32, i32)> =
             self.bounds.chunks(2).map(|pair| (pair[0], pair[1])).collect();
         let rows: Vec<(&[i32], i32)> = rows.iter().map(|(coefs, b)| (&coefs[..], *b)).collect();
-        Model { table: self.table.clone(), ..Model::new(&bounds, &rows) }
+        let (table, ties) = (self.table.clone(), self.ties.clone());
+        Model { table, ties, ..Model::new(&bounds, &rows) }
     }
 
     pub fn row(&self, r: usize) -> (&[i32], i32) {
@@ -140,6 +143,14 @@ impl Model {
         self.call(|s, answer| {
             let (bounds, coefs, rhs) = (&mut s.bounds, &mut s.coefs, &mut s.rhs);
             calls::rounds(s.n, s.m, bounds, coefs, rhs, &mut s.kinds, &mut s.table, limit, answer)
+        })
+    }
+
+    /// Ties variable j to variable k.
+    pub fn tie(&mut self, k: u32, j: u32) -> Said {
+        self.call(|s, answer| {
+            let (coefs, rhs, ties) = (&mut s.coefs, &mut s.rhs, &mut s.ties);
+            calls::tie(s.n, s.m, &s.bounds, coefs, rhs, &s.kinds, &s.table, ties, k, j, answer)
         })
     }
 

@@ -1,0 +1,22 @@
+-- What putting j as k or as 1 − k into a row asks of it: both variables are its own, and its numbers are within their limits, so that
+-- no sum overflows.
+use Prim.Native.Nat.{_*_, _<_, ℕ}
+use lib.IntN.{ℤ}
+use lib.ListN.{length}
+use mathlib.Core.List.{List}
+use mathlib.Core.Path.{_≡_}
+use Rattle.integer.specs.Range.{Within}
+use Rattle.model.specs.Box.{at}
+
+pub record SmallRow (A : List ℤ) (b : ℤ) (k j : ℕ) : Type 0 where
+  pub variable : k < length A
+  pub replaced : j < length A
+  pub coefs : (i : ℕ) → Within 1_000_000 (at A i)
+  pub rhs : Within 1_000_000_000 b
+
+-- the same of all rows
+pub record SmallRows (n m : ℕ) (C R : List ℤ) : Type 0 where
+  pub coefsLen : length C ≡ m * n
+  pub rhsLen : length R ≡ m
+  pub coefs : (i : ℕ) → Within 1_000_000 (at C i)
+  pub rhs : (i : ℕ) → Within 1_000_000_000 (at R i)

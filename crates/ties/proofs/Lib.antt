@@ -1,0 +1,11 @@
+pub mod TiedRowLaws
+pub mod TiedRowsLaws
+pub mod TieLaws
+pub mod TieAccepted
+pub mod TieMeans
+pub mod TiedPreserved
+pub mod TiedDemand3
+pub mod TieRefusals
+pub mod WithoutTies
+pub mod TieBooks
+pub mod TieSteps
