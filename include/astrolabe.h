@@ -411,6 +411,34 @@ uint32_t astrolabe_rounds(size_t n, size_t m,
                           uint64_t *answer, size_t answer_len);
 
 /* ---------------------------------------------------------------------------------------------
+ * Clique rows
+ */
+
+/*
+ * Writes the clique rows of the table into a list of 2n rows, and zeros after them. Two literals of
+ * different variables are joined where the table says that each implies the other's opposite. From each
+ * literal, upwards, a clique is grown: all literals are tried upwards from 0 and taken when joined to all
+ * taken so far. Cliques of three or more are written in the order grown, each set once, as
+ *
+ *     sum of the variables meant at 1 - sum of those meant at 0 <= 1 - the number of the latter
+ *
+ * No literal could be added to a clique. For a table that calls on a model filled from one that is all 0,
+ * every integer point of the model meets each row (of a model with ties: every one that meets the ties);
+ * for a table from elsewhere only the listing is promised.
+ *
+ *     clique_coefs  written   2n*n: row i has its n coefficients at i*n, each -1, 0 or 1
+ *     clique_rhs    written   2n
+ *     answer[0]     the number of rows written, 0 to 2n
+ *
+ * Refused by 3 (n alone) 5 10, in this order; then the list stays as it is.
+ */
+uint32_t astrolabe_cliques(size_t n,
+                           const uint8_t *table, size_t table_len,
+                           int32_t *clique_coefs, size_t clique_coefs_len,
+                           int32_t *clique_rhs, size_t clique_rhs_len,
+                           uint64_t *answer, size_t answer_len);
+
+/* ---------------------------------------------------------------------------------------------
  * Size and passes told beforehand. These three read no row and make no pass: a planner calls them before
  * a book is loaded.
  */

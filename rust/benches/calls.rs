@@ -60,6 +60,7 @@ const LINES: &[Line] = &[
     line("rest_quiet_sparse", "rest, quiet box", "sparse", REST),
     line("tie_dense", "tie two variables", "dense", Operation::Tie { k: 0, j: 1 }),
     line("tie_sparse", "tie two variables", "sparse", Operation::Tie { k: 0, j: 1 }),
+    line("cliques_full", "clique rows of a full table", "dense", Operation::Cliques),
     Line { refusal: 15, ..line("refused_propagate", "propagate, refused by 15", "dense", Operation::Propagate { budget: 0 }) },
     Line { refusal: 15, ..line("refused_probe", "probe, refused by 15", "dense", Operation::Probe { variable: 0, budget: 0 }) },
 ];
@@ -124,13 +125,14 @@ fn remark(operation: Operation, answer: &[u64], refusal: u32) -> String {
         Operation::Probe { .. } if refusal == 0 => {
             format!(", {} and {}", passes(answer[2]), passes(answer[5]))
         }
+        Operation::Cliques => format!(", {} rows", answer[0]),
         Operation::IsProbingFixpoint => format!(": {}", ["no", "yes"][answer[0] as usize]),
         _ => String::new(),
     }
 }
 
-/// The model of a line's book with an empty table and a call list that probes each variable; for a tie the table
-/// says that j is k.
+/// The model of a line's book with a call list that probes each variable, and a table that is empty; for a tie it
+/// says that j is k, for the clique rows it is full, so that every two literals of different variables are joined.
 fn lent(folder: &str, line: &Line) -> Lent {
     let name = line.book;
     let path = Path::new(folder).join(name).with_extension("book");
@@ -151,12 +153,17 @@ fn lent(folder: &str, line: &Line) -> Lent {
         ties: vec![0; n],
         calls: (0..n as u32).flat_map(|k| [KIND_PROBE, 0, k, MAX_BUDGET]).collect(),
         book,
+        clique_coefs: vec![0; 2 * n * n],
+        clique_rhs: vec![0; 2 * n],
         answer: vec![0; ANSWER],
     };
     assert_eq!(Reference.call(Operation::BookRead, lent.lend()), 0, "{name}");
     if let Operation::Tie { k, j } = line.operation {
         let (k, j) = (k as usize, j as usize);
         [0, 1].iter().for_each(|v| lent.table[(2 * k + v) * 2 * n + 2 * j + v] = 1);
+    }
+    if line.operation == Operation::Cliques {
+        lent.table.fill(1);
     }
     lent
 }

@@ -202,6 +202,19 @@ unsafe extern "C" {
         answer_len: usize,
     ) -> u32;
 
+    /// Answer: the number of clique rows written.
+    pub fn astrolabe_cliques(
+        n: usize,
+        table: *const u8,
+        table_len: usize,
+        clique_coefs: *mut i32,
+        clique_coefs_len: usize,
+        clique_rhs: *mut i32,
+        clique_rhs_len: usize,
+        answer: *mut u64,
+        answer_len: usize,
+    ) -> u32;
+
     /// Answer: n, m; the elements of bounds, coefs, rhs, kinds, table, ties, clique_coefs and clique_rhs; the
     /// bytes of the book.
     pub fn astrolabe_plan_lengths(

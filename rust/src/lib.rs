@@ -37,6 +37,7 @@
 //! [`ffi`] has the C interface as it is.
 
 mod answer;
+mod clique;
 pub mod ffi;
 mod model;
 pub mod plan;
@@ -44,6 +45,7 @@ mod refusal;
 mod ties;
 
 pub use answer::{Counts, Outcome, Probe, Propagation, Rest, Rounds, RowPropagation, Side};
+pub use clique::Clique;
 pub use model::{Call, Model, Row, RowKind, book_size};
 pub use refusal::Refusal;
 pub use ties::{CircularTies, Tie, Ties};

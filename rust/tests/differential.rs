@@ -85,3 +85,28 @@ fn threads_on_their_own_buffers() {
         }
     });
 }
+
+#[test]
+fn clique_rows_of_the_largest_tables() {
+    let literals = 2 * MAX_VARIABLES;
+    let lend = |table: Vec<u8>| {
+        let mut lent = models::sized(&mut Rng::new(SEED), MAX_VARIABLES, 1, 10, 0).with_table();
+        lent.table = table;
+        lent.clique_coefs = vec![7; literals * MAX_VARIABLES];
+        lent.clique_rhs = vec![7; literals];
+        agree(lent, &[Operation::Cliques])[0]
+    };
+    // All joined: the literals of value 0 together, and each literal of value 1 with those of the others.
+    assert_eq!(lend(vec![1; literals * literals]), 1 + MAX_VARIABLES as u64);
+    for percent in [1, 50, 90, 99] {
+        let mut rng = Rng::for_case(SEED, percent);
+        let mut table = vec![0; literals * literals];
+        for p in 0..literals {
+            for q in (0..p).filter(|_| rng.chance(percent as i64)) {
+                table[p * literals + (q ^ 1)] = 1;
+                table[q * literals + (p ^ 1)] = 1;
+            }
+        }
+        lend(table);
+    }
+}

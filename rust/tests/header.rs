@@ -55,7 +55,7 @@ fn the_header_and_the_rust_declarations_agree() {
     let mut rust = declarations(FFI, "pub fn astrolabe_", ") -> u32;", str::to_string);
     c.sort();
     rust.sort();
-    assert_eq!(c.len(), 15);
+    assert_eq!(c.len(), 16);
     assert_eq!(c, rust);
 }
 

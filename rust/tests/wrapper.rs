@@ -104,6 +104,7 @@ fn call(model: &mut Model, ties: &mut Ties, operation: Operation, list: &[Call])
             let [width, budget] = width(told.width);
             [width, budget, told.passes]
         }),
+        Operation::Cliques => said(model.cliques(), |cliques| [cliques.len() as u64]),
         Operation::PlanLengths
         | Operation::BookTrailer
         | Operation::BookRead
@@ -139,6 +140,8 @@ fn methods_say_what_the_calls_say() {
     for _ in 0..3_000 {
         let family = rng.pick(&[Family::Tiny, Family::Binary, Family::Empty]);
         let mut lent = models::model(&mut rng, family).with_table();
+        lent.clique_coefs = vec![0; 2 * lent.n * lent.n];
+        lent.clique_rhs = vec![0; 2 * lent.n];
         let (mut model, mut ties) = (wrapped(&lent), Ties::new(lent.n));
         for _ in 0..6 {
             let (row, variable) = (rng.index(lent.m + 1) as u32, rng.index(lent.n + 1) as u32);
@@ -296,6 +299,28 @@ fn bounds_moved_are_told() {
         Model::new(vec![0, 3, 0, 3], vec![1, -1, -999_999, 1_000_000], vec![0, 0]).unwrap();
     assert_eq!(model.propagate(2), Ok(Propagation::BudgetSpent { passes: 2, moved: 3 }));
     assert_eq!(model.propagate(9), Ok(Propagation::Converged { passes: 3, moved: 3 }));
+}
+
+#[test]
+fn clique_rows_are_those_of_the_list() {
+    // 000, 2.2.2: one row over the first three of its four variables.
+    let rows = vec![4, 1, 0, -3, 2, 3, 0, 3, 1, 4, 2, 0, 3, 1, 5, 0];
+    let mut model = Model::new([0, 1].repeat(4), rows, vec![2, 7, 5, 6]).unwrap();
+    for variable in 0..4 {
+        model.probe(variable, 1_000).unwrap();
+    }
+    let [clique] = &model.cliques().unwrap()[..] else { panic!("one row") };
+    assert_eq!((&clique.coefs[..], clique.rhs), (&[1, 1, 1, 0][..], 1));
+    assert!(clique.literals().eq([(0, true), (1, true), (2, true)]));
+    // x ≥ y, x ≥ z and y + z ≤ 1: of "x is 0", "y is 1" and "z is 1" at most one is true.
+    let rows = vec![-1, 1, 0, -1, 0, 1, 0, 1, 1];
+    let mut model = Model::new([0, 1].repeat(3), rows, vec![0, 0, 1]).unwrap();
+    for variable in 0..3 {
+        model.probe(variable, 1_000).unwrap();
+    }
+    let [clique] = &model.cliques().unwrap()[..] else { panic!("one row") };
+    assert_eq!((&clique.coefs[..], clique.rhs), (&[-1, 1, 1][..], 0));
+    assert!(clique.literals().eq([(0, false), (1, true), (2, true)]));
 }
 
 #[test]

@@ -1,3 +1,4 @@
 pub mod ExportLaws
 pub mod BookLaws
 pub mod TieLaws
+pub mod CliqueLaws

@@ -3,6 +3,7 @@
 // one check more than the open call has, of the answer's length, and nothing else happens here.
 pub mod books;
 pub mod calls;
+pub mod clique_rows;
 pub mod plans;
 pub mod tied;
 

@@ -14,6 +14,7 @@
 //                                  numbers the passes at most
 //   KNOT K J LENGTH P ..           ties variable J to variable K on the model itself, with a tie list of as many
 //                                  places: the answer and the list
+//   GROW                           the clique rows of the table: their number, and the list of them
 //   fixpoint                       writes whether the box is at rest, or what shows that it is not
 //   READ                           reads the book into the buffers of the model
 //   TRAILER                        reads the sizes from the bytes, a trailer alone
@@ -25,6 +26,7 @@
 use crate::book_cases;
 use crate::buffers;
 use crate::buffers::Sizes;
+use crate::clique_cases;
 use crate::copies;
 use crate::lists;
 use crate::parts::bytes_part_mut;
@@ -100,6 +102,7 @@ fn look(
         b'w' => write(line, n, bounds, coefs, rhs, kinds, table),
         b'P' => plans::of_list(line, n, bounds),
         b'L' => plans::of_trailer(table),
+        b'G' => clique_cases::of_table(n, table),
         b'f' => lists::rest(is_probing_fixpoint(n, m, bounds, coefs, rhs, kinds)),
         b'a' => copies::all(n, m, bounds, coefs, rhs, kinds, table, record(line)),
         b'1'..=b'6' => copies::one(n, m, bounds, coefs, rhs, kinds, table, record(line)),

@@ -25,7 +25,7 @@ use Rattle.ties.specs.TiedRow.{rowFits, tiedCoef, tiedCoefs, tiedRhs, ti
 
 -- ---- the left side
 
-dot-set : (n : ℕ) (A x : List ℤ) (k : ℕ) (a : ℤ) → k < n → length A ≡ n → dot n (set A k a) x +ℤ at A k *ℤ at x k ≡ dot n A x +ℤ a *ℤ at x k
+pub dot-set : (n : ℕ) (A x : List ℤ) (k : ℕ) (a : ℤ) → k < n → length A ≡ n → dot n (set A k a) x +ℤ at A k *ℤ at x k ≡ dot n A x +ℤ a *ℤ at x k
 unfolding dot
 dot-set n A x k a h l =
     let s = getD-set-same A k a (pos 0) (omega arith) in

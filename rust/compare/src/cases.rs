@@ -37,6 +37,7 @@ pub fn case(seed: u64, number: u64) -> Case {
         4 => tied(&mut rng),
         5 => book(&mut rng),
         6 => around_the_widest(&mut rng),
+        7 if number % 20 == 7 => clique_rows(&mut rng),
         _ => damaged(&mut rng),
     }
 }
@@ -55,6 +56,7 @@ fn session(rng: &mut Rng) -> Case {
     };
     let mut lent = models::model(rng, family);
     lent.calls = call_list(rng, &lent);
+    lend_list(&mut lent);
     let count = if family == Family::Largest { 3 } else { rng.between(4, 12) };
     let steps = (0..count)
         .map(|_| Step { afresh: rng.chance(50), operation: operation(rng, &lent) })
@@ -103,7 +105,7 @@ fn operation(rng: &mut Rng, lent: &Lent) -> Operation {
     let largest = lent.n * lent.m > 5_000;
     let (row, other, variable) = (row(rng, lent), variable(rng, lent), variable(rng, lent));
     let budget = if crawls_long { budget(rng).min(1_000) } else { budget(rng) };
-    match rng.between(0, 16) {
+    match rng.between(0, 17) {
         0..3 => Operation::PropagateRow { row },
         3..5 => Operation::Propagate { budget },
         5..9 => Operation::Probe { variable, budget },
@@ -114,6 +116,7 @@ fn operation(rng: &mut Rng, lent: &Lent) -> Operation {
         13 => Operation::Rounds { limit: rng.pick(&[0, 1, 2, 3, 8, 100]) },
         14 => rng.pick(&[Operation::PlanWidth, Operation::PlanRun]),
         15 => Operation::Tie { k: variable, j: other },
+        17 => Operation::Cliques,
         _ => Operation::Run,
     }
 }
@@ -185,6 +188,30 @@ fn book(rng: &mut Rng) -> Case {
     }
 }
 
+/// A list for the clique rows, full of numbers that none has.
+fn lend_list(lent: &mut Lent) {
+    lent.clique_coefs = vec![i32::MIN; 2 * lent.n * lent.n];
+    lent.clique_rhs = vec![i32::MAX; 2 * lent.n];
+}
+
+/// Clique rows: of a table that probes of every variable fill, of rows that say "at most one"; or of a table
+/// from elsewhere in which many literals are joined.
+fn clique_rows(rng: &mut Rng) -> Case {
+    let n = rng.between(1, 10) as usize;
+    let mut lent = models::at_most_one(rng, n);
+    lend_list(&mut lent);
+    if rng.chance(50) {
+        models::join_literals(rng, &mut lent);
+        return single(lent, Operation::Cliques);
+    }
+    let probe = |k| Operation::Probe { variable: k as u32, budget: MAX_BUDGET };
+    let operations =
+        (0..n).map(probe).chain([Operation::Cliques, Operation::Run, Operation::Cliques]);
+    lent.calls = call_list(rng, &lent);
+    let steps = operations.map(|operation| Step { afresh: false, operation }).collect();
+    Case { lent, steps, returns: None }
+}
+
 /// Fills the buffers that a book is read into with numbers that no model has.
 fn scramble(lent: &mut Lent) {
     lent.bounds.fill(i32::MIN);
@@ -203,7 +230,7 @@ fn trailer_only(lent: &mut Lent) {
 fn around_the_widest(rng: &mut Rng) -> Case {
     let mut lent = models::around_the_widest(rng);
     let row = rng.index(lent.m) as u32;
-    let [on_bounds @ .., _, _, read, write] =
+    let [on_bounds @ .., _, _, _, read, write] =
         Operation::each(row, 0, rng.pick(&[1, MAX_BUDGET]), 1);
     let operation = rng.pick(&[&on_bounds[..], &[read, write]].concat());
     let reads_rows = !matches!(operation, Operation::PlanWidth | Operation::PlanRun);
@@ -240,6 +267,7 @@ fn damaged(rng: &mut Rng) -> Case {
         *j = rng.index(lent.n) as u32;
     }
     lent.calls = call_list(rng, &lent);
+    lend_list(&mut lent);
     match operation {
         Operation::BookTrailer | Operation::PlanLengths => trailer_only(&mut lent),
         _ => damage::write_book(&mut lent),

@@ -20,7 +20,7 @@ pub struct Coverage {
     pub most_passes: u64,
     /// The most bounds that one propagation moved.
     pub most_moved: u64,
-    /// Which of [`MOVES`], [`EQUALITIES`], [`UNREST`], [`PLANS`], [`RETIRED`] and [`TIES`] were met.
+    /// Which of [`MOVES`], [`EQUALITIES`], [`UNREST`], [`PLANS`], [`RETIRED`], [`TIES`] and [`CLIQUES`] were met.
     pub met: BTreeSet<&'static str>,
 }
 
@@ -87,6 +87,14 @@ const TIES: [&str; 17] = [
     "no tie: the box is empty",
 ];
 
+/// The same of clique rows (02, C-12).
+const CLIQUES: [&str; 4] = [
+    "clique rows of a table that calls filled, held against its points",
+    "a clique row over a variable meant at 0, held against points",
+    "a clique row of four or more",
+    "several clique rows",
+];
+
 impl Coverage {
     /// Notes how many points of a small model a tie kept and lost.
     pub fn tied(&mut self, kept: usize, lost: usize) {
@@ -141,6 +149,18 @@ impl Coverage {
         }
     }
 
+    /// Notes the clique rows that were written, and the points that they were held against.
+    pub fn clique_rows(&mut self, after: &Lent, points: &[Vec<i32>]) {
+        let [held, meant_at_0, four, several] = CLIQUES;
+        let rows = after.clique_coefs.chunks(after.n).take(after.answer[0] as usize);
+        for row in rows {
+            self.met(held, !points.is_empty());
+            self.met(meant_at_0, !points.is_empty() && row.contains(&-1));
+            self.met(four, row.iter().filter(|&&a| a != 0).count() > 3);
+        }
+        self.met(several, after.answer[0] > 1);
+    }
+
     /// Notes how many passes a list made that was lent `before`, and their limit.
     pub fn planned(&mut self, before: &Lent, made: u64, limit: u64) {
         let [reached, below, on_empty, _] = PLANS;
@@ -164,6 +184,7 @@ impl Coverage {
             | Operation::PlanWidth
             | Operation::PlanRun
             | Operation::PlanLengths
+            | Operation::Cliques
             | Operation::BookTrailer
             | Operation::BookRead
             | Operation::BookWrite => 0,
@@ -283,7 +304,7 @@ impl Coverage {
     }
 
     /// What a long enough run must have met and has not: each check of each call, each case of each
-    /// answer, and each of [`MOVES`], [`EQUALITIES`], [`UNREST`], [`PLANS`], [`RETIRED`] and [`TIES`].
+    /// answer, and each of [`MOVES`], [`EQUALITIES`], [`UNREST`], [`PLANS`], [`RETIRED`], [`TIES`] and [`CLIQUES`].
     pub fn missing(&self) -> Vec<String> {
         let (row, variable, budget, limit) = (0, 0, 0, 0);
         let tie = Operation::Tie { k: variable, j: variable };
@@ -299,17 +320,19 @@ impl Coverage {
             (tie, 0), // its cases are among TIES
             (Operation::PlanWidth, 1),
             (Operation::PlanRun, 1),
+            (Operation::Cliques, 1),
             (Operation::PlanLengths, 1),
             (Operation::BookTrailer, 1),
             (Operation::BookRead, 1),
             (Operation::BookWrite, 1),
         ];
-        let mut missing: Vec<String> = [&MOVES[..], &EQUALITIES, &UNREST, &PLANS, &RETIRED, &TIES]
-            .concat()
-            .into_iter()
-            .filter(|what| !self.met.contains(what))
-            .map(str::to_string)
-            .collect();
+        let mut missing: Vec<String> =
+            [&MOVES[..], &EQUALITIES, &UNREST, &PLANS, &RETIRED, &TIES, &CLIQUES]
+                .concat()
+                .into_iter()
+                .filter(|what| !self.met.contains(what))
+                .map(str::to_string)
+                .collect();
         for (operation, cases) in all {
             let name = operation.name();
             for &check in damage::checks(operation) {

@@ -21,6 +21,7 @@ pub fn checks(operation: Operation) -> &'static [u32] {
         Operation::Run | Operation::Rounds { .. } => &[3, 5, 6, 7, 23, 8, 9, 16, 10],
         Operation::Tie { .. } => &[3, 5, 6, 7, 23, 8, 9, 16, 10, 21, 13],
         Operation::PlanWidth | Operation::PlanRun => &[3, 5, 6, 7, 23],
+        Operation::Cliques => &[3, 5, 10],
         Operation::BookTrailer | Operation::PlanLengths => &[1, 5, 3, 4],
         Operation::BookRead => &[1, 2, 3, 4, 5, 6, 7, 23, 8, 9],
     }
@@ -109,7 +110,8 @@ fn wrong_book_length(rng: &mut Rng, book: &mut Vec<u8>) {
 fn wrong_size(rng: &mut Rng, operation: Operation, lent: &mut Lent) {
     let in_book =
         matches!(operation, Operation::BookTrailer | Operation::PlanLengths | Operation::BookRead);
-    let only_n = matches!(operation, Operation::PlanWidth | Operation::PlanRun);
+    let only_n =
+        matches!(operation, Operation::PlanWidth | Operation::PlanRun | Operation::Cliques);
     let n_is_wrong = only_n || rng.chance(50);
     match operation {
         _ if in_book && n_is_wrong => {
@@ -129,6 +131,8 @@ fn wrong_size(rng: &mut Rng, operation: Operation, lent: &mut Lent) {
         lent.kinds.resize(lent.m, 0);
         lent.table.resize(4 * lent.n * lent.n, 0);
         lent.ties.resize(lent.n, 0);
+        lent.clique_coefs.resize(2 * lent.n * lent.n, 0);
+        lent.clique_rhs.resize(2 * lent.n, 0);
     }
 }
 
@@ -164,12 +168,13 @@ fn wrong_length(rng: &mut Rng, operation: Operation, lent: &mut Lent) {
         Operation::Tie { .. } => &["answer", "table", "ties"],
         Operation::PlanWidth => &["answer", "bounds"],
         Operation::PlanRun => &["answer", "bounds", "calls"],
+        Operation::Cliques => &["answer", "table", "clique_coefs", "clique_rhs"],
         Operation::BookTrailer | Operation::PlanLengths => &["answer", "trailer"],
         Operation::BookWrite => &["book"],
         _ => &["answer"],
     };
     let buffers = match operation {
-        Operation::PlanWidth | Operation::PlanRun => others.to_vec(),
+        Operation::PlanWidth | Operation::PlanRun | Operation::Cliques => others.to_vec(),
         Operation::BookTrailer | Operation::PlanLengths => others.to_vec(),
         _ => [&model, others].concat(),
     };
@@ -180,6 +185,8 @@ fn wrong_length(rng: &mut Rng, operation: Operation, lent: &mut Lent) {
         "kinds" => resize(rng, &mut lent.kinds),
         "table" => resize(rng, &mut lent.table),
         "ties" => resize(rng, &mut lent.ties),
+        "clique_coefs" => resize(rng, &mut lent.clique_coefs),
+        "clique_rhs" => resize(rng, &mut lent.clique_rhs),
         "answer" if rng.chance(20) => lent.answer.truncate(6), // its length before C-11
         "answer" => resize(rng, &mut lent.answer),
         "book" => resize(rng, &mut lent.book),

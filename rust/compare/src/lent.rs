@@ -1,4 +1,4 @@
-//! What a call can be lent, the fifteen calls, and the trait of an implementation of them.
+//! What a call can be lent, the calls, and the trait of an implementation of them.
 
 use reference::calls;
 
@@ -18,6 +18,9 @@ pub struct Lent {
     pub calls: Vec<u32>,
     /// A book, or the bytes of a trailer.
     pub book: Vec<u8>,
+    /// A list of 2n rows for the clique rows: their coefficients and right sides. Only that call is lent it.
+    pub clique_coefs: Vec<i32>,
+    pub clique_rhs: Vec<i32>,
     pub answer: Vec<u64>,
 }
 
@@ -33,6 +36,8 @@ pub struct Loan<'a> {
     pub ties: &'a mut [u16],
     pub calls: &'a mut [u32],
     pub book: &'a mut [u8],
+    pub clique_coefs: &'a mut [i32],
+    pub clique_rhs: &'a mut [i32],
     pub answer: &'a mut [u64],
 }
 
@@ -48,6 +53,8 @@ impl Lent {
         self.ties.clone_from(&to.ties);
         self.calls.clone_from(&to.calls);
         self.book.clone_from(&to.book);
+        self.clique_coefs.clone_from(&to.clique_coefs);
+        self.clique_rhs.clone_from(&to.clique_rhs);
         self.answer.clone_from(&to.answer);
     }
 
@@ -63,12 +70,14 @@ impl Lent {
             ties: &mut self.ties,
             calls: &mut self.calls,
             book: &mut self.book,
+            clique_coefs: &mut self.clique_coefs,
+            clique_rhs: &mut self.clique_rhs,
             answer: &mut self.answer,
         }
     }
 }
 
-/// One of the fifteen calls, with its numbers.
+/// One of the calls, with its numbers.
 #[derive(Clone, Copy, Debug, PartialEq, Eq)]
 pub enum Operation {
     PropagateRow { row: u32 },
@@ -82,6 +91,7 @@ pub enum Operation {
     Tie { k: u32, j: u32 },
     PlanWidth,
     PlanRun,
+    Cliques,
     PlanLengths,
     BookTrailer,
     BookRead,
@@ -89,9 +99,9 @@ pub enum Operation {
 }
 
 impl Operation {
-    /// Each of the fifteen with these numbers, where it has them: first the nine on a model, then the three
-    /// that tell beforehand, and the three on books.
-    pub fn each(row: u32, variable: u32, budget: u32, limit: u32) -> [Operation; 15] {
+    /// Each of the sixteen with these numbers, where it has them: first the nine on a model, then the three
+    /// that tell beforehand with the clique rows among them, and the three on books.
+    pub fn each(row: u32, variable: u32, budget: u32, limit: u32) -> [Operation; 16] {
         [
             Operation::PropagateRow { row },
             Operation::Propagate { budget },
@@ -104,6 +114,7 @@ impl Operation {
             Operation::Tie { k: variable, j: variable },
             Operation::PlanWidth,
             Operation::PlanRun,
+            Operation::Cliques,
             Operation::PlanLengths,
             Operation::BookTrailer,
             Operation::BookRead,
@@ -125,6 +136,7 @@ impl Operation {
             Operation::Tie { .. } => "tie",
             Operation::PlanWidth => "plan_width",
             Operation::PlanRun => "plan_run",
+            Operation::Cliques => "cliques",
             Operation::PlanLengths => "plan_lengths",
             Operation::BookTrailer => "book_trailer",
             Operation::BookRead => "book_read",
@@ -133,7 +145,7 @@ impl Operation {
     }
 }
 
-/// An implementation of the fifteen calls.
+/// An implementation of the calls.
 pub trait Backend {
     /// Makes the call; 0, or the number of the failed check.
     fn call(&mut self, operation: Operation, loan: Loan) -> u32;
@@ -144,7 +156,8 @@ pub struct Reference;
 
 impl Backend for Reference {
     fn call(&mut self, operation: Operation, loan: Loan) -> u32 {
-        let Loan { n, m, bounds, coefs, rhs, kinds, table, ties, calls, book, answer } = loan;
+        let Loan { n, m, bounds, coefs, rhs, kinds, table, ties, calls, book, .. } = loan;
+        let Loan { clique_coefs, clique_rhs, answer, .. } = loan;
         match operation {
             Operation::PropagateRow { row } => {
                 calls::propagate_row(n, m, bounds, coefs, rhs, kinds, row, answer)
@@ -173,6 +186,7 @@ impl Backend for Reference {
             }
             Operation::PlanWidth => calls::plan_width(n, bounds, answer),
             Operation::PlanRun => calls::plan_run(n, bounds, calls, answer),
+            Operation::Cliques => calls::cliques(n, table, clique_coefs, clique_rhs, answer),
             Operation::PlanLengths => calls::plan_lengths(book, answer),
             Operation::BookTrailer => calls::book_trailer(book, answer),
             Operation::BookRead => calls::book_read(book, bounds, coefs, rhs, kinds, answer),

@@ -7,7 +7,7 @@
 //!
 //! | module | what |
 //! |---|---|
-//! | [`lent`] | what a call can be lent, the fifteen calls, and the trait of an implementation |
+//! | [`lent`] | what a call can be lent, the calls, and the trait of an implementation |
 //! | [`models`] | families of accepted models: tiny and largest, dense and sparse, crawling, at the limits |
 //! | [`damage`] | makes a call fail a chosen check at its boundary |
 //! | [`cases`] | a case: a model, its calls, or one call that is refused |

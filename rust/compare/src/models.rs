@@ -412,3 +412,39 @@ impl Lent {
         self
     }
 }
+
+/// Binary variables, the last one wider now and then, and rows that say that at most one of some literals is
+/// true, with a row of other numbers among them. The table is all 0.
+pub fn at_most_one(rng: &mut Rng, n: usize) -> Lent {
+    let m = rng.between(1, 8) as usize;
+    let mut bounds = [0, 1].repeat(n);
+    if rng.chance(20) {
+        bounds[2 * n - 1] = 2;
+    }
+    let mut lent = rows(rng, bounds, m, 50, 3);
+    for i in 0..m {
+        if rng.chance(80) {
+            let row = &mut lent.coefs[i * n..][..n];
+            row.fill_with(|| rng.pick(&[0, 0, 1, 1, 1, -1]));
+            lent.rhs[i] = 1 - row.iter().filter(|&&a| a < 0).count() as i32;
+        }
+    }
+    lent.kinds.fill(0);
+    lent.answer = vec![0; ANSWER];
+    lent.with_table()
+}
+
+/// Joins the literals of a few random sets in the table; some bytes are 1 one way only.
+pub fn join_literals(rng: &mut Rng, lent: &mut Lent) {
+    let literals = 2 * lent.n;
+    for _ in 0..rng.between(1, 6) {
+        let set: Vec<usize> = (0..literals).filter(|_| rng.chance(40)).collect();
+        for &p in &set {
+            for &q in &set {
+                if p / 2 != q / 2 && !rng.chance(2) {
+                    lent.table[p * literals + (q ^ 1)] = 1;
+                }
+            }
+        }
+    }
+}

@@ -6,7 +6,7 @@ use reference::ties;
 use crate::lent::Lent;
 
 /// The most points of a box that is looked at.
-const MOST: i64 = 512;
+const MOST: i64 = 5_000;
 
 /// Every list of whole numbers in the box that meets the rows and the ties; `None` where the box is too large.
 pub fn points(lent: &Lent) -> Option<Vec<Vec<i32>>> {
@@ -24,11 +24,15 @@ pub fn points(lent: &Lent) -> Option<Vec<Vec<i32>>> {
 
 fn meets_rows(lent: &Lent, point: &[i32]) -> bool {
     (0..lent.m).all(|r| {
-        let terms = lent.coefs[r * lent.n..][..lent.n].iter().zip(point);
-        let sum: i64 = terms.map(|(&a, &x)| i64::from(a) * i64::from(x)).sum();
+        let left = sum(&lent.coefs[r * lent.n..][..lent.n], point);
         let b = lent.rhs[r].into();
-        if lent.kinds[r] == EQUAL { sum == b } else { sum <= b }
+        if lent.kinds[r] == EQUAL { left == b } else { left <= b }
     })
+}
+
+/// The sum of coefficient · variable.
+pub fn sum(coefs: &[i32], point: &[i32]) -> i64 {
+    coefs.iter().zip(point).map(|(&a, &x)| i64::from(a) * i64::from(x)).sum()
 }
 
 /// Whether every recorded implication holds at the point.

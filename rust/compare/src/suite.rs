@@ -8,7 +8,7 @@ use reference::plan;
 use crate::cases::{self, Case, Step};
 use crate::coverage::Coverage;
 use crate::lent::{Backend, Lent, Loan, Operation};
-use crate::points::{implications_hold, points};
+use crate::points::{implications_hold, points, sum};
 
 /// The default seed.
 pub const SEED: u64 = 20_240_917;
@@ -85,6 +85,11 @@ pub fn play(
                 let (kept, lost) = check_tie(&before, &lent);
                 coverage.tied(kept, lost);
             }
+            if operation == Operation::Cliques {
+                let points = clique_points(&case.lent);
+                check_clique_rows(&lent, &points);
+                coverage.clique_rows(&lent, &points);
+            }
         }
         coverage.note(operation, &before, said, &lent);
     }
@@ -147,6 +152,29 @@ fn check_tie(before: &Lent, after: &Lent) -> (usize, usize) {
     let wrong = lost.iter().find(|point| implications_hold(before, point));
     assert_eq!(wrong, None, "a point was lost: {before:?}");
     (new.len(), lost.len())
+}
+
+/// The points that must meet the clique rows: those of the model that the case began with, where its table
+/// was all 0, so that its calls filled the table, and where they are few enough to be tried one by one.
+fn clique_points(start: &Lent) -> Vec<Vec<i32>> {
+    if start.table.contains(&1) {
+        return Vec::new();
+    }
+    points(start).unwrap_or_default()
+}
+
+/// What the clique rows say of themselves (02, C-12), whatever the two sides agree on: each is over three
+/// variables or more, no two are the same, and every point meets each of them.
+fn check_clique_rows(after: &Lent, points: &[Vec<i32>]) {
+    let (n, number) = (after.n, after.answer[0] as usize);
+    let rows: Vec<&[i32]> = after.clique_coefs.chunks(n).take(number).collect();
+    for (i, (coefs, &rhs)) in rows.iter().zip(&after.clique_rhs).enumerate() {
+        assert!(coefs.iter().filter(|&&a| a != 0).count() >= 3, "row {i}: {after:?}");
+        assert!(!rows[..i].contains(coefs), "row {i} is written twice: {after:?}");
+        for point in points {
+            assert!(sum(coefs, point) <= rhs.into(), "row {i} cuts off {point:?}: {after:?}");
+        }
+    }
 }
 
 /// A list's passes, counted call by call, never exceed the limit that the bounds and the list give (02,
@@ -235,6 +263,8 @@ impl Guarded {
             ties: guard(&lent.ties, 0x5555),
             calls: guard(&lent.calls, 0x5555_5555),
             book: guard(&lent.book, 0x55),
+            clique_coefs: guard(&lent.clique_coefs, 0x5555_5555),
+            clique_rhs: guard(&lent.clique_rhs, 0x5555_5555),
             answer: guard(&lent.answer, 0x5555_5555_5555_5555),
         };
         Guarded { cells }
@@ -257,6 +287,8 @@ impl Guarded {
             ties: inner(&mut cells.ties),
             calls: inner(&mut cells.calls),
             book: inner(&mut cells.book),
+            clique_coefs: inner(&mut cells.clique_coefs),
+            clique_rhs: inner(&mut cells.clique_rhs),
             answer: inner(&mut cells.answer),
         }
     }
@@ -274,6 +306,8 @@ impl Guarded {
             ties: loan.ties.to_vec(),
             calls: loan.calls.to_vec(),
             book: loan.book.to_vec(),
+            clique_coefs: loan.clique_coefs.to_vec(),
+            clique_rhs: loan.clique_rhs.to_vec(),
             answer: loan.answer.to_vec(),
         }
     }
@@ -323,6 +357,8 @@ impl fmt::Display for Difference {
         first(f, "ties", [&left.ties, &right.ties])?;
         first(f, "calls", [&left.calls, &right.calls])?;
         first(f, "book", [&left.book, &right.book])?;
+        first(f, "clique_coefs", [&left.clique_coefs, &right.clique_coefs])?;
+        first(f, "clique_rhs", [&left.clique_rhs, &right.clique_rhs])?;
         first(f, "answer", [&left.answer, &right.answer])?;
         if self.before.n * self.before.m <= 64 {
             writeln!(f, "  before: {:?}", self.before)?;

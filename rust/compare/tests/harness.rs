@@ -1,8 +1,11 @@
 //! The comparison itself, tried on the reference and on deliberately broken copies of it. No library
 //! is needed here.
 
+use std::collections::BTreeSet;
+
 use compare::lent::{Backend, Loan, Operation, Reference};
 use compare::suite::{self, Plan, SEED};
+use reference::cliques;
 use reference::row::{AT_MOST, EQUAL, Outcome, Row, RowPropagation};
 
 const PLAN: Plan = Plan { seed: SEED, first: 0, cases: 20_000 };
@@ -56,6 +59,8 @@ fn reborrow<'a>(loan: &'a mut Loan) -> Loan<'a> {
         ties: loan.ties,
         calls: loan.calls,
         book: loan.book,
+        clique_coefs: loan.clique_coefs,
+        clique_rhs: loan.clique_rhs,
         answer: loan.answer,
     }
 }
@@ -577,6 +582,90 @@ fn catches_each_length_told_wrong() {
             said
         });
     }
+}
+
+/// Spoils the clique rows that the reference wrote: of n variables and so many rows, their coefficients and
+/// right sides.
+fn clique_rows_are_caught(spoil: impl Fn(usize, usize, &mut [i32], &mut [i32])) {
+    is_caught(|operation, _, said, loan| {
+        if operation == Operation::Cliques && said == 0 {
+            let number = loan.answer[0] as usize;
+            spoil(loan.n, number, loan.clique_coefs, loan.clique_rhs);
+        }
+        said
+    });
+}
+
+#[test]
+fn catches_clique_rows_written_otherwise() {
+    // Right side 1 always; the rest of the list not zeroed; variables meant at 0 with +1; the first row last.
+    clique_rows_are_caught(|_, number, _, rhs| rhs[..number].fill(1));
+    clique_rows_are_caught(|_, number, _, rhs| rhs[number..].fill(7));
+    clique_rows_are_caught(|n, number, coefs, _| coefs[number * n..].fill(7));
+    clique_rows_are_caught(|_, _, coefs, _| coefs.iter_mut().for_each(|a| *a = a.abs()));
+    clique_rows_are_caught(|n, number, coefs, rhs| {
+        if number > 1 {
+            coefs[..number * n].rotate_left(n);
+            rhs[..number].rotate_left(1);
+        }
+    });
+    // One row fewer.
+    is_caught(|operation, _, said, loan| {
+        if operation == Operation::Cliques && said == 0 {
+            loan.answer[0] = loan.answer[0].saturating_sub(1);
+        }
+        said
+    });
+}
+
+/// Grows otherwise: `tried` says of a start and a literal whether it is tried at all, `least` is the size
+/// from which on a clique is written.
+fn growth_is_caught(tried: impl Fn(usize, usize) -> bool, least: usize, once: bool) {
+    is_caught(|operation, _, said, loan| {
+        if operation == Operation::Cliques && said == 0 {
+            let n = loan.n;
+            let mut found = Vec::new();
+            for start in 0..2 * n {
+                let mut taken = BTreeSet::from([start]);
+                for q in (0..2 * n).filter(|&q| tried(start, q)) {
+                    if taken.iter().all(|&p| cliques::joined(n, loan.table, p, q)) {
+                        taken.insert(q);
+                    }
+                }
+                let room = found.len() < 2 * n;
+                if taken.len() >= least && room && !(once && found.contains(&taken)) {
+                    found.push(taken);
+                }
+            }
+            loan.answer[0] = found.len() as u64;
+            for (i, clique) in found.iter().enumerate() {
+                let (coefs, rhs) = cliques::row(n, clique);
+                loan.clique_coefs[i * n..][..n].copy_from_slice(&coefs);
+                loan.clique_rhs[i] = rhs;
+            }
+        }
+        said
+    });
+}
+
+#[test]
+fn catches_cliques_grown_otherwise() {
+    // Literals below the start not tried; pairs written; a set written twice.
+    growth_is_caught(|start, q| q > start, 3, true);
+    growth_is_caught(|_, _| true, 2, true);
+    growth_is_caught(|_, _| true, 3, false);
+}
+
+#[test]
+#[should_panic(expected = "cuts off")]
+fn a_clique_row_that_both_sides_write_too_strong_is_seen_too() {
+    let strong = |operation: Operation, _: &Before, said: u32, loan: &mut Loan| {
+        if operation == Operation::Cliques && said == 0 {
+            loan.clique_rhs[..loan.answer[0] as usize].iter_mut().for_each(|b| *b -= 1);
+        }
+        said
+    };
+    suite::run(PLAN, &mut Broken(strong), &mut Broken(strong)).expect("the two agree");
 }
 
 #[test]

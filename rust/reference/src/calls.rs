@@ -1,4 +1,4 @@
-//! The fifteen calls as the C interface has them.
+//! The calls as the C interface has them.
 //!
 //! Each returns 0 or the number of the failed check, and writes its answer into twelve places, 0 into
 //! those that it does not use. On a refusal nothing is written. The length of `answer` is check 5, with
@@ -6,6 +6,7 @@
 #![allow(clippy::too_many_arguments)] // the interface is what it is
 
 use crate::checks::{self, Check};
+use crate::cliques as clique_rows;
 use crate::list;
 use crate::plan;
 use crate::probing::{self, Rest, Verdict};
@@ -336,6 +337,27 @@ pub fn plan_run(n: usize, bounds: &[i32], calls: &[u32], answer: &mut [u64]) -> 
         let beyond = records.len().saturating_sub(plan::MAX_RECORDS);
         check_bounds(n, bounds, &[(rest.len(), 0), (beyond, 0), (places_lent, ANSWER)])?;
         Ok(places([plan::width(bounds), plan::budget(bounds), plan::passes(bounds, records)]))
+    })
+}
+
+/// Writes the clique rows of the table into a lent list of 2n rows (02, C-12). It needs n and the table only.
+pub fn cliques(
+    n: usize,
+    table: &[u8],
+    clique_coefs: &mut [i32],
+    clique_rhs: &mut [i32],
+    answer: &mut [u64],
+) -> u32 {
+    reply(answer, |places_lent| {
+        checks::size(n, 0)?;
+        checks::lengths(&[
+            (table.len(), 4 * n * n),
+            (clique_coefs.len(), 2 * n * n),
+            (clique_rhs.len(), 2 * n),
+            (places_lent, ANSWER),
+        ])?;
+        checks::table(table)?;
+        Ok(places([clique_rows::write(n, table, clique_coefs, clique_rhs) as u64]))
     })
 }
 

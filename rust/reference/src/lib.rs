@@ -17,13 +17,15 @@
 //! | [`checks`] | Checks in their order; 02's new numbers in their places |
 //! | [`plan`] | size and passes told beforehand (02, C-17) |
 //! | [`ties`] | tied variables (02, C-19) |
-//! | [`calls`] | the fifteen calls as the C interface has them: a refusal number and twelve places of answer |
+//! | [`cliques`] | clique rows (02, C-12; 000, 2.2.2) |
+//! | [`calls`] | the calls as the C interface has them: a refusal number and twelve places of answer |
 //! | [`report`] | what `reduce` prints |
 
 pub mod book;
 pub mod bounds;
 pub mod calls;
 pub mod checks;
+pub mod cliques;
 pub mod list;
 pub mod plan;
 pub mod probing;

@@ -28,6 +28,8 @@ impl Backend for Native {
         let (ties, ties_len) = raw(loan.ties);
         let (calls, calls_len) = raw(loan.calls);
         let (book, book_len) = raw(loan.book);
+        let (clique_coefs, clique_coefs_len) = raw(loan.clique_coefs);
+        let (clique_rhs, clique_rhs_len) = raw(loan.clique_rhs);
         let (answer, answer_len) = raw(loan.answer);
         // SAFETY: each pointer and count is that of a slice of its own, or null and 0.
         unsafe {
@@ -75,6 +77,17 @@ impl Backend for Native {
                 }
                 Operation::PlanRun => ffi::astrolabe_plan_run(
                     n, bounds, bounds_len, calls, calls_len, answer, answer_len,
+                ),
+                Operation::Cliques => ffi::astrolabe_cliques(
+                    n,
+                    table,
+                    table_len,
+                    clique_coefs,
+                    clique_coefs_len,
+                    clique_rhs,
+                    clique_rhs_len,
+                    answer,
+                    answer_len,
                 ),
                 Operation::PlanLengths => {
                     ffi::astrolabe_plan_lengths(book, book_len, answer, answer_len)

@@ -1,0 +1,5 @@
+pub mod CliqueLaws
+pub mod CliqueRows
+pub mod FilledLaws
+pub mod CliqueRefusals
+pub mod CliqueBooks

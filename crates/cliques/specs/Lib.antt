@@ -1,0 +1,5 @@
+pub mod Cliques
+pub mod CliqueCall
+pub mod CliqueClaims
+pub mod CliqueRefusals
+pub mod CliqueBooks
