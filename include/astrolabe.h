@@ -389,11 +389,15 @@ uint32_t astrolabe_run(size_t n, size_t m,
 #define ASTROLABE_ROUNDS_UNCHANGED 1     /* the last round changed nothing */
 #define ASTROLABE_ROUNDS_LIMIT_REACHED 2 /* `limit` rounds are made and the last changed something, or limit is 0 */
 
+/* The limit that is none: the rounds of every model end below it. */
+#define ASTROLABE_NO_LIMIT UINT64_MAX
+
 /*
  * Makes the rounds of the program `reduce`: propagate with 1,000 passes; remove each redundant row;
  * tighten each row at each variable that is free then; probe each variable that is free then with 1,000
  * passes. It ends after a round that changed nothing, after `limit` rounds, or at infeasible. Any limit
- * is accepted (`reduce` itself has 8); with 0 no call is made at all.
+ * is accepted: `reduce` itself has ASTROLABE_NO_LIMIT, which is never reached, `reduce8` has 8; with 0 no
+ * call is made at all.
  *
  *     bounds, coefs, rhs, kinds, table   written   as the calls do; the table is kept and extended
  *     answer[0]   ASTROLABE_ROUNDS_..
@@ -407,7 +411,7 @@ uint32_t astrolabe_rounds(size_t n, size_t m,
                           int32_t *rhs, size_t rhs_len,
                           uint8_t *kinds, size_t kinds_len,
                           uint8_t *table, size_t table_len,
-                          uint32_t limit,
+                          uint64_t limit,
                           uint64_t *answer, size_t answer_len);
 
 /* ---------------------------------------------------------------------------------------------

@@ -21,7 +21,7 @@ use native::Native;
 const SEED: u64 = 1;
 
 /// The rounds that the program `reduce` makes at most.
-const LIMIT: u32 = 8;
+const LIMIT: u64 = 8;
 
 /// How many copies of a model are used between two resets at most: enough to bury the clock's own time.
 const COPIES: usize = 64;

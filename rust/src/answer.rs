@@ -96,11 +96,11 @@ pub enum Rest {
 #[derive(Clone, Copy, Debug, PartialEq, Eq, Hash)]
 pub enum Rounds {
     /// The model has no integer point; found in the last of these rounds (01's None).
-    Infeasible { rounds: u32 },
+    Infeasible { rounds: u64 },
     /// The last of these rounds changed nothing.
-    Unchanged { rounds: u32 },
+    Unchanged { rounds: u64 },
     /// The limit's rounds are made, and the last one changed something; or the limit is 0.
-    LimitReached { rounds: u32 },
+    LimitReached { rounds: u64 },
 }
 
 /// The library's contract has no other case.
@@ -108,8 +108,7 @@ fn no_such_case(case: u64) -> ! {
     unreachable!("the library answered case {case}, which its contract rules out")
 }
 
-/// Passes and rounds are at most a budget or a limit, which are `u32`; bounds moved are at most the width
-/// that is lost, 524,288.
+/// Passes are at most a budget, which is `u32`; bounds moved are at most the width that is lost, 524,288.
 fn count(value: u64) -> u32 {
     u32::try_from(value).expect("a count is within 32 bits by the library's contract")
 }
@@ -194,7 +193,6 @@ impl From<Places> for Counts {
 
 impl From<Places> for Rounds {
     fn from([case, rounds, ..]: Places) -> Self {
-        let rounds = count(rounds);
         match case {
             0 => Rounds::Infeasible { rounds },
             1 => Rounds::Unchanged { rounds },

@@ -154,7 +154,7 @@ unsafe extern "C" {
         kinds_len: usize,
         table: *mut u8,
         table_len: usize,
-        limit: u32,
+        limit: u64,
         answer: *mut u64,
         answer_len: usize,
     ) -> u32;

@@ -61,3 +61,5 @@ pub const MAX_WIDTH: i32 = 4_096;
 /// The largest budget. It is never spent: the widest box, 128 variables of 4,096, takes at most 524,289
 /// passes.
 pub const MAX_BUDGET: u32 = 8_388_481;
+/// The limit of [`Model::rounds`] that is none: the rounds of every model end below it.
+pub const NO_LIMIT: u64 = u64::MAX;

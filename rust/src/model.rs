@@ -497,7 +497,8 @@ impl Model {
     }
 
     /// Makes the rounds of the program `reduce`: propagate, remove redundant rows, tighten, probe; until
-    /// a round changes nothing, `limit` rounds are made, or the model is infeasible.
+    /// a round changes nothing, `limit` rounds are made, or the model is infeasible. [`NO_LIMIT`](crate::NO_LIMIT)
+    /// is never reached: the rounds of every model end below it.
     ///
     /// ```
     /// use astrolabe::{Model, Rounds};
@@ -507,7 +508,7 @@ impl Model {
     /// assert_eq!((model.coefs(), model.rhs()), (&[1, 1][..], &[1][..])); // x + y ≤ 1
     /// # Ok::<(), astrolabe::Refusal>(())
     /// ```
-    pub fn rounds(&mut self, limit: u32) -> Result<Rounds, Refusal> {
+    pub fn rounds(&mut self, limit: u64) -> Result<Rounds, Refusal> {
         call!(
             self.astrolabe_rounds,
             as_mut_ptr,

@@ -28,6 +28,7 @@ fn parameter_from_c(text: &str) -> String {
         "const uint8_t *" => "*const u8",
         "uint16_t *" => "*mut u16",
         "uint64_t *" => "*mut u64",
+        "uint64_t" => "u64",
         other => panic!("{other} is no type of the interface"),
     };
     format!("{name}: {rust}")
@@ -92,6 +93,7 @@ fn the_header_has_the_limits_and_numbers_of_the_wrapper() {
     assert_eq!(defined("ANSWER_LEN"), astrolabe::ffi::ANSWER_LEN.to_string());
     assert_eq!(defined("MAX_PLANNED_RECORDS"), astrolabe::plan::MAX_RECORDS.to_string());
     assert_eq!(defined("MAX_BUDGET"), astrolabe::MAX_BUDGET.to_string());
+    assert_eq!((defined("NO_LIMIT"), astrolabe::NO_LIMIT), ("UINT64_MAX", u64::MAX));
     assert_eq!(defined("REFUSED_BUDGET"), Refusal::BudgetOutOfRange.check().to_string());
     assert_eq!(defined("REFUSED_ROW_KIND"), Refusal::RowKind.check().to_string());
     assert_eq!(defined("REFUSED_EQUALITY_ROW"), Refusal::EqualityRow.check().to_string());

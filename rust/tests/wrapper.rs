@@ -62,7 +62,7 @@ fn rounds(answer: Rounds) -> [u64; 2] {
         Rounds::Unchanged { rounds } => (1, rounds),
         Rounds::LimitReached { rounds } => (2, rounds),
     };
-    [case, rounds.into()]
+    [case, rounds]
 }
 
 fn rest(a: Rest) -> [u64; 3] {
@@ -155,7 +155,7 @@ fn methods_say_what_the_calls_say() {
                 Call { kind: 6, row, variable, budget },
             ];
             lent.calls = list.iter().flat_map(|c| [c.kind, c.row, c.variable, c.budget]).collect();
-            let [on_model @ .., _, _, _, _] = Operation::each(row, variable, budget, budget);
+            let [on_model @ .., _, _, _, _] = Operation::each(row, variable, budget, budget.into());
             let operation = rng.pick(&on_model);
             assert_eq!(
                 call(&mut model, &mut ties, operation, &list),

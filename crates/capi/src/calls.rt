@@ -228,7 +228,7 @@ pub extern "C" fn astrolabe_rounds(
     rhs: &mut [i32],
     kinds: &mut [u8],
     table: &mut [u8],
-    limit: u32,
+    limit: u64,
     answer: &mut [u64],
 ) -> u32
     ensures { λ r.

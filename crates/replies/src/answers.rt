@@ -109,9 +109,9 @@ pub fn rounds_reply(a: RoundsAnswer) -> Reply
 {
     match a {
         RoundsAnswer::Refused(number) => Reply::Refused(number),
-        RoundsAnswer::Infeasible(made) => Reply::Numbers(0, made as u64, 0, 0),
-        RoundsAnswer::NothingChanged(made) => Reply::Numbers(1, made as u64, 0, 0),
-        RoundsAnswer::AtLimit(made) => Reply::Numbers(2, made as u64, 0, 0),
+        RoundsAnswer::Infeasible(made) => Reply::Numbers(0, made, 0, 0),
+        RoundsAnswer::NothingChanged(made) => Reply::Numbers(1, made, 0, 0),
+        RoundsAnswer::AtLimit(made) => Reply::Numbers(2, made, 0, 0),
     }
 }
 

@@ -13,7 +13,7 @@ use Rattle.integer.specs.Order.{eqZ}
 use Rattle.model.specs.Box.{at, lower, upper}
 use Rattle.model.specs.Limits.{maxRows, maxVariables}
 use Rattle.model.specs.Rows.{rowOf}
-use Rattle.text.specs.Fields.{field, fields, maxField}
+use Rattle.text.specs.Fields.{field, fields, maxField, maxLongField}
 use Rattle.text.specs.Text.{texts, then}
 
 -- ---- the lines
@@ -86,7 +86,7 @@ lineAt n m rounds B C R t =
 
 -- the bytes of any line but a row's, of a row's line with n coefficients, of any line
 abbrev pub maxShortLine : ℕ
-maxShortLine = 2 + maxField * 4
+maxShortLine = 8 + maxField * 2 + maxLongField
 
 abbrev pub maxRowLine : ℕ → ℕ
 maxRowLine n = 2 + maxField * (2 + n)

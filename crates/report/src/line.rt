@@ -8,6 +8,7 @@ ghost use Rattle.text.specs.Text.{Wrote};
 use text::number::write_byte;
 use text::number::write_integer;
 use text::number::write_integers;
+use text::number::write_long;
 use text::number::write_natural;
 use text::number::write_text;
 
@@ -33,7 +34,7 @@ pub fn write_none(buf: &mut [u8], at: usize) -> usize
 }
 
 // reduced n m rounds
-pub fn write_reduced(n: u32, m: u32, rounds: u32, buf: &mut [u8], at: usize) -> usize
+pub fn write_reduced(n: u32, m: u32, rounds: u64, buf: &mut [u8], at: usize) -> usize
     requires { ⌜ at + maxShortLine ≤ length (now buf) ⌝ }
     ensures text { λ r. ⌜ Wrote (now (buf .entry)) at (reducedLine n m rounds) r (now (buf .exit)) ⌝ }
     ensures room { λ r. ⌜ r ≤ at + maxShortLine ⌝ }
@@ -41,7 +42,7 @@ pub fn write_reduced(n: u32, m: u32, rounds: u32, buf: &mut [u8], at: usize) -> 
     let word = write_text(b"reduced", buf, at);
     let variables = write_natural(n, buf, word);
     let rows = write_natural(m, buf, variables);
-    let end = write_natural(rounds, buf, rows);
+    let end = write_long(rounds, buf, rows);
     write_byte(b'\n', buf, end)
 }
 

@@ -60,7 +60,7 @@ fn write_implication_at(n: usize, table: &[u8], i: usize, buf: &mut [u8], at: us
 fn write_line(
     n: usize,
     m: usize,
-    rounds: u32,
+    rounds: u64,
     bounds: &[i32],
     coefs: &[i32],
     rhs: &[i32],
@@ -125,7 +125,7 @@ fn next_line(first: usize, table: &[u8], i: usize) -> usize
 pub fn fill(
     n: usize,
     m: usize,
-    rounds: u32,
+    rounds: u64,
     bounds: &[i32],
     coefs: &[i32],
     rhs: &[i32],

@@ -1,2 +1,3 @@
 pub mod RoundsLaws
 pub mod RoundsAnswers
+pub mod NoLimit

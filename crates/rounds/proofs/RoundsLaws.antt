@@ -21,8 +21,10 @@ use Rattle.semantics.proofs.Demand2.{no-point}
 use Rattle.semantics.proofs.ImplicationLaws.{zeros-hold}
 use Rattle.semantics.proofs.Preserved.{run-preserves}
 use Rattle.round.specs.Round.{anyChange, round}
+use Rattle.rounds.specs.NoLimit.{NeverAtLimit, NotReached}
 use Rattle.rounds.specs.Rounds.{Rounds, RoundsAnswer, RoundsEnding, RoundsRun, SamePoints, after, atLimit, ended, infeasible, nothingChanged, refusedRounds, roundsFault, roundsFrom, runRounds}
 use Rattle.round.proofs.RoundLaws.{Leads, leads-valid, run-append}
+use Rattle.rounds.proofs.NoLimit.{never-at-limit}
 
 -- no further call: they end with e after k rounds
 unfoldable pub halt : RoundsEnding → ℕ → Rounds
@@ -152,10 +154,11 @@ rounds-mean limit s =
 
 module _ (limit : ℕ) (s : State) where
   abbrev pub Answers : RoundsAnswer → State → Type 0
-  Answers a t = (a ≡ runRounds limit s .answer) × ((t ≡ run s (runRounds limit s .calls)) × SamePoints s t a)
+  Answers a t = (a ≡ runRounds limit s .answer) × ((t ≡ run s (runRounds limit s .calls)) × (SamePoints s t a × NotReached limit a))
 
   answers : {a : RoundsAnswer} {t : State} → a ≡ runRounds limit s .answer → t ≡ run s (runRounds limit s .calls) → Answers a t
-  answers e f = (e, (f, rw (e, f) (rounds-mean limit s)))
+  unfolding NeverAtLimit
+  answers e f = (e, (f, (rw (e, f) (rounds-mean limit s), rw e (record { ends = never-at-limit limit s }))))
 
   pub refuses : {number : ℕ} → number ≡ roundsFault s → (number ≡ 0 → ⊥) → Answers (refusedRounds number) s
   unfolding runRounds run

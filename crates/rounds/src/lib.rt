@@ -6,15 +6,19 @@ ghost use Rattle.semantics.specs.Run.{run as ran};
 ghost use Rattle.model.specs.Rows.{rowsOf};
 ghost use Rattle.model.specs.State.{stateOf};
 ghost use Rattle.rounds.specs.Answers.{roundsAnswer};
+ghost use Rattle.rounds.specs.NoLimit.{NotReached};
 ghost use Rattle.rounds.specs.Rounds.{SamePoints, runRounds};
+
+// The limit that is none: it is never reached, since every model's rounds end below it (`unreached`).
+pub const NO_LIMIT: u64 = 18_446_744_073_709_551_615;
 
 // How the rounds ended, with the number of rounds made: refused N; at None; after a round that changed nothing; at
 // the limit.
 pub enum RoundsAnswer {
     Refused(u32),
-    Infeasible(u32),
-    NothingChanged(u32),
-    AtLimit(u32),
+    Infeasible(u64),
+    NothingChanged(u64),
+    AtLimit(u64),
 }
 
 // Makes rounds until one changes nothing, the box is empty or `limit` rounds are made. Refused by the model's
@@ -27,7 +31,7 @@ pub fn run(
     rhs: &mut [i32],
     kinds: &mut [u8],
     table: &mut [u8],
-    limit: u32,
+    limit: u64,
 ) -> RoundsAnswer
     ensures answer { λ r.
         let A = rowsOf (now (coefs .entry)) (now (rhs .entry)) (now (kinds .entry)) in
@@ -45,12 +49,13 @@ pub fn run(
         let s = stateOf n m (now (bounds .entry)) A (now (table .entry)) in
         let r' = stateOf n m (now (bounds .exit)) A' (now (table .exit)) in
         ⌜ SamePoints s r' (roundsAnswer r) ⌝ }
+    ensures unreached { λ r. ⌜ NotReached limit (roundsAnswer r) ⌝ }
 {
     let fault = model::model_table_fault(n, m, bounds, coefs, rhs, kinds, table, true);
     if fault != 0 {
         return RoundsAnswer::Refused(fault);
     }
-    let mut made: u32 = 0;
+    let mut made: u64 = 0;
     while made < limit {
         made += 1;
         let changed = round(n, m, bounds, coefs, rhs, kinds, table);

@@ -156,7 +156,7 @@ module _ (s : State) (c : Call) where
         let g = p .inside .low (c .variable) known in let h = p .inside .high (c .variable) known in
         recordTo-holds (s .model .n) (c .variable) x known (omega zarith) (omega zarith) (s .model .box) _ _ (s .table) (on-side x p 0) (on-side x p 1) i)
 
-    probe-box : Narrower (s .model .n) (probe (c .variable) (c .budget) (s .model .n) (s .model .m) (s .model .rows) (s .model .box) (s .table) .box) (s .model .box)
+    pub probe-box : Narrower (s .model .n) (probe (c .variable) (c .budget) (s .model .n) (s .model .m) (s .model .rows) (s .model .box) (s .table) .box) (s .model .box)
     probe-box = ⊎-elim
         (λ (e : s .model .box ≡ emptyBox (s .model .n)). inl (rw (e, probe-empty (c .variable) (c .budget) (s .model .n) (s .model .m) (s .model .rows) (s .table))))
         (probe-narrower (c .variable) (c .budget) (s .model .m) (s .model .rows) (s .table) free)

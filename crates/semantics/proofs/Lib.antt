@@ -21,3 +21,5 @@ pub mod Demand3
 pub mod ClassLaws
 pub mod CallLists
 pub mod Passes
+pub mod Measure
+pub mod MeasureCorners

@@ -16,7 +16,9 @@ pub mod TwoRuns
 pub mod CallList
 pub mod TwoLists
 pub mod Passes
+pub mod Measure
 pub mod Books
 pub mod WorkedBooks
 pub mod Corners
 pub mod PassesCorners
+pub mod MeasureCorners

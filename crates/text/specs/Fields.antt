@@ -17,3 +17,7 @@ fields xs = texts (length xs) (λ j. field (at xs j))
 -- the bytes of a number of 32 bits after its space
 abbrev pub maxField : ℕ
 maxField = 12
+
+-- of one of 64 bits
+abbrev pub maxLongField : ℕ
+maxLongField = 21

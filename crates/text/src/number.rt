@@ -5,7 +5,7 @@ ghost use Prim.Native.Nat.{_+_, _*_, _≤_, _<_};
 ghost use lib.IntN.{natAbs, pos};
 ghost use lib.ListN.{length};
 ghost use Rattle.text.specs.Decimal.{decimal};
-ghost use Rattle.text.specs.Fields.{field, fields, maxField};
+ghost use Rattle.text.specs.Fields.{field, fields, maxField, maxLongField};
 ghost use Rattle.text.specs.Text.{Wrote};
 
 pub fn write_byte(b: u8, buf: &mut [u8], at: usize) -> usize
@@ -17,7 +17,7 @@ pub fn write_byte(b: u8, buf: &mut [u8], at: usize) -> usize
 }
 
 // The digits of x: those of x / 10, and the last one.
-fn write_digits(x: u32, buf: &mut [u8], at: usize) -> usize
+fn write_digits(x: u64, buf: &mut [u8], at: usize) -> usize
     requires { ⌜ at + length (decimal x) ≤ length (now buf) ⌝ }
     ensures { λ r. ⌜ Wrote (now (buf .entry)) at (decimal x) r (now (buf .exit)) ⌝ }
 {
@@ -45,6 +45,16 @@ pub fn write_natural(x: u32, buf: &mut [u8], at: usize) -> usize
     ensures room { λ r. ⌜ r ≤ at + maxField ⌝ }
 {
     let start = write_byte(b' ', buf, at);
+    write_digits(x as u64, buf, start)
+}
+
+// A natural number of 64 bits after one space.
+pub fn write_long(x: u64, buf: &mut [u8], at: usize) -> usize
+    requires { ⌜ at + maxLongField ≤ length (now buf) ⌝ }
+    ensures text { λ r. ⌜ Wrote (now (buf .entry)) at (field (pos x)) r (now (buf .exit)) ⌝ }
+    ensures room { λ r. ⌜ r ≤ at + maxLongField ⌝ }
+{
+    let start = write_byte(b' ', buf, at);
     write_digits(x, buf, start)
 }
 
@@ -57,9 +67,9 @@ pub fn write_integer(z: i32, buf: &mut [u8], at: usize) -> usize
     let start = write_byte(b' ', buf, at);
     if z < 0 {
         let first = write_byte(b'-', buf, start);
-        return write_digits(magnitude(z), buf, first);
+        return write_digits(magnitude(z) as u64, buf, first);
     }
-    write_digits(magnitude(z), buf, start)
+    write_digits(magnitude(z) as u64, buf, start)
 }
 
 // Whole numbers, each after one space.

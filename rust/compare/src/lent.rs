@@ -87,7 +87,7 @@ pub enum Operation {
     RemoveRedundantRow { row: u32 },
     IsProbingFixpoint,
     Run,
-    Rounds { limit: u32 },
+    Rounds { limit: u64 },
     Tie { k: u32, j: u32 },
     PlanWidth,
     PlanRun,
@@ -101,7 +101,7 @@ pub enum Operation {
 impl Operation {
     /// Each of the sixteen with these numbers, where it has them: first the nine on a model, then the three
     /// that tell beforehand with the clique rows among them, and the three on books.
-    pub fn each(row: u32, variable: u32, budget: u32, limit: u32) -> [Operation; 16] {
+    pub fn each(row: u32, variable: u32, budget: u32, limit: u64) -> [Operation; 16] {
         [
             Operation::PropagateRow { row },
             Operation::Propagate { budget },

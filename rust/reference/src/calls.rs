@@ -258,16 +258,16 @@ pub fn rounds(
     rhs: &mut [i32],
     kinds: &mut [u8],
     table: &mut [u8],
-    limit: u32,
+    limit: u64,
     answer: &mut [u64],
 ) -> u32 {
     reply(answer, |places_lent| {
         check_model(n, m, bounds, coefs, rhs, kinds, Some(table), &[(places_lent, ANSWER)])?;
         let mut state = State { n, bounds, coefs, rhs, kinds, table };
         Ok(match rounds::rounds(&mut state, limit) {
-            Rounds::Infeasible(made) => places([0, made.into()]),
-            Rounds::Unchanged(made) => places([1, made.into()]),
-            Rounds::LimitReached(made) => places([2, made.into()]),
+            Rounds::Infeasible(made) => places([0, made]),
+            Rounds::Unchanged(made) => places([1, made]),
+            Rounds::LimitReached(made) => places([2, made]),
         })
     })
 }

@@ -1,4 +1,4 @@
-//! What the program `reduce` prints for what it reads.
+//! What the programs `reduce` and `reduce8` print for what they read.
 
 use std::fmt::Write;
 
@@ -6,12 +6,15 @@ use crate::rounds::{Rounds, rounds};
 use crate::row::{AT_MOST, Row};
 use crate::{State, book, checks};
 
-/// The rounds that `reduce` makes at most.
-const LIMIT: u32 = 8;
+/// The limit of `reduce`: none (02, C-20).
+pub const NO_LIMIT: u64 = u64::MAX;
 
-/// The output for a book on standard input.
-pub fn reduce(input: &[u8]) -> String {
-    match reduced(input) {
+/// The rounds that `reduce8` makes at most.
+pub const EIGHT: u64 = 8;
+
+/// The output for a book on standard input, with at most `limit` rounds.
+pub fn reduce(input: &[u8], limit: u64) -> String {
+    match reduced(input, limit) {
         Err(check) => format!("refused {check}\n"),
         Ok(None) => "none\n".to_string(),
         Ok(Some(text)) => text,
@@ -19,7 +22,7 @@ pub fn reduce(input: &[u8]) -> String {
 }
 
 /// `None` where the model is infeasible.
-fn reduced(input: &[u8]) -> Result<Option<String>, u32> {
+fn reduced(input: &[u8], limit: u64) -> Result<Option<String>, u32> {
     let (n, m) = book::size(input)?;
     let (mut bounds, mut coefs, mut rhs) = book::numbers(input, n, m);
     checks::numbers(&bounds, &coefs, &rhs)?;
@@ -32,13 +35,13 @@ fn reduced(input: &[u8]) -> Result<Option<String>, u32> {
         kinds: &mut kinds,
         table: &mut table,
     };
-    Ok(match rounds(&mut state, LIMIT) {
+    Ok(match rounds(&mut state, limit) {
         Rounds::Infeasible(_) => None,
         Rounds::Unchanged(made) | Rounds::LimitReached(made) => Some(print(&state, made)),
     })
 }
 
-fn print(state: &State, rounds: u32) -> String {
+fn print(state: &State, rounds: u64) -> String {
     let (n, m) = (state.n, state.rhs.len());
     let mut out = format!("reduced {n} {m} {rounds}\n");
     for (j, pair) in state.bounds.chunks_exact(2).enumerate() {

@@ -12,15 +12,15 @@ const BUDGET: u32 = 1_000;
 #[derive(Clone, Copy, Debug, PartialEq, Eq)]
 pub enum Rounds {
     /// 01's None.
-    Infeasible(u32),
+    Infeasible(u64),
     /// The last round changed nothing.
-    Unchanged(u32),
+    Unchanged(u64),
     /// The last allowed round still changed a number, or no round was allowed.
-    LimitReached(u32),
+    LimitReached(u64),
 }
 
 /// Makes rounds until one changes nothing, the model is infeasible, or `limit` rounds are made.
-pub fn rounds(state: &mut State, limit: u32) -> Rounds {
+pub fn rounds(state: &mut State, limit: u64) -> Rounds {
     for made in 1..=limit {
         let before = state.snapshot();
         if !round(state) {

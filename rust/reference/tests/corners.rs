@@ -388,7 +388,7 @@ fn rounds_and_their_limit() {
     assert_eq!(model.clone().rounds(2), ok(&[1, 2]));
     assert_eq!(model.clone().rounds(1), ok(&[2, 1]));
     assert_eq!(model.clone().rounds(0), ok(&[2, 0]));
-    assert_eq!(model.clone().rounds(u32::MAX), ok(&[1, 2]));
+    assert_eq!(model.clone().rounds(u64::MAX), ok(&[1, 2]));
     let mut none = Model::binary(1, &[(&[1], -1)]);
     assert_eq!(none.rounds(1), ok(&[0, 1]));
     assert_eq!(none.rounds(0), ok(&[2, 0]));
@@ -404,7 +404,8 @@ fn rounds_and_their_limit() {
 
 #[test]
 fn reduce_prints_none_and_refusals() {
-    use reference::report::reduce;
+    use reference::report;
+    let reduce = |book: &[u8]| report::reduce(book, report::NO_LIMIT);
     assert_eq!(reduce(&[]), "refused 1\n");
     assert_eq!(reduce(&[0; 16]), "refused 2\n");
     assert_eq!(reduce(&Model::binary(1, &[(&[1], -1)]).book()), "none\n");

@@ -181,7 +181,7 @@ fn the_book_of_44_bytes() {
     assert_eq!(book.len(), 44);
     assert_eq!(book[28..], [0, 0, 0, 0, 16, 0, 0, 0, 2, 0, 1, 0, 44, 0, 0, 0]);
     let expected = "reduced 2 1 2\nv 0 0 1\nv 1 0 1\nr 0 1 1 1\ni 0 1 1 0\ni 1 1 0 0\n";
-    assert_eq!(reference::report::reduce(&book), expected);
+    assert_eq!(reference::report::reduce(&book, reference::report::NO_LIMIT), expected);
 }
 
 #[test]

@@ -139,7 +139,7 @@ impl Model {
         })
     }
 
-    pub fn rounds(&mut self, limit: u32) -> Said {
+    pub fn rounds(&mut self, limit: u64) -> Said {
         self.call(|s, answer| {
             let (bounds, coefs, rhs) = (&mut s.bounds, &mut s.coefs, &mut s.rhs);
             calls::rounds(s.n, s.m, bounds, coefs, rhs, &mut s.kinds, &mut s.table, limit, answer)

@@ -11,20 +11,11 @@ enum-known-a c = search needs
 enum-known-a-2 : tie.Need-enum-known-a-2
 enum-known-a-2 c = search needs
 
-cast-t7 : tie.Need-cast-t7
-cast-t7 c = search needs
-
 enum-known-a-3 : tie.Need-enum-known-a-3
 enum-known-a-3 c = search needs
 
-cast-t8 : tie.Need-cast-t8
-cast-t8 c = search needs
-
 enum-known-a-4 : tie.Need-enum-known-a-4
 enum-known-a-4 c = search needs
-
-cast-t9 : tie.Need-cast-t9
-cast-t9 c = search needs
 
 returns : tie.Need-returns
 unfolding roundsReply roundsAnswer roundsCase replyOf
@@ -48,11 +39,8 @@ rounds-reply-spec =
     (tie.spec
     enum-known-a
     enum-known-a-2
-    cast-t7
     enum-known-a-3
-    cast-t8
     enum-known-a-4
-    cast-t9
     returns
     returns-2
     returns-3

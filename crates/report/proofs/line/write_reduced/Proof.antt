@@ -18,8 +18,8 @@ write-natural-requires c κs = search needs
 write-natural-requires-2 : tie.Need-write-natural-requires-2
 write-natural-requires-2 c κs = search needs
 
-write-natural-requires-3 : tie.Need-write-natural-requires-3
-write-natural-requires-3 c κs = search needs
+write-long-requires : tie.Need-write-long-requires
+write-long-requires c κs = search needs
 
 write-byte-requires : tie.Need-write-byte-requires
 write-byte-requires c κs = search needs
@@ -35,7 +35,7 @@ returns c =
     let w3 = w4 .before .before .before .before in
     let w2 = w3 .before .before .before .before in
     let w1 = w2 .before .before .before .before in
-    (w1 .write-text .ensures ⨾ w2 .write-natural .ensures .0 ⨾ w3 .write-natural2 .ensures .0 ⨾ w4 .write-natural3 .ensures .0 ⨾ w5 .write-byte .ensures, omega arith)
+    (w1 .write-text .ensures ⨾ w2 .write-natural .ensures .0 ⨾ w3 .write-natural2 .ensures .0 ⨾ w4 .write-long .ensures .0 ⨾ w5 .write-byte .ensures, omega arith)
 
 pub write-reduced-spec : {M : Type 1} → statement M
 write-reduced-spec =
@@ -45,7 +45,7 @@ write-reduced-spec =
     write-text-requires
     write-natural-requires
     write-natural-requires-2
-    write-natural-requires-3
+    write-long-requires
     write-byte-requires
     same-length
     returns)

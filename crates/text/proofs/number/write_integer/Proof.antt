@@ -20,6 +20,9 @@ write-byte-requires-2 c κs = search needs
 magnitude-requires : tie.Need-magnitude-requires
 magnitude-requires c κs = search needs
 
+cast-write-digits : tie.Need-cast-write-digits
+cast-write-digits c = search needs
+
 write-digits-requires : tie.Need-write-digits-requires
 write-digits-requires c κs = omega (arith, decimal-length 9 (c .before .magnitude .result) (omega arith))
 
@@ -39,6 +42,9 @@ returns c =
 
 magnitude-requires-2 : tie.Need-magnitude-requires-2
 magnitude-requires-2 c κs = search needs
+
+cast-write-digits-2 : tie.Need-cast-write-digits-2
+cast-write-digits-2 c = search needs
 
 write-digits-requires-2 : tie.Need-write-digits-requires-2
 write-digits-requires-2 c κs = omega (arith, decimal-length 9 (c .before .magnitude2 .result) (omega arith))
@@ -64,10 +70,12 @@ write-integer-spec =
     write-byte-requires
     write-byte-requires-2
     magnitude-requires
+    cast-write-digits
     write-digits-requires
     same-length
     returns
     magnitude-requires-2
+    cast-write-digits-2
     write-digits-requires-2
     same-length-2
     returns-2)

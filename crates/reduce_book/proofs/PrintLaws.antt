@@ -1,0 +1,27 @@
+-- Laws of what is printed: of a text that stands in a buffer each byte, and of a report each chunk after the other.
+use Prim.Native.Nat.{_+_, _≤_, ℕ}
+use lib.ListN.{length, length-append, take}
+use lib.Seq.{length-take-le}
+use mathlib.Core.List.{List}
+use mathlib.Core.Path.{_∙_, _≡_, ap, sym}
+use native.Mathlib.Omega.{arith}
+use Rattle.model.specs.Limits.{maxRows, maxVariables}
+use Rattle.report.specs.Report.{lineCount}
+use Rattle.text.specs.Text.{Wrote, chunk}
+use Rattle.text.proofs.TextLaws.{chunk-chunk, wrote-length}
+use Rattle.reduce_book.proofs.ReductionLaws.{table-fits}
+
+-- the part of a buffer up to the end of a text is as long as the text
+pub written-length : {old text new : List ℕ} {end : ℕ} → Wrote old 0 text end new → length (take end new) ≡ length text
+written-length {old} {text} {new} {end} w =
+    let l : end ≤ length new = omega (arith, w .fits, wrote-length w) in
+    length-take-le end new l ∙ omega (arith, w .end)
+
+-- the chunks up to a and from there to b
+pub chunks-length : (f : ℕ → List ℕ) (a b : ℕ) → a ≤ b → length (chunk f 0 a) + length (chunk f a b) ≡ length (chunk f 0 b)
+chunks-length f a b h = sym (length-append (chunk f 0 a) (chunk f a b)) ∙ ap length (chunk-chunk f 0 a b (omega arith) h)
+
+-- a report has few lines
+pub lines-few : {n m : ℕ} → n ≤ maxVariables → m ≤ maxRows → lineCount n m ≤ 65_785
+unfolding lineCount
+lines-few few fewRows = omega (arith, table-fits few fewRows)

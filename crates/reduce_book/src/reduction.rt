@@ -1,0 +1,59 @@
+// From a book to an answer, in memory: the text of the answer is `output` of the book.
+use book::SizesAnswer;
+use book::reading::read;
+use rounds::RoundsAnswer;
+ghost use mathlib.Core.Path.{_≡_};
+ghost use Rattle.model.specs.Rows.{rowsOf};
+ghost use Rattle.model.specs.State.{State};
+ghost use Rattle.rounds.specs.Answers.{roundsAnswer};
+ghost use Rattle.reduce_book.specs.Answers.{Ready, answerText};
+ghost use Rattle.reduce_book.specs.Meaning.{OutputMeans};
+ghost use Rattle.reduce_book.specs.Output.{output, textOf};
+
+pub enum Answer {
+    // By the number of the first check that fails.
+    Refused(u32),
+    Infeasible,
+    // After so many rounds.
+    Reduced(u64),
+}
+
+fn answer_of(rounds: RoundsAnswer) -> Answer
+    ensures { λ r.
+        ⌜ ((s : State) →
+        answerText r (s .model .n) (s .model .m)
+        (s .model .box) (s .model .rows .coefs) (s .model .rows .rhs) (s .table) ≡
+        textOf (roundsAnswer rounds) s) ⌝ }
+{
+    match rounds {
+        RoundsAnswer::Refused(number) => Answer::Refused(number),
+        RoundsAnswer::Infeasible(_) => Answer::Infeasible,
+        RoundsAnswer::NothingChanged(made) => Answer::Reduced(made),
+        RoundsAnswer::AtLimit(made) => Answer::Reduced(made),
+    }
+}
+
+// Reads the book into the lent buffers and makes at most `limit` rounds there. `meaning`: what `output` of
+// the book means for its points.
+pub fn solve(
+    n: usize,
+    m: usize,
+    book: &[u8],
+    bounds: &mut [i32],
+    coefs: &mut [i32],
+    rhs: &mut [i32],
+    kinds: &mut [u8],
+    table: &mut [u8],
+    limit: u64,
+) -> Answer
+    requires { ⌜ Ready n m (now book) (now bounds) (rowsOf (now coefs) (now rhs) (now kinds)) (now table) ⌝ }
+    ensures text { λ r.
+        ⌜ answerText r n m (now (bounds .exit)) (now (coefs .exit)) (now (rhs .exit)) (now (table .exit)) ≡
+        output limit (now (book .entry)) ⌝ }
+    ensures meaning { λ r. ⌜ OutputMeans limit (now (book .entry)) ⌝ }
+{
+    if let SizesAnswer::Refused(number) = read(book, bounds, coefs, rhs, kinds) {
+        return Answer::Refused(number);
+    }
+    answer_of(rounds::run(n, m, bounds, coefs, rhs, kinds, table, limit))
+}
