@@ -402,6 +402,10 @@ uint32_t astrolabe_run(size_t n, size_t m,
  *     bounds, coefs, rhs, kinds, table   written   as the calls do; the table is kept and extended
  *     answer[0]   ASTROLABE_ROUNDS_..
  *     answer[1]   the rounds made, the last one included
+ *     answer[2]   1 if the budget of a side of a probe in the last round was spent, else 0
+ *
+ * With ASTROLABE_ROUNDS_UNCHANGED and answer[2] 0 the model is at rest: astrolabe_is_probing_fixpoint
+ * says yes.
  *
  * Refused by 3 5 6 7 23 8 9 16 10, in this order.
  */

@@ -92,15 +92,17 @@ pub enum Rest {
     NoByVariable(u32),
 }
 
-/// How the rounds ended.
+/// How the rounds ended, how many were made, and whether the budget of a probe's side was spent in the last
+/// of them.
 #[derive(Clone, Copy, Debug, PartialEq, Eq, Hash)]
 pub enum Rounds {
     /// The model has no integer point; found in the last of these rounds (01's None).
-    Infeasible { rounds: u64 },
-    /// The last of these rounds changed nothing.
-    Unchanged { rounds: u64 },
+    Infeasible { rounds: u64, spent: bool },
+    /// The last of these rounds changed nothing. Where no side was spent in it, the model is at rest:
+    /// [`Model::is_probing_fixpoint`](crate::Model::is_probing_fixpoint) says yes.
+    Unchanged { rounds: u64, spent: bool },
     /// The limit's rounds are made, and the last one changed something; or the limit is 0.
-    LimitReached { rounds: u64 },
+    LimitReached { rounds: u64, spent: bool },
 }
 
 /// The library's contract has no other case.
@@ -192,11 +194,12 @@ impl From<Places> for Counts {
 }
 
 impl From<Places> for Rounds {
-    fn from([case, rounds, ..]: Places) -> Self {
+    fn from([case, rounds, spent, ..]: Places) -> Self {
+        let spent = spent == 1;
         match case {
-            0 => Rounds::Infeasible { rounds },
-            1 => Rounds::Unchanged { rounds },
-            2 => Rounds::LimitReached { rounds },
+            0 => Rounds::Infeasible { rounds, spent },
+            1 => Rounds::Unchanged { rounds, spent },
+            2 => Rounds::LimitReached { rounds, spent },
             case => no_such_case(case),
         }
     }

@@ -504,7 +504,7 @@ impl Model {
     /// use astrolabe::{Model, Rounds};
     ///
     /// let mut model = Model::new(vec![0, 1, 0, 1], vec![3, 2], vec![4])?; // 3x + 2y ≤ 4
-    /// assert_eq!(model.rounds(8)?, Rounds::Unchanged { rounds: 2 });
+    /// assert_eq!(model.rounds(8)?, Rounds::Unchanged { rounds: 2, spent: false });
     /// assert_eq!((model.coefs(), model.rhs()), (&[1, 1][..], &[1][..])); // x + y ≤ 1
     /// # Ok::<(), astrolabe::Refusal>(())
     /// ```

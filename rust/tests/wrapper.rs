@@ -56,13 +56,13 @@ fn probe(answer: Probe) -> [u64; 8] {
     [case, value, passes0, spent0, moved0, passes1, spent1, moved1]
 }
 
-fn rounds(answer: Rounds) -> [u64; 2] {
-    let (case, rounds) = match answer {
-        Rounds::Infeasible { rounds } => (0, rounds),
-        Rounds::Unchanged { rounds } => (1, rounds),
-        Rounds::LimitReached { rounds } => (2, rounds),
+fn rounds(answer: Rounds) -> [u64; 3] {
+    let (case, rounds, spent) = match answer {
+        Rounds::Infeasible { rounds, spent } => (0, rounds, spent),
+        Rounds::Unchanged { rounds, spent } => (1, rounds, spent),
+        Rounds::LimitReached { rounds, spent } => (2, rounds, spent),
     };
-    [case, rounds]
+    [case, rounds, spent.into()]
 }
 
 fn rest(a: Rest) -> [u64; 3] {
@@ -409,7 +409,7 @@ fn equality_rows() {
     assert_eq!(model.is_probing_fixpoint(), Ok(Rest::Yes));
     // 0 = 0: a round changes its kind alone, the next nothing.
     let mut model = equal(&[0, 1], &[0], 0);
-    assert_eq!(model.clone().rounds(8), Ok(Rounds::Unchanged { rounds: 2 }));
+    assert_eq!(model.clone().rounds(8), Ok(Rounds::Unchanged { rounds: 2, spent: false }));
     // A list does not remove it: kind 5 is retired there. A direct call does.
     assert_eq!(model.run(&[Call::remove_redundant_row(0)]).unwrap().refused, 1);
     assert_eq!(model.kinds(), [RowKind::Equal]);

@@ -98,16 +98,16 @@ text-means : (s left : State) (a : RoundsAnswer) → ((number : ℕ) → a ≡ r
     → NonePrinted s (textOf a left) ⊎ Reported s (textOf a left)
 unfolding textOf
 text-means s left (refusedRounds number) n p l = absurd (n number refl)
-text-means s left (ended infeasible k) n p l = inl (record { printed = refl; noPoint = p .noPoint k refl })
-text-means s left (ended nothingChanged k) n p l =
+text-means s left (ended infeasible k b) n p l = inl (record { printed = refl; noPoint = p .noPoint k b refl })
+text-means s left (ended nothingChanged k b) n p l =
     inr (record { left = left; rounds = k; printed = refl; points = p .points; fractional = p .fractional; implications = l })
-text-means s left (ended atLimit k) n p l =
+text-means s left (ended atLimit k b) n p l =
     inr (record { left = left; rounds = k; printed = refl; points = p .points; fractional = p .fractional; implications = l })
 
 -- the rounds of a model handed in are not refused
 abbrev Refused : RoundsAnswer → Type 0
 Refused (refusedRounds number) = Unit {0}
-Refused (ended e k) = ⊥
+Refused (ended e k b) = ⊥
 
 not-refused : (limit : ℕ) (s : State) → HandedIn s → (number : ℕ) → runRounds limit s .answer ≡ refusedRounds number → ⊥
 unfolding runRounds roundsFault

@@ -22,9 +22,9 @@ stateRead bs = let M = decode bs in record { model = M; table = zeros (4 * (M .n
 -- what is printed of rounds that end so and leave the state s
 unfoldable pub textOf : RoundsAnswer → State → List ℕ
 textOf (refusedRounds number) s = refusedLine number
-textOf (ended infeasible rounds) s = noneLine
-textOf (ended nothingChanged rounds) s = report (s .model .n) (s .model .m) rounds (s .model .box) (s .model .rows .coefs) (s .model .rows .rhs) (s .table)
-textOf (ended atLimit rounds) s = report (s .model .n) (s .model .m) rounds (s .model .box) (s .model .rows .coefs) (s .model .rows .rhs) (s .table)
+textOf (ended infeasible rounds spent) s = noneLine
+textOf (ended nothingChanged rounds spent) s = report (s .model .n) (s .model .m) rounds (s .model .box) (s .model .rows .coefs) (s .model .rows .rhs) (s .table)
+textOf (ended atLimit rounds spent) s = report (s .model .n) (s .model .m) rounds (s .model .box) (s .model .rows .coefs) (s .model .rows .rhs) (s .table)
 
 -- 01: "It ends after a round that changed nothing, after 8 rounds, or at None."; 02 (C-20) has two programs, one without a limit
 unfoldable pub roundsText : ℕ → State → List ℕ

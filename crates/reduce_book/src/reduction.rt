@@ -27,9 +27,9 @@ fn answer_of(rounds: RoundsAnswer) -> Answer
 {
     match rounds {
         RoundsAnswer::Refused(number) => Answer::Refused(number),
-        RoundsAnswer::Infeasible(_) => Answer::Infeasible,
-        RoundsAnswer::NothingChanged(made) => Answer::Reduced(made),
-        RoundsAnswer::AtLimit(made) => Answer::Reduced(made),
+        RoundsAnswer::Infeasible(_, _) => Answer::Infeasible,
+        RoundsAnswer::NothingChanged(made, _) => Answer::Reduced(made),
+        RoundsAnswer::AtLimit(made, _) => Answer::Reduced(made),
     }
 }
 

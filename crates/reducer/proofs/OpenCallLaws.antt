@@ -18,7 +18,7 @@ use Rattle.row.specs.Kinds.{propagateRowOf}
 use Rattle.row.specs.Propagation.{PropagatedRow}
 use Rattle.semantics.specs.CallChecks.{callFault, lentTable, recordChecks}
 use Rattle.semantics.specs.Convergence.{ProbeMoves, RestAnswered, RestMeans}
-use Rattle.semantics.specs.Demand2.{CallMeans, Demand2, EndsAs}
+use Rattle.semantics.specs.Demand2.{CallMeans, Demand2, EndsAs, EndsGreatest}
 use Rattle.semantics.specs.Perform.{Answer, Performed, act, perform, probed, propagated, propagatedRow, refused}
 use Rattle.semantics.specs.Points.{AtRest}
 use Rattle.semantics.specs.Probe.{Probed, probe}
@@ -139,6 +139,9 @@ module _ (s r : State) (c : Call) (a : Answer) (e : performed a r ≡ perform s 
     ending = λ b p k g. subst (λ (q : State). EndsAs (c .budget) (s .model .n) (s .model .m) (s .model .rows) (q .model .box) b p)
         (sym (ap (λ (q : Performed). q .state) e)) (accepted-by (λ d. T (not (isRefused d))) (λ _ z. z) (rw g tt) .ends b p k (answered ∙ g));
     sideEndings = λ b s0 s1 g. accepted-by (λ d. T (not (isRefused d))) (λ _ z. z) (rw g tt) .sidesEnd b s0 s1 (answered ∙ g);
+    greatest = λ b p k g w. subst (λ (q : State). EndsGreatest (s .model .n) (s .model .m) (s .model .rows) (s .model .box) (q .model .box) b)
+        (sym (ap (λ (q : Performed). q .state) e)) (accepted-by (λ d. T (not (isRefused d))) (λ _ z. z) (rw g tt) .greatest b p k (answered ∙ g) w);
+    sidesGreatest = λ b s0 s1 g. accepted-by (λ d. T (not (isRefused d))) (λ _ z. z) (rw g tt) .sidesGreatest b s0 s1 (answered ∙ g);
     passes = λ b p k g. accepted-by (λ d. T (not (isRefused d))) (λ _ z. z) (rw g tt) .passes b p k (answered ∙ g);
     sides = λ b s0 s1 g. accepted-by (λ d. T (not (isRefused d))) (λ _ z. z) (rw g tt) .sidePasses b s0 s1 (answered ∙ g);
   }

@@ -11,7 +11,8 @@ use Rattle.row.specs.Outcome.{changed, infeasible, unchanged}
 use Rattle.semantics.specs.Call.{Call}
 use Rattle.semantics.specs.CallChecks.{maxBudget}
 use Rattle.semantics.specs.Convergence.{MovedByRow, MovedByVariable}
-use Rattle.semantics.specs.Demand2.{EndsAs, SideEnds}
+use Rattle.semantics.specs.Demand2.{EndsAs, EndsGreatest, SideEnds, SideGreatest}
+use Rattle.semantics.specs.Passes.{enoughBudget}
 use Rattle.semantics.specs.Perform.{Answer, Performed, probed, propagated, propagatedRow, refused, removed, tightened}
 use Rattle.semantics.specs.Points.{FractionalPointOf, PointOf}
 use Rattle.semantics.specs.Probe as semantic
@@ -118,5 +119,11 @@ pub record Ends (c : Call) (s r : State) (a : Answer) : Type 0 where
       → let M = s .model in EndsAs (c .budget) (M .n) (M .m) (M .rows) (r .model .box) e p
   pub sideEndings : (e : semantic.ProbeEnding) (s0 s1 : semantic.Side) → a ≡ probed e s0 s1 → s .model .box ≢ emptyBox (s .model .n)
       → SideEnds s c 0 s0 × SideEnds s c 1 s1
+  -- 02 (C-24): "A settle whose budget is at least the total width plus 1 is never Spent. It ends in the largest quiet box inside the one
+  -- given, or None exactly when there is no quiet box inside."; a probe's sides likewise
+  pub greatest : (e : ended.Ending) (p k : ℕ) → a ≡ propagated e p k → enoughBudget (s .model .n) (s .model .box) ≤ c .budget
+      → let M = s .model in EndsGreatest (M .n) (M .m) (M .rows) (M .box) (r .model .box) e
+  pub sidesGreatest : (e : semantic.ProbeEnding) (s0 s1 : semantic.Side) → a ≡ probed e s0 s1 → s .model .box ≢ emptyBox (s .model .n)
+      → SideGreatest s c 0 s0 × SideGreatest s c 1 s1
   pub sides : (e : semantic.ProbeEnding) (s0 s1 : semantic.Side) → a ≡ probed e s0 s1 → s .model .box ≢ emptyBox (s .model .n)
       → ((1 ≤ s0 .passes) × (s0 .passes ≤ c .budget)) × ((1 ≤ s1 .passes) × (s1 .passes ≤ c .budget))

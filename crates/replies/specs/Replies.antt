@@ -101,7 +101,7 @@ unfoldable pub listReply : ListAnswer → Reply
 listReply (refusedList number) = refusedBy number
 listReply (ran k) = says (k .refusals ∷ k .infeasibles ∷ k .changes ∷ k .unchanges ∷ [])
 
--- "{0 None | 1 nothing changed | 2 at the limit, rounds}"
+-- "{0 None | 1 nothing changed | 2 at the limit, rounds, 1 if a side was Spent in the last round}"
 unfoldable pub roundsCase : rounds.RoundsEnding → ℕ
 roundsCase rounds.infeasible = 0
 roundsCase rounds.nothingChanged = 1
@@ -109,7 +109,7 @@ roundsCase rounds.atLimit = 2
 
 unfoldable pub roundsReply : rounds.RoundsAnswer → Reply
 roundsReply (rounds.refusedRounds number) = refusedBy number
-roundsReply (rounds.ended e made) = says (roundsCase e ∷ made ∷ [])
+roundsReply (rounds.ended e made spent) = says (roundsCase e ∷ made ∷ bit spent ∷ [])
 
 -- "{1 Tied | 2 Same}"
 unfoldable pub tieReply : ties.TieAnswer → Reply

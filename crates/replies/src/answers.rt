@@ -1,5 +1,6 @@
 // The reply to each answer of the open calls.
 use crate::reply::Reply;
+use crate::reply::bit;
 use book::SizesAnswer;
 use flat_list::RunAnswer;
 use reducer::calls::ProbeAnswer;
@@ -16,7 +17,8 @@ ghost use Rattle.reducer.specs.OpenCalls.{probeAnswer, propagateAnswer, removeA
 ghost use Rattle.reducer.specs.OpenCalls.{tightenAnswer};
 ghost use Rattle.rounds.specs.Answers.{roundsAnswer};
 ghost use Rattle.replies.specs.declared.reply.Reply.the-variants.{Numbers};
-ghost use Rattle.replies.specs.Replies.{bookReply, callReply, listReply, replyOf, restReply, roundsReply};
+ghost use Rattle.replies.specs.Replies.{bit as bitOf, bookReply, callReply, listReply, replyOf, restReply};
+ghost use Rattle.replies.specs.Replies.{roundsReply};
 
 pub fn row_reply(a: PropagateRowAnswer) -> Reply
     ensures { λ r. ⌜ replyOf r ≡ callReply (rowAnswer a) ⌝ }
@@ -104,14 +106,20 @@ pub fn run_reply(a: RunAnswer) -> Reply
     }
 }
 
+fn ended(case: u64, made: u64, spent: bool) -> Reply
+    ensures { λ r. ⌜ r ≡ Numbers case made (bitOf spent) 0 ⌝ }
+{
+    Reply::Numbers(case, made, bit(spent), 0)
+}
+
 pub fn rounds_reply(a: RoundsAnswer) -> Reply
     ensures { λ r. ⌜ replyOf r ≡ roundsReply (roundsAnswer a) ⌝ }
 {
     match a {
         RoundsAnswer::Refused(number) => Reply::Refused(number),
-        RoundsAnswer::Infeasible(made) => Reply::Numbers(0, made, 0, 0),
-        RoundsAnswer::NothingChanged(made) => Reply::Numbers(1, made, 0, 0),
-        RoundsAnswer::AtLimit(made) => Reply::Numbers(2, made, 0, 0),
+        RoundsAnswer::Infeasible(made, spent) => ended(0, made, spent),
+        RoundsAnswer::NothingChanged(made, spent) => ended(1, made, spent),
+        RoundsAnswer::AtLimit(made, spent) => ended(2, made, spent),
     }
 }
 

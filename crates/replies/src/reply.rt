@@ -36,7 +36,7 @@ pub fn clear(answer: &mut [u64])
     }
 }
 
-fn bit(b: bool) -> u64
+pub fn bit(b: bool) -> u64
     ensures { λ r. ⌜ r ≡ bitOf b ⌝ }
 {
     if b { 1 } else { 0 }

@@ -1,1 +1,3 @@
 pub mod RoundLaws
+pub mod SpentLaws
+pub mod RestLaws

@@ -103,7 +103,7 @@ unfolding run
 run-append s [] ds = refl
 run-append s (c ∷ cs) ds = run-append (step s c) cs ds
 
-change-append : (s : State) (cs ds : List Call) → anyChange s (cs ++ ds) ≡ (anyChange s cs || anyChange (run s cs) ds)
+pub change-append : (s : State) (cs ds : List Call) → anyChange s (cs ++ ds) ≡ (anyChange s cs || anyChange (run s cs) ds)
 unfolding run anyChange
 change-append s [] ds = refl
 change-append s (c ∷ cs) ds =

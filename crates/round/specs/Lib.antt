@@ -1,2 +1,3 @@
 pub mod Round
 pub mod TightenedAt
+pub mod Rest

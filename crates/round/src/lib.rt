@@ -22,6 +22,7 @@ ghost use Rattle.probing.specs.Marked.{Marked};
 ghost use Rattle.row_change.specs.Tightening.{mayTighten};
 ghost use Rattle.model.specs.Valid.{ValidState};
 ghost use Rattle.semantics.specs.Run.{run as ran};
+ghost use Rattle.semantics.specs.Unmoved.{anySpent};
 ghost use Rattle.call.specs.Classes.{classIs};
 ghost use Rattle.model.specs.Rows.{rowsOf};
 ghost use Rattle.model.specs.State.{stateOf};
@@ -31,6 +32,12 @@ ghost use Rattle.round.specs.Round.{tightenRow, tightenings};
 
 // The passes of a round's propagation, and of each side of its probes.
 const PASSES: u32 = 1_000;
+
+// What calls did: whether a bound, row or table byte changed, and whether the budget of a probe's side was spent.
+pub struct Made {
+    pub changed: bool,
+    pub spent: bool,
+}
 
 // Whether a call changed a bound, row (its kind too) or table byte.
 fn is_changed(class: CallClass) -> bool
@@ -185,7 +192,7 @@ fn tighten_rows(
 }
 
 // Probes each variable that is free when its turn comes, upwards, by the index of the rows and the marks of the box;
-// says whether a bound or a table byte changed.
+// says whether a bound or a table byte changed, and whether a side's budget was spent.
 fn probe_variables_marked(
     n: usize,
     m: usize,
@@ -197,7 +204,7 @@ fn probe_variables_marked(
     across: &mut [u8],
     signs: &mut [u8],
     marks: &mut [u8],
-) -> bool
+) -> Made
     requires { ⌜ ValidState (stateOf n m (now bounds) (rowsOf (now coefs) (now rhs) (now kinds)) (now table)) ⌝ }
     requires { let A = rowsOf (now coefs) (now rhs) (now kinds) in
         ⌜ Marked n m (now bounds) A (now across) (now signs) (now marks) ⌝ }
@@ -209,13 +216,18 @@ fn probe_variables_marked(
     ensures changed { λ r.
         let A = rowsOf (now (coefs .entry)) (now (rhs .entry)) (now (kinds .entry)) in
         let s = stateOf n m (now (bounds .entry)) A (now (table .entry)) in
-        ⌜ r ≡ anyChange s (probes s) ⌝ }
+        ⌜ r .changed ≡ anyChange s (probes s) ⌝ }
+    ensures spent { λ r.
+        let A = rowsOf (now (coefs .entry)) (now (rhs .entry)) (now (kinds .entry)) in
+        let s = stateOf n m (now (bounds .entry)) A (now (table .entry)) in
+        ⌜ r .spent ≡ anySpent s (probes s) ⌝ }
 {
     let mut changed = false;
+    let mut spent = false;
     let mut k: u32 = 0;
     while (k as usize) < n {
         if is_free(bounds, k as usize) {
-            if is_changed(run_probe_marked(
+            let step = run_probe_marked(
                 n,
                 m,
                 bounds,
@@ -228,13 +240,17 @@ fn probe_variables_marked(
                 across,
                 signs,
                 marks,
-            )) {
-                changed = true;
-            }
+            );
+            let class = step.class;
+            spent = spent | step.spent;
+            changed = changed | is_changed(class);
         }
         k += 1;
     }
-    changed
+    Made {
+        changed: changed,
+        spent: spent,
+    }
 }
 
 // The same, of rows of which nothing is known yet. No probe changes a row, and each leaves a box inside the one
@@ -247,7 +263,7 @@ fn probe_variables(
     rhs: &[i32],
     kinds: &[u8],
     table: &mut [u8],
-) -> bool
+) -> Made
     requires { ⌜ ValidState (stateOf n m (now bounds) (rowsOf (now coefs) (now rhs) (now kinds)) (now table)) ⌝ }
     ensures left { λ r.
         let A = rowsOf (now (coefs .entry)) (now (rhs .entry)) (now (kinds .entry)) in
@@ -257,7 +273,11 @@ fn probe_variables(
     ensures changed { λ r.
         let A = rowsOf (now (coefs .entry)) (now (rhs .entry)) (now (kinds .entry)) in
         let s = stateOf n m (now (bounds .entry)) A (now (table .entry)) in
-        ⌜ r ≡ anyChange s (probes s) ⌝ }
+        ⌜ r .changed ≡ anyChange s (probes s) ⌝ }
+    ensures spent { λ r.
+        let A = rowsOf (now (coefs .entry)) (now (rhs .entry)) (now (kinds .entry)) in
+        let s = stateOf n m (now (bounds .entry)) A (now (table .entry)) in
+        ⌜ r .spent ≡ anySpent s (probes s) ⌝ }
 {
     let mut across = [0u8; MAX_ROWS * MAX_VARIABLES];
     let mut signs = [0u8; MAX_ROWS * MAX_VARIABLES];
@@ -276,7 +296,8 @@ fn probe_variables(
     )
 }
 
-// One round; says whether anything changed. After None the box is empty, and no further call is made.
+// One round; says whether anything changed, and whether a side of a probe was spent: its other calls are no probes,
+// and the round's own propagation does not count. After None the box is empty, and no further call is made.
 pub fn round(
     n: usize,
     m: usize,
@@ -285,7 +306,7 @@ pub fn round(
     rhs: &mut [i32],
     kinds: &mut [u8],
     table: &mut [u8],
-) -> bool
+) -> Made
     requires { ⌜ ValidState (stateOf n m (now bounds) (rowsOf (now coefs) (now rhs) (now kinds)) (now table)) ⌝ }
     ensures left { λ r.
         let A = rowsOf (now (coefs .entry)) (now (rhs .entry)) (now (kinds .entry)) in
@@ -296,7 +317,11 @@ pub fn round(
     ensures changed { λ r.
         let A = rowsOf (now (coefs .entry)) (now (rhs .entry)) (now (kinds .entry)) in
         let s = stateOf n m (now (bounds .entry)) A (now (table .entry)) in
-        ⌜ r ≡ anyChange s (roundOf s) ⌝ }
+        ⌜ r .changed ≡ anyChange s (roundOf s) ⌝ }
+    ensures spent { λ r.
+        let A = rowsOf (now (coefs .entry)) (now (rhs .entry)) (now (kinds .entry)) in
+        let s = stateOf n m (now (bounds .entry)) A (now (table .entry)) in
+        ⌜ r .spent ≡ anySpent s (roundOf s) ⌝ }
 {
     let propagation = propagate(n, m, bounds, coefs, rhs, kinds, PASSES);
     let mut changed = is_changed(class_of_propagation(propagation));
@@ -306,8 +331,9 @@ pub fn round(
     if tighten_rows(n, m, bounds, coefs, rhs, kinds, table) {
         changed = true;
     }
-    if probe_variables(n, m, bounds, coefs, rhs, kinds, table) {
-        changed = true;
+    let probing = probe_variables(n, m, bounds, coefs, rhs, kinds, table);
+    Made {
+        changed: changed | probing.changed,
+        spent: probing.spent,
     }
-    changed
 }

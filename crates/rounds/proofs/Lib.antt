@@ -1,3 +1,4 @@
+pub mod NoLimit
+pub mod RestLaws
 pub mod RoundsLaws
 pub mod RoundsAnswers
-pub mod NoLimit

@@ -7,18 +7,18 @@ use Rattle.rounds.specs.declared.RoundsAnswer.the-variants.{Refused, Inf
 pub rounds-answer-injective : (r s : RoundsAnswer) → roundsAnswer r ≡ roundsAnswer s → r ≡ s
 unfolding roundsAnswer
 rounds-answer-injective (Refused x) (Refused y) e = cc
-rounds-answer-injective (Refused x) (Infeasible y) e = cc
-rounds-answer-injective (Refused x) (NothingChanged y) e = cc
-rounds-answer-injective (Refused x) (AtLimit y) e = cc
-rounds-answer-injective (Infeasible x) (Refused y) e = cc
-rounds-answer-injective (Infeasible x) (Infeasible y) e = cc
-rounds-answer-injective (Infeasible x) (NothingChanged y) e = cc
-rounds-answer-injective (Infeasible x) (AtLimit y) e = cc
-rounds-answer-injective (NothingChanged x) (Refused y) e = cc
-rounds-answer-injective (NothingChanged x) (Infeasible y) e = cc
-rounds-answer-injective (NothingChanged x) (NothingChanged y) e = cc
-rounds-answer-injective (NothingChanged x) (AtLimit y) e = cc
-rounds-answer-injective (AtLimit x) (Refused y) e = cc
-rounds-answer-injective (AtLimit x) (Infeasible y) e = cc
-rounds-answer-injective (AtLimit x) (NothingChanged y) e = cc
-rounds-answer-injective (AtLimit x) (AtLimit y) e = cc
+rounds-answer-injective (Refused x) (Infeasible y b) e = cc
+rounds-answer-injective (Refused x) (NothingChanged y b) e = cc
+rounds-answer-injective (Refused x) (AtLimit y b) e = cc
+rounds-answer-injective (Infeasible x a) (Refused y) e = cc
+rounds-answer-injective (Infeasible x a) (Infeasible y b) e = cc
+rounds-answer-injective (Infeasible x a) (NothingChanged y b) e = cc
+rounds-answer-injective (Infeasible x a) (AtLimit y b) e = cc
+rounds-answer-injective (NothingChanged x a) (Refused y) e = cc
+rounds-answer-injective (NothingChanged x a) (Infeasible y b) e = cc
+rounds-answer-injective (NothingChanged x a) (NothingChanged y b) e = cc
+rounds-answer-injective (NothingChanged x a) (AtLimit y b) e = cc
+rounds-answer-injective (AtLimit x a) (Refused y) e = cc
+rounds-answer-injective (AtLimit x a) (Infeasible y b) e = cc
+rounds-answer-injective (AtLimit x a) (NothingChanged y b) e = cc
+rounds-answer-injective (AtLimit x a) (AtLimit y b) e = cc

@@ -1,3 +1,4 @@
 pub mod Rounds
 pub mod Answers
 pub mod NoLimit
+pub mod Rest

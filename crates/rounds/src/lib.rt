@@ -7,22 +7,24 @@ ghost use Rattle.model.specs.Rows.{rowsOf};
 ghost use Rattle.model.specs.State.{stateOf};
 ghost use Rattle.rounds.specs.Answers.{roundsAnswer};
 ghost use Rattle.rounds.specs.NoLimit.{NotReached};
+ghost use Rattle.rounds.specs.Rest.{EndsAtRest};
 ghost use Rattle.rounds.specs.Rounds.{SamePoints, runRounds};
 
 // The limit that is none: it is never reached, since every model's rounds end below it (`unreached`).
 pub const NO_LIMIT: u64 = 18_446_744_073_709_551_615;
 
-// How the rounds ended, with the number of rounds made: refused N; at None; after a round that changed nothing; at
-// the limit.
+// How the rounds ended, with the number of rounds made and whether the budget of a probe's side was spent in the last
+// of them: refused N; at None; after a round that changed nothing; at the limit.
 pub enum RoundsAnswer {
     Refused(u32),
-    Infeasible(u64),
-    NothingChanged(u64),
-    AtLimit(u64),
+    Infeasible(u64, bool),
+    NothingChanged(u64, bool),
+    AtLimit(u64, bool),
 }
 
 // Makes rounds until one changes nothing, the box is empty or `limit` rounds are made. Refused by the model's
-// checks and 10; the table is kept and extended.
+// checks and 10; the table is kept and extended. Where the last round changed nothing and no side in it was spent, the
+// model is at rest (`rest`).
 pub fn run(
     n: usize,
     m: usize,
@@ -50,21 +52,27 @@ pub fn run(
         let r' = stateOf n m (now (bounds .exit)) A' (now (table .exit)) in
         ⌜ SamePoints s r' (roundsAnswer r) ⌝ }
     ensures unreached { λ r. ⌜ NotReached limit (roundsAnswer r) ⌝ }
+    ensures rest { λ r.
+        let A' = rowsOf (now (coefs .exit)) (now (rhs .exit)) (now (kinds .exit)) in
+        let r' = stateOf n m (now (bounds .exit)) A' (now (table .exit)) in
+        ⌜ EndsAtRest r' (roundsAnswer r) ⌝ }
 {
     let fault = model::model_table_fault(n, m, bounds, coefs, rhs, kinds, table, true);
     if fault != 0 {
         return RoundsAnswer::Refused(fault);
     }
     let mut made: u64 = 0;
+    let mut spent = false;
     while made < limit {
         made += 1;
-        let changed = round(n, m, bounds, coefs, rhs, kinds, table);
+        let last = round(n, m, bounds, coefs, rhs, kinds, table);
+        spent = last.spent;
         if boxes::is_empty(bounds) {
-            return RoundsAnswer::Infeasible(made);
+            return RoundsAnswer::Infeasible(made, spent);
         }
-        if !changed {
-            return RoundsAnswer::NothingChanged(made);
+        if !last.changed {
+            return RoundsAnswer::NothingChanged(made, spent);
         }
     }
-    RoundsAnswer::AtLimit(made)
+    RoundsAnswer::AtLimit(made, spent)
 }

@@ -172,21 +172,23 @@ module _ (budget n m : ℕ) (A : Rows) (B : List ℤ) (h : 0 < n) (p : NonEmpty 
       (λ _ _ y. ((λ q. absurd (not-both (fixed 0) (q .0) tt)), (λ s. absurd (T-not (isNone (propagate budget n m A (fix n B k 1) .ending)) (s .1) y))))
       (λ _ x y. ((λ q. (x, y, q .1)), (λ s. ((_, refl), s .2))))
 
+-- a side that is not None has its variable fixed, so it is not the box
+pub side-moves : (n m : ℕ) (A : Rows) (B : List ℤ) (k : ℕ) → k < n → T (isFree B k) → (budget v : ℕ)
+    → T (not (isNone (propagate budget n m A (fix n B k v) .ending))) → propagate budget n m A (fix n B k v) .box ≢ B
+side-moves n m A B k kn f budget v x e =
+    let a = at-fix B k v kn (rw e at (propagate-shrinks n m A budget (fix n B k v) x)) in
+    let l = free-lower B k f in
+    let g = free-upper B k f in
+    omega zarith
+
 -- a probe with the largest budget of a free variable whose sides fail the test changes the box
 module _ (n m : ℕ) (A : Rows) (B : List ℤ) (h : 0 < n) (p : NonEmpty n B) (w : width n B <ℤ pos maxBudget) (k : ℕ) (t : List ℕ) (kn : k < n) (f : T (isFree B k)) where
-  side-moves : (v : ℕ) → v < 2 → T (not (isNone (propagate maxBudget n m A (fix n B k v) .ending))) → propagate maxBudget n m A (fix n B k v) .box ≢ B
-  side-moves v b x e =
-      let a = at-fix B k v kn (rw e at (propagate-shrinks n m A maxBudget (fix n B k v) x)) in
-      let l = free-lower B k f in
-      let g = free-upper B k f in
-      omega zarith
-
   pub probe-moves : (SidesSpan n m A B k → ⊥) → probe k maxBudget n m A B t .box ≢ B
   probe-moves u = probe-ind k maxBudget n m A B t (λ r. r .box ≢ B)
       (λ e. absurd (T-not (isEmpty n B) (false→T (isEmpty n B) (nonEmpty-isn't h p)) e))
       (λ _ _ _ e. not-in-empty n B h p (rw e (inside-refl n B)))
-      (λ _ _ y. side-moves 1 (omega arith) y)
-      (λ _ x _. side-moves 0 (omega arith) x)
+      (λ _ _ y. side-moves n m A B k kn f maxBudget 1 y)
+      (λ _ x _. side-moves n m A B k kn f maxBudget 0 x)
       (λ _ x y e. u (span-iff maxBudget n m A B h p w k f .0 (x, y, e)))
 
 -- ---- the test of the rest call

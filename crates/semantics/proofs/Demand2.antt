@@ -1,5 +1,5 @@
 -- Demand 2: what an accepted call means, kind by kind, and what any run keeps.
-use Prim.Native.Nat.{_+_, _<_, ℕ}
+use Prim.Native.Nat.{_+_, _<_, _≤_, ℕ}
 use lib.Dec.{T, not-T}
 use lib.IntN.{ℤ}
 use mathlib.Core.Bool.{not}
@@ -23,14 +23,16 @@ use Rattle.row.proofs.PointBox.{boxAt, in→Inside, nonEmpty-at}
 use Rattle.row.proofs.PropagationLaws.{changed-feasible}
 use Rattle.semantics.specs.Call.{Call, Kind, hasBudget, hasRow, hasTable, hasVariable, isUnknown, kindOf, probing, propagation, removal, rowPropagation, tightening, unknown}
 use Rattle.semantics.specs.CallChecks.{callFault}
-use Rattle.semantics.specs.Demand2.{AnswersSame, Demand2, Demand2Runs, EndsAs, PassesWithin, RowMoved, SideEnds, SideMoved, SumMoved, Untouched, ones}
+use Rattle.semantics.specs.Demand2.{AnswersSame, Demand2, Demand2Runs, EndsAs, EndsGreatest, PassesWithin, RowMoved, SideEnds, SideGreatest, SideMoved, SumMoved, Untouched, ones}
+use Rattle.semantics.specs.Passes.{enoughBudget}
 use Rattle.semantics.specs.Perform.{Answer, Performed, act, perform, probed, propagated, propagatedRow, refused, removed, tightened}
 use Rattle.semantics.specs.Probe.{ProbeEnding, Probed, bothFeasible, fix, fixed, infeasible, probe, sideOf}
-use Rattle.semantics.specs.Propagate.{isNone, propagate}
+use Rattle.semantics.specs.Propagate.{isNone, isSpent, propagate}
 use Rattle.semantics.specs.Run.{answersNone, step}
 use Rattle.semantics.proofs.Accepted.{Accepted, accepted}
 use Rattle.semantics.proofs.CallLaws.{kinded-infeasible-iff, kinded-same, perform-accepted}
 use Rattle.semantics.proofs.Endings.{propagate-ends-as, spent-iff}
+use Rattle.semantics.proofs.Greatest.{propagate-greatest}
 use Rattle.semantics.proofs.ImplicationLaws.{recordTo-added}
 use Rattle.semantics.proofs.Preserved.{run-preserves, step-preserves}
 use Rattle.semantics.proofs.ProbeLaws.{fix-nonEmpty, probe-empty, probe-ind, probe-infeasible-iff, probe-passes0, probe-passes1, probe-side0, probe-side1}
@@ -100,6 +102,7 @@ Numbers s c P t (propagatedRow o k) = RowMoved (s .model .n) (rowAt (s .model .n
 Numbers s c P t (propagated e p k) =
     PassesWithin (c .budget) p × SumMoved (s .model .n) (s .model .box) P (isNone e) p k
     × EndsAs (c .budget) (s .model .n) (s .model .m) (s .model .rows) P e p
+    × (enoughBudget (s .model .n) (s .model .box) ≤ c .budget → EndsGreatest (s .model .n) (s .model .m) (s .model .rows) (s .model .box) P e)
 Numbers s c P t (probed e s0 s1) =
     (s .model .box ≢ emptyBox (s .model .n) → PassesWithin (c .budget) (s0 .passes) × PassesWithin (c .budget) (s1 .passes))
     × (s .model .box ≡ emptyBox (s .model .n) → (s0 .passes ≡ 0) × (s1 .passes ≡ 0))
@@ -107,6 +110,7 @@ Numbers s c P t (probed e s0 s1) =
     × (s .model .box ≢ emptyBox (s .model .n) → SideMoved s c 0 s0 × SideMoved s c 1 s1)
     × (s .model .box ≡ emptyBox (s .model .n) → (s0 .moved ≡ 0) × (s1 .moved ≡ 0))
     × (s .model .box ≢ emptyBox (s .model .n) → SideEnds s c 0 s0 × SideEnds s c 1 s1)
+    × (s .model .box ≢ emptyBox (s .model .n) → SideGreatest s c 0 s0 × SideGreatest s c 1 s1)
 Numbers s c P t (tightened o) = Unit {0}
 Numbers s c P t (removed o) = Unit {0}
 
@@ -128,6 +132,14 @@ module _ (s : State) (c : Call) (a : Accepted probing s c) where
       let i = spent-iff (r .ending) in
       ((λ t. e .spent .0 (i .1 t)), (λ q. i .0 (e .spent .1 q)))
 
+  side-greatest : NonEmpty (s .model .n) (s .model .box) → (v : ℕ)
+      → SideGreatest s c v (sideOf (propagate (c .budget) (s .model .n) (s .model .m) (s .model .rows) (fix (s .model .n) (s .model .box) (c .variable) v)))
+  unfolding SideGreatest sideOf
+  side-greatest p v w =
+      let r = propagate (c .budget) (s .model .n) (s .model .m) (s .model .rows) (fix (s .model .n) (s .model .box) (c .variable) v) in
+      let g = propagate-greatest (c .budget) (s .model .m) (s .model .rows) (a .model .some) (inr (fix-nonEmpty (c .variable) v p)) w in
+      (not-T (isSpent (r .ending)) (λ t. g .notSpent (spent-iff (r .ending) .1 t)), g)
+
   probe-numbers : Numbers s c (result .box) (result .table) (probed (result .ending) (result .side0) (result .side1))
   unfolding hasBudget hasVariable hasTable
   probe-numbers = (
@@ -148,6 +160,10 @@ module _ (s : State) (c : Call) (a : Accepted probing s c) where
       subst (SideEnds s c 0) (sym (probe-side0 (c .variable) (c .budget) (s .model .n) (s .model .m) (s .model .rows) (s .model .box) (s .table) t)) (side-ends p 0),
       subst (SideEnds s c 1) (sym (probe-side1 (c .variable) (c .budget) (s .model .n) (s .model .m) (s .model .rows) (s .model .box) (s .table) t)) (side-ends p 1),
     )),
+    (λ ne. let t = found ne in let p = valid-nonEmpty (a .model .box) t in (
+      subst (SideGreatest s c 0) (sym (probe-side0 (c .variable) (c .budget) (s .model .n) (s .model .m) (s .model .rows) (s .model .box) (s .table) t)) (side-greatest p 0),
+      subst (SideGreatest s c 1) (sym (probe-side1 (c .variable) (c .budget) (s .model .n) (s .model .m) (s .model .rows) (s .model .box) (s .table) t)) (side-greatest p 1),
+    )),
   )
     where
       found : s .model .box ≢ emptyBox (s .model .n) → T (not (isEmpty (s .model .n) (s .model .box)))
@@ -161,6 +177,7 @@ act-numbers propagation s c a = (
   propagate-passes (s .model .n) (s .model .m) (s .model .rows) (c .budget) (s .model .box) (a .budget tt .0),
   sum-moved (c .budget) (s .model .m) (s .model .rows) (a .model .box .shape),
   propagate-ends-as (s .model .m) (s .model .rows) (a .model .some) (c .budget) (a .model .box .shape),
+  propagate-greatest (c .budget) (s .model .m) (s .model .rows) (a .model .some) (a .model .box .shape),
 )
 act-numbers probing s c a = probe-numbers s c a
 act-numbers tightening s c a = tt
@@ -220,6 +237,8 @@ demand-2 s c e =
       emptySidesMoved = λ b s0 s1 g. with (probed b s0 s1) g .4;
       ends = λ b q k g. with (propagated b q k) g .2;
       sidesEnd = λ b s0 s1 g. with (probed b s0 s1) g .5;
+      greatest = λ b q k g. with (propagated b q k) g .3;
+      sidesGreatest = λ b s0 s1 g. with (probed b s0 s1) g .6;
       added = λ b s0 s1 g. with (probed (bothFeasible b) s0 s1) g .2;
       same = of-act s c e (λ r. AnswersSame (r .answer) → r .state ≡ s) (act-same k s c a);
       sizes = p .sizes;

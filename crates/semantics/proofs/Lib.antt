@@ -21,5 +21,9 @@ pub mod Demand3
 pub mod ClassLaws
 pub mod CallLists
 pub mod Passes
+pub mod Greatest
 pub mod Measure
 pub mod MeasureCorners
+pub mod Unmoved
+pub mod Solvers
+pub mod RestCorners

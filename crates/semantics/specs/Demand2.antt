@@ -8,7 +8,7 @@ use mathlib.Core.Bool.{Bool, cond, not}
 use mathlib.Core.List.{List, [], _∷_}
 use mathlib.Core.Logic.{_↔_, _≢_}
 use mathlib.Core.Path.{_≡_}
-use Rattle.model.specs.Box.{NonEmpty, at, emptyBox, width}
+use Rattle.model.specs.Box.{Inside, NonEmpty, at, emptyBox, width}
 use Rattle.model.specs.Rows.{Row, Rows, isEquality, rowAt}
 use Rattle.model.specs.State.{State}
 use Rattle.model.specs.Valid.{ValidState}
@@ -17,11 +17,12 @@ use Rattle.row.specs.Moved.{movedBounds}
 use Rattle.row.specs.Outcome.{Outcome, isChanged, isInfeasible, isUnchanged, unchanged}
 use Rattle.semantics.specs.Call.{Call, Kind, kindOf, probing, propagation, removal, rowPropagation, tightening, unknown}
 use Rattle.semantics.specs.CallChecks.{callFault}
-use Rattle.semantics.specs.Fixpoint.{Fixpoint}
+use Rattle.semantics.specs.Fixpoint.{Fixpoint, GreatestFixpoint}
+use Rattle.semantics.specs.Passes.{enoughBudget}
 use Rattle.semantics.specs.Perform.{Answer, perform, probed, propagated, propagatedRow, refused, removed, tightened}
 use Rattle.semantics.specs.Points.{FractionalPointOf, PointOf}
 use Rattle.semantics.specs.Probe.{ProbeEnding, Side, bothFeasible, fix}
-use Rattle.semantics.specs.Propagate.{Ending, budgetSpent, converged, isNone, propagate}
+use Rattle.semantics.specs.Propagate.{Ending, budgetSpent, converged, infeasible, isNone, propagate}
 use Rattle.semantics.specs.Run.{answersNone, run}
 
 -- how many bytes of a table are 1
@@ -84,6 +85,23 @@ SideEnds s c v side =
     let r = propagate (c .budget) (M .n) (M .m) (M .rows) (fix (M .n) (M .box) (c .variable) v) in
     T (side .spent) ↔ (NonEmpty (M .n) (r .box) × (side .passes ≡ c .budget) × StillMoves (M .n) (M .m) (M .rows) (r .box))
 
+-- 02 (C-24), of a settle of the box B "whose budget is at least the total width plus 1", that left the box P and ended as e
+pub record EndsGreatest (n m : ℕ) (A : Rows) (B P : List ℤ) (e : Ending) : Type 0 where
+  -- it "is never Spent"
+  pub notSpent : e ≢ budgetSpent
+  -- "It ends in the largest quiet box inside the one given,"
+  pub greatest : (e ≡ converged) ↔ GreatestFixpoint n m A B P
+  -- "or None exactly when there is no quiet box inside."
+  pub none : (e ≡ infeasible) ↔ ((Q : List ℤ) → Fixpoint n m A Q → Inside n Q B → ⊥)
+
+-- of side v of a probe, whose budget is at least that of its own box, the one with the variable set to v
+unfoldable pub SideGreatest : State → Call → ℕ → Side → Type 0
+SideGreatest s c v side =
+    let M = s .model in
+    let B = fix (M .n) (M .box) (c .variable) v in
+    let r = propagate (c .budget) (M .n) (M .m) (M .rows) B in
+    enoughBudget (M .n) B ≤ c .budget → T (not (side .spent)) × EndsGreatest (M .n) (M .m) (M .rows) B (r .box) (r .ending)
+
 -- Same: a visit, a sharpen or a drop that changed nothing
 unfoldable pub AnswersSame : Answer → Type 0
 AnswersSame (refused number) = ⊥
@@ -143,6 +161,11 @@ pub record CallMeans (s : State) (c : Call) : Type 0 where
       → let M = s .model in EndsAs (c .budget) (M .n) (M .m) (M .rows) (perform s c .state .model .box) e p
   pub sidesEnd : (e : ProbeEnding) (s0 s1 : Side) → perform s c .answer ≡ probed e s0 s1 → s .model .box ≢ emptyBox (s .model .n)
       → SideEnds s c 0 s0 × SideEnds s c 1 s1
+  -- the largest quiet box (02, C-24), where the budget is enough: of a settle, of the two sides of a probe
+  pub greatest : (e : Ending) (p k : ℕ) → perform s c .answer ≡ propagated e p k → enoughBudget (s .model .n) (s .model .box) ≤ c .budget
+      → let M = s .model in EndsGreatest (M .n) (M .m) (M .rows) (M .box) (perform s c .state .model .box) e
+  pub sidesGreatest : (e : ProbeEnding) (s0 s1 : Side) → perform s c .answer ≡ probed e s0 s1 → s .model .box ≢ emptyBox (s .model .n)
+      → SideGreatest s c 0 s0 × SideGreatest s c 1 s1
   -- "The answer Both has the number of bytes that went from 0 to 1."
   pub added : (a : ℕ) (s0 s1 : Side) → perform s c .answer ≡ probed (bothFeasible a) s0 s1
       → ones (perform s c .state .table) ≡ ones (s .table) + a

@@ -17,8 +17,11 @@ pub mod CallList
 pub mod TwoLists
 pub mod Passes
 pub mod Measure
+pub mod Unmoved
+pub mod Solvers
 pub mod Books
 pub mod WorkedBooks
 pub mod Corners
 pub mod PassesCorners
 pub mod MeasureCorners
+pub mod RestCorners

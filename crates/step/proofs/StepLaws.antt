@@ -3,7 +3,7 @@
 use Prim.Native.Nat.{ℕ}
 use lib.Dec.{T, eqb}
 use lib.IntN.{ℤ}
-use mathlib.Core.Bool.{_&&_, not}
+use mathlib.Core.Bool.{_&&_, _||_, not}
 use mathlib.Core.List.{List, []}
 use mathlib.Core.Logic.{_⊎_, ⊎-elim}
 use mathlib.Core.Path.{_∙_, _≡_, ap, refl, sym}
@@ -22,11 +22,12 @@ use Rattle.semantics.specs.Probe.{Probed, probe}
 use Rattle.semantics.specs.Propagate.{isNone, propagate}
 use Rattle.semantics.specs.Run.{CallClass, classListed, classOf, probeInfeasible, refusedCall, step, stepListed}
 use Rattle.semantics.specs.Call.{Call, callOf, hasBudget, hasRow, hasVariable, isRetired, isUnknown, kindOf, probing, propagation, removal, rowPropagation, tightening, unknown}
+use Rattle.semantics.specs.Unmoved.{sideSpent}
 use Rattle.model.specs.State.{State, stateOf, withBox, withRow}
 use Rattle.model.specs.Checks.{first, modelChecks}
 use Rattle.model.specs.Valid.{ValidState}
 use Rattle.semantics.proofs.Accepted.{fault-listed-own}
-use Rattle.semantics.proofs.CallLaws.{step-accepted}
+use Rattle.semantics.proofs.CallLaws.{perform-accepted, step-accepted}
 use Rattle.semantics.proofs.ClassLaws.{addsNone, classBy, probe-class, remove-class, propagate-class, tighten-class, propagate-row-class}
 use Rattle.semantics.proofs.ListedLaws.{class-direct, class-listed-refused, listed-fault, step-direct}
 use Rattle.call.specs.FieldChecks.{budgetChecks, probeChecks, rowChecks, variableChecks}
@@ -133,6 +134,12 @@ module _ (n m : ℕ) (B : List ℤ) (A : Rows) (t : List ℕ) (kind row variable
         (o ≡ p .outcome) × (A′ ≡ setRow n A row (p .row)) → Ran k (stateOf n m B A′ t)
     unfolding stateOf callOf act
     ran-remove q = changed-row (removeRowOf n (rowAt n A row) B) (rw q) (remove-class s call f q)
+
+  -- whether a side of the probe was Spent
+  pub probe-spent : callFault s call ≡ 0 → (w : Probed) → kindOf kind ≡ probing → w ≡ probe variable budget n m A B t
+      → (w .side0 .spent || w .side1 .spent) ≡ sideSpent (perform s call .answer)
+  unfolding stateOf callOf act sideSpent
+  probe-spent f w q h = sym (ap (λ (p : Performed). sideSpent (p .answer)) (perform-accepted s call f) ∙ rw (q, h))
 
   pub ran-probed : {k : CallClass} {r : State} → kind ≡ 3
       → (k ≡ classOf s (callOf s 3 0 variable budget)) × (r ≡ step s (callOf s 3 0 variable budget)) → Ran k r

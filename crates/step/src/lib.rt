@@ -17,19 +17,39 @@ use call::class_of_row;
 use model::MAX_ROWS;
 use model::MAX_VARIABLES;
 use probing::sides::Probing;
+use probing::sides::Side;
 use probing::sides::probe_marked;
 use propagation::propagate;
 use row_view::propagate_row_at;
+ghost use mathlib.Core.Bool.{_||_};
 ghost use mathlib.Core.Path.{_≡_};
 ghost use Rattle.probing.specs.Marked.{Marked};
 ghost use Rattle.model.specs.Rows.{rowsOf};
 ghost use Rattle.semantics.specs.CallChecks.{callFault};
 ghost use Rattle.model.specs.Valid.{ValidState};
+ghost use Rattle.semantics.specs.Perform.{perform};
 ghost use Rattle.semantics.specs.Run.{classListed, classOf, step, stepListed};
+ghost use Rattle.semantics.specs.Unmoved.{sideSpent};
 ghost use Rattle.semantics.specs.Call.{callOf};
 ghost use Rattle.model.specs.State.{stateOf};
 ghost use Rattle.call.specs.Calls.{callOn};
 ghost use Rattle.call.specs.Classes.{classIs};
+
+// What an accepted probe came to: its class, and whether the budget of a side was spent.
+pub struct ProbeStep {
+    pub class: CallClass,
+    pub spent: bool,
+}
+
+// The class of a probe with the flags of its two sides.
+fn step_of(class: CallClass, s0: Side, s1: Side) -> ProbeStep
+    ensures { λ r. ⌜ (classIs (r .class) ≡ classIs class) × (r .spent ≡ (s0 .spent || s1 .spent)) ⌝ }
+{
+    ProbeStep {
+        class: class,
+        spent: s0.spent | s1.spent,
+    }
+}
 
 // An accepted probe, by the index of the rows and the marks of the box, which become those of the box that is left.
 // Where both sides are feasible it changed something if a table byte became 1 or the hull is smaller than the box
@@ -47,7 +67,7 @@ pub fn run_probe_marked(
     across: &mut [u8],
     signs: &mut [u8],
     marks: &mut [u8],
-) -> CallClass
+) -> ProbeStep
     requires { ⌜ ValidState (stateOf n m (now bounds) (rowsOf (now coefs) (now rhs) (now kinds)) (now table)) ⌝ }
     requires { let A = rowsOf (now coefs) (now rhs) (now kinds) in
         let s = stateOf n m (now bounds) A (now table) in
@@ -57,12 +77,16 @@ pub fn run_probe_marked(
     ensures class { λ r.
         let A = rowsOf (now (coefs .entry)) (now (rhs .entry)) (now (kinds .entry)) in
         let s = stateOf n m (now (bounds .entry)) A (now (table .entry)) in
-        ⌜ classIs r ≡ classOf s (callOf s 3 0 variable budget) ⌝ }
+        ⌜ classIs (r .class) ≡ classOf s (callOf s 3 0 variable budget) ⌝ }
     ensures left { λ r.
         let A = rowsOf (now (coefs .entry)) (now (rhs .entry)) (now (kinds .entry)) in
         let s = stateOf n m (now (bounds .entry)) A (now (table .entry)) in
         let r' = stateOf n m (now (bounds .exit)) A (now (table .exit)) in
         ⌜ r' ≡ step s (callOf s 3 0 variable budget) ⌝ }
+    ensures spent { λ r.
+        let A = rowsOf (now (coefs .entry)) (now (rhs .entry)) (now (kinds .entry)) in
+        let s = stateOf n m (now (bounds .entry)) A (now (table .entry)) in
+        ⌜ r .spent ≡ sideSpent (perform s (callOf s 3 0 variable budget) .answer) ⌝ }
     ensures marks { λ r.
         let A = rowsOf (now (coefs .entry)) (now (rhs .entry)) (now (kinds .entry)) in
         ⌜ Marked n m (now (bounds .exit)) A (now (across .exit)) (now (signs .exit)) (now (marks .exit)) ⌝ }
@@ -84,16 +108,16 @@ pub fn run_probe_marked(
         signs,
         marks,
     ) {
-        Probing::Infeasible(_, _) => CallClass::Infeasible,
-        Probing::Fixed(_, _, _) => CallClass::Changed,
-        Probing::BothFeasible(added, _, _) => {
+        Probing::Infeasible(s0, s1) => step_of(CallClass::Infeasible, s0, s1),
+        Probing::Fixed(_, s0, s1) => step_of(CallClass::Changed, s0, s1),
+        Probing::BothFeasible(added, s0, s1) => {
             if added != 0 {
-                return CallClass::Changed;
+                return step_of(CallClass::Changed, s0, s1);
             }
             if same_box(&before[..len], bounds) {
-                return CallClass::Unchanged;
+                return step_of(CallClass::Unchanged, s0, s1);
             }
-            CallClass::Changed
+            step_of(CallClass::Changed, s0, s1)
         }
     }
 }
@@ -127,7 +151,7 @@ fn run_probe(
     let mut across = [0u8; MAX_ROWS * MAX_VARIABLES];
     let mut signs = [0u8; MAX_ROWS * MAX_VARIABLES];
     let mut marks = [0u8; MAX_ROWS];
-    run_probe_marked(
+    let step = run_probe_marked(
         n,
         m,
         bounds,
@@ -140,7 +164,8 @@ fn run_probe(
         &mut across,
         &mut signs,
         &mut marks,
-    )
+    );
+    step.class
 }
 
 // One record of a call list: the kind is matched once, and each kind makes its own checks and is then run. 4 and 5,

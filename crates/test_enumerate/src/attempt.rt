@@ -46,7 +46,7 @@ fn say(
             moved: moved::agrees(made, before, bounds),
         };
     }
-    let RoundsAnswer::Infeasible(_) = rounds::run(
+    let RoundsAnswer::Infeasible(_, _) = rounds::run(
         n,
         row_count(n),
         bounds,

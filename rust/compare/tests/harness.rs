@@ -679,6 +679,16 @@ fn catches_rounds_without_the_last() {
 }
 
 #[test]
+fn catches_a_spent_side_that_is_forgotten() {
+    is_caught(|operation, _, said, loan| {
+        if matches!(operation, Operation::Rounds { .. }) && said == 0 {
+            loan.answer[2] = 0;
+        }
+        said
+    });
+}
+
+#[test]
 fn catches_a_fixpoint_that_is_always_claimed() {
     is_caught(|operation, _, said, loan| {
         if operation == Operation::IsProbingFixpoint && said == 0 {

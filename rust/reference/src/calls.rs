@@ -11,7 +11,7 @@ use crate::list;
 use crate::plan;
 use crate::probing::{self, Rest, Verdict};
 use crate::propagation::{self, Ending};
-use crate::rounds::{self, Rounds};
+use crate::rounds::{self, Rounds, RoundsEnding};
 use crate::row::{self, AT_MOST, Outcome, RowPropagation, Rows};
 use crate::ties::Tied;
 use crate::{State, book, bounds as boxes};
@@ -264,11 +264,13 @@ pub fn rounds(
     reply(answer, |places_lent| {
         check_model(n, m, bounds, coefs, rhs, kinds, Some(table), &[(places_lent, ANSWER)])?;
         let mut state = State { n, bounds, coefs, rhs, kinds, table };
-        Ok(match rounds::rounds(&mut state, limit) {
-            Rounds::Infeasible(made) => places([0, made]),
-            Rounds::Unchanged(made) => places([1, made]),
-            Rounds::LimitReached(made) => places([2, made]),
-        })
+        let Rounds { ending, made, spent } = rounds::rounds(&mut state, limit);
+        let case = match ending {
+            RoundsEnding::Infeasible => 0,
+            RoundsEnding::Unchanged => 1,
+            RoundsEnding::LimitReached => 2,
+        };
+        Ok(places([case, made, spent.into()]))
     })
 }
 

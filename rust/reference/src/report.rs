@@ -2,7 +2,7 @@
 
 use std::fmt::Write;
 
-use crate::rounds::{Rounds, rounds};
+use crate::rounds::{Rounds, RoundsEnding, rounds};
 use crate::row::{AT_MOST, Row};
 use crate::{State, book, checks};
 
@@ -35,10 +35,8 @@ fn reduced(input: &[u8], limit: u64) -> Result<Option<String>, u32> {
         kinds: &mut kinds,
         table: &mut table,
     };
-    Ok(match rounds(&mut state, limit) {
-        Rounds::Infeasible(_) => None,
-        Rounds::Unchanged(made) | Rounds::LimitReached(made) => Some(print(&state, made)),
-    })
+    let Rounds { ending, made, .. } = rounds(&mut state, limit);
+    Ok((ending != RoundsEnding::Infeasible).then(|| print(&state, made)))
 }
 
 fn print(state: &State, rounds: u64) -> String {

@@ -8,36 +8,56 @@ use crate::propagation::Ending;
 /// The budget of each propagation in a round, and of each side of a probe.
 const BUDGET: u32 = 1_000;
 
-/// How the rounds ended, with the number of rounds, the last one included.
+/// How the rounds ended.
 #[derive(Clone, Copy, Debug, PartialEq, Eq)]
-pub enum Rounds {
+pub enum RoundsEnding {
     /// 01's None.
-    Infeasible(u64),
+    Infeasible,
     /// The last round changed nothing.
-    Unchanged(u64),
+    Unchanged,
     /// The last allowed round still changed a number, or no round was allowed.
-    LimitReached(u64),
+    LimitReached,
+}
+
+#[derive(Clone, Copy, Debug, PartialEq, Eq)]
+pub struct Rounds {
+    pub ending: RoundsEnding,
+    /// The number of rounds, the last one included.
+    pub made: u64,
+    /// Whether a side of a probe in the last round was Spent (02, C-24).
+    pub spent: bool,
 }
 
 /// Makes rounds until one changes nothing, the model is infeasible, or `limit` rounds are made.
 pub fn rounds(state: &mut State, limit: u64) -> Rounds {
+    let mut spent = false;
     for made in 1..=limit {
         let before = state.snapshot();
-        if !round(state) {
-            return Rounds::Infeasible(made);
+        let last = round(state);
+        spent = last.spent;
+        if !last.feasible {
+            return Rounds { ending: RoundsEnding::Infeasible, made, spent };
         }
         if state.snapshot() == before {
-            return Rounds::Unchanged(made);
+            return Rounds { ending: RoundsEnding::Unchanged, made, spent };
         }
     }
-    Rounds::LimitReached(limit)
+    Rounds { ending: RoundsEnding::LimitReached, made: limit, spent }
 }
 
-/// One round. Whether a variable is free is judged at its own turn. False at None.
-fn round(state: &mut State) -> bool {
+struct Round {
+    /// False at None, where the round is broken off.
+    feasible: bool,
+    /// Whether a side of one of its probes was Spent; its own propagation does not count.
+    spent: bool,
+}
+
+/// One round. Whether a variable is free is judged at its own turn.
+fn round(state: &mut State) -> Round {
     let (n, m) = (state.n, state.rhs.len());
+    let mut spent = false;
     if state.propagate(BUDGET).ending == Ending::Infeasible {
-        return false;
+        return Round { feasible: false, spent };
     }
     for r in 0..m {
         state.remove_redundant_row(r);
@@ -50,10 +70,13 @@ fn round(state: &mut State) -> bool {
         }
     }
     for k in 0..n {
-        if bounds::is_free(state.bounds, k) && state.probe(k, BUDGET).verdict == Verdict::Infeasible
-        {
-            return false;
+        if bounds::is_free(state.bounds, k) {
+            let probe = state.probe(k, BUDGET);
+            spent |= probe.sides.iter().any(|side| side.spent);
+            if probe.verdict == Verdict::Infeasible {
+                return Round { feasible: false, spent };
+            }
         }
     }
-    true
+    Round { feasible: true, spent }
 }

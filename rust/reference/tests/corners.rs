@@ -402,6 +402,37 @@ fn rounds_and_their_limit() {
     assert_eq!(model.rounds(0), Err(10));
 }
 
+/// 02, C-24: the rounds tell whether a side of a probe in the last round was Spent.
+#[test]
+fn rounds_with_a_spent_side() {
+    // x + z ≤ y, y ≤ x, x and y 0..2100: with z at 1 no point is left, but 1,000 passes do not show it.
+    let rows: [(&[i32], i32); 2] = [(&[1, -1, 1], 0), (&[-1, 1, 0], 0)];
+    let model = Model::new(&[(0, 2_100), (0, 2_100), (0, 1)], &rows);
+    assert_eq!(model.clone().rounds(8), ok(&[1, 1, 1]));
+    assert_eq!(model.clone().rounds(0), ok(&[2, 0, 0]));
+    assert_eq!(model.clone().at_rest(), ok(&[0, 1, 2]));
+    // With a smaller width they do: z is fixed at 0, and the second round changes nothing, at rest.
+    let mut narrow = Model::new(&[(0, 900), (0, 900), (0, 1)], &rows);
+    assert_eq!(narrow.clone().rounds(1), ok(&[2, 1, 0]));
+    assert_eq!(narrow.rounds(8), ok(&[1, 2, 0]));
+    assert_eq!(narrow.at_rest(), ok(&[1]));
+    // Infeasible: the round that it broke off is the last, and counts. v + w = 1 and v = w have no point, as only
+    // the probe of v shows, after that of z.
+    let rows: [(&[i32], i32); 6] = [
+        (&[1, -1, 1, 0, 0], 0),
+        (&[-1, 1, 0, 0, 0], 0),
+        (&[0, 0, 0, 1, 1], 1),
+        (&[0, 0, 0, -1, -1], -1),
+        (&[0, 0, 0, 1, -1], 0),
+        (&[0, 0, 0, -1, 1], 0),
+    ];
+    let mut none = Model::new(&[(0, 2_100), (0, 2_100), (0, 1), (0, 1), (0, 1)], &rows);
+    assert_eq!(none.rounds(8), ok(&[0, 1, 1]));
+    // The round's own propagation does not count: it crawls for 1,000 passes, and no variable is free.
+    let crawl = Model::new(&[(0, 2_100), (0, 2_100)], &[(&[1, -1], -1), (&[-1, 1], 0)]);
+    assert_eq!({ crawl }.rounds(1), ok(&[2, 1, 0]));
+}
+
 #[test]
 fn reduce_prints_none_and_refusals() {
     use reference::report;

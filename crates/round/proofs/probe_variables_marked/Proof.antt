@@ -1,7 +1,8 @@
--- `round::probe_variables_marked`: the invariant says that the calls so far were made, and that the marks are those of the box; a variable
--- that is not free is passed over. Assumes nothing.
+-- `round::probe_variables_marked`: the invariant says that the calls so far were made, whether a side of one was Spent, and that the marks
+-- are those of the box; a variable that is not free is passed over. Assumes nothing.
 use Prim.Native.Nat.{_-_}
 use lib.ListN.{length}
+use mathlib.Core.Bool.{false}
 use mathlib.Core.Logic.{⊎-elim}
 use mathlib.Core.Path.{_∙_, _≡_, refl, sym}
 use native.Mathlib.Omega.{arith}
@@ -9,25 +10,31 @@ use Rattle.model.specs.Box.{isFree}
 use Rattle.probing.specs.Marked.{Marked}
 use Rattle.semantics.specs.Call.{callOf}
 use Rattle.model.specs.Rows.{rowsOf}
-use Rattle.model.specs.State.{stateOf}
-use Rattle.round.specs.Round.{probeCall, probes}
-use Rattle.round.proofs.RoundLaws.{Turns, accepts-probe, all-turns, call-turn, flag-kept, flag-raised, no-turn, skip-turn, turns-lengths, turns-valid}
+use Rattle.model.specs.State.{State, stateOf}
+use Rattle.semantics.specs.Unmoved.{anySpent}
+use Rattle.round.specs.Round.{probeCall, probes, upwards}
+use Rattle.round.proofs.RoundLaws.{Turns, accepts-probe, all-turns, call-turn, flag-kept, no-turn, skip-turn, turns-lengths, turns-valid}
+use Rattle.round.proofs.SpentLaws.{spent-call, spent-skip, spent-turn, spent-turns}
 use Rattle.round.proofs.probe_variables_marked.Statement.{statement}
 use Rattle.round.proofs.probe_variables_marked.Tie as tie
 
 abbrev Inv-loop : tie.InvT-loop
-Inv-loop n m bounds₀ coefs rhs kinds table₀ across₀ signs₀ marks₀ changed₀ k₀ bounds table across signs marks changed k =
+Inv-loop n m bounds₀ coefs rhs kinds table₀ across₀ signs₀ marks₀ changed₀ spent₀ k₀ bounds table across signs marks changed spent k =
     Turns n probeCall (stateOf n m bounds₀ (rowsOf coefs rhs kinds) table₀) (stateOf n m bounds (rowsOf coefs rhs kinds) table) changed k
     × Marked n m bounds (rowsOf coefs rhs kinds) across signs marks
     × (length across ≡ length across₀)
     × (length signs ≡ length signs₀)
+    × (let s = stateOf n m bounds₀ (rowsOf coefs rhs kinds) table₀ in spent ≡ anySpent s (upwards k probeCall s))
 
 abbrev μ-loop : tie.MeasureT-loop
-μ-loop n m bounds₀ coefs rhs kinds table₀ across₀ signs₀ marks₀ changed₀ k₀ bounds table across signs marks changed k = n - k
+μ-loop n m bounds₀ coefs rhs kinds table₀ across₀ signs₀ marks₀ changed₀ spent₀ k₀ bounds table across signs marks changed spent k = n - k
+
+abbrev entry : tie.Start Inv-loop μ-loop → State
+entry s = let a = s .args in stateOf (a .n) (a .m) (a .bounds .now) (rowsOf (a .coefs .now) (a .rhs .now) (a .kinds .now)) (a .table .now)
 
 loop-holds : tie.Need-loop-holds Inv-loop μ-loop
-unfolding stateOf
-loop-holds c = let s = c .before .before .before .before .before in (no-turn (s .args .n) probeCall (s .pre .0), s .pre .1, refl, refl)
+unfolding stateOf upwards anySpent
+loop-holds c = let s = c .before .before .before .before .before in (no-turn (s .args .n) probeCall (s .pre .0), s .pre .1, refl, refl, refl)
 
 cast-loop : tie.Need-cast-loop Inv-loop μ-loop
 cast-loop c = omega arith
@@ -67,26 +74,26 @@ loop-again c =
     let l = t .before .loop in
     let known = sym (c .before .is-free .ensures) in
     let free = isFree (l .bounds) (l .k) in
-    let call = callOf (stateOf (s .args .n) (s .args .m) (l .bounds) (rowsOf (s .args .coefs .now) (s .args .rhs .now) (s .args .kinds .now)) (l .table)) 3 0 (l .k) 1000 in
+    let s₀ = entry s in
+    let t₀ = stateOf (s .args .n) (s .args .m) (l .bounds) (rowsOf (s .args .coefs .now) (s .args .rhs .now) (s .args .kinds .now)) (l .table) in
+    let call = callOf t₀ 3 0 (l .k) 1000 in
     let f = probeCall in
     let h = t .loop-test .taken in
     ⊎-elim
     (λ w. let e = w .6 .ensures in rw (w .18, w .19, w .20, w .21, w .22) (
-      call-turn (s .args .n) f (l .inv .0) free call refl h (known ∙ w .0 .taken) (e .0, e .1 .0) (w .16 .ensures)
-          (flag-raised (l .changed) (w .17 .taken) (w .23)),
-      e .1 .1,
+      call-turn (s .args .n) f (l .inv .0) free call refl h (known ∙ w .0 .taken) (e .0, e .1 .0) (w .17 .ensures) (w .23),
+      e .1 .1 .1,
       w .6 .kept .1 .1 .1 .1 .1 .1 .1 .1 .1 .0 ∙ l .inv .2,
       w .6 .kept .1 .1 .1 .1 .1 .1 .1 .1 .1 .1 .0 ∙ l .inv .3,
+      spent-turn f s₀ (l .k) (l .inv .0 .made .left) (l .inv .4) (spent-call f t₀ (l .k) free call refl (known ∙ w .0 .taken) (e .1 .1 .0)) (w .24),
     ))
-    (⊎-elim
-    (λ w. let e = w .6 .ensures in rw (w .18, w .19, w .20, w .21, w .22) (
-      call-turn (s .args .n) f (l .inv .0) free call refl h (known ∙ w .0 .taken) (e .0, e .1 .0) (w .16 .ensures)
-          (flag-kept (l .changed) (w .17 .left) (w .23)),
-      e .1 .1,
-      w .6 .kept .1 .1 .1 .1 .1 .1 .1 .1 .1 .0 ∙ l .inv .2,
-      w .6 .kept .1 .1 .1 .1 .1 .1 .1 .1 .1 .1 .0 ∙ l .inv .3,
+    (λ w. rw (w .1, w .2, w .3, w .4, w .5) (
+      skip-turn (s .args .n) f (l .inv .0) free call refl h (known ∙ w .0 .left) (w .6),
+      l .inv .1,
+      l .inv .2,
+      l .inv .3,
+      spent-turn f s₀ (l .k) (l .inv .0 .made .left) (l .inv .4) (spent-skip f t₀ (l .k) free call refl (known ∙ w .0 .left)) (flag-kept (l .spent) {d = false} refl (w .7)),
     ))
-    (λ w. rw (w .1, w .2, w .3, w .4, w .5) (skip-turn (s .args .n) f (l .inv .0) free call refl h (known ∙ w .0 .left) (w .6), l .inv .1, l .inv .2, l .inv .3)))
     (c .if1 .came)
 
 same-length : tie.Need-same-length Inv-loop μ-loop
@@ -110,7 +117,9 @@ returns : tie.Need-returns Inv-loop μ-loop
 unfolding stateOf probes
 returns c =
     let s = c .before .before .before .before .before .before .before in
-    let p = all-turns (s .args .n) probeCall (c .before .loop .inv .0) (c .loop-test .left) in (p .left, p .changed)
+    let i = c .before .loop .inv in
+    let p = all-turns (s .args .n) probeCall (i .0) (c .loop-test .left) in
+    (p .left, (p .changed, spent-turns probeCall (entry s) (i .0 .within) (c .loop-test .left) (i .4)))
 
 pub probe-variables-marked-spec : {M : Type 1} → statement M
 probe-variables-marked-spec =

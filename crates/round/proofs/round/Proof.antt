@@ -1,15 +1,17 @@
--- `round::round`: each phase goes on from where the phases before it led, and the flag says whether one of them changed something.
--- Assumes nothing.
+-- `round::round`: each phase goes on from where the phases before it led, and the flag says whether one of them changed something; the
+-- probes alone have sides. Assumes nothing.
 use mathlib.Core.Bool.{Bool, _||_}
 use mathlib.Core.Logic.{⊎-elim}
 use mathlib.Core.Path.{_≡_, refl}
 use borrow.Author.Needs.{needs}
 use Rattle.semantics.specs.Call.{callOf, kindOf}
+use Rattle.semantics.specs.Unmoved.{anySpent}
 use Rattle.step.proofs.StepLaws.{ran-settle}
 use Rattle.model.specs.Rows.{rowsOf}
 use Rattle.model.specs.State.{State, stateOf}
 use Rattle.round.specs.Round.{andThen, removals, probes, round, propagateCall, tightenings}
 use Rattle.round.proofs.RoundLaws.{Leads, SameLengths, accepts-propagation, flag-kept, flag-raised, in-order, leads-then, leads-valid, one-call, same-lengths}
+use Rattle.round.proofs.SpentLaws.{round-spent}
 use Rattle.round.proofs.round.Statement.{statement}
 use Rattle.round.proofs.round.Tie as tie
 
@@ -117,11 +119,15 @@ module _ (c : tie.After-probe-variables) where
       let l = c .probe-variables .last in
       stateOf (a .n) (a .m) (l .1 .1 .0) (tighten-state tightened-before .model .rows) (l .1 .1 .1 .1 .1 .1 .0)
 
-  probe-leads : {e : Bool} → e ≡ (tightened-before .if2 .changed || c .probe-variables .result) → Leads (entry probe-start) (round (entry probe-start)) probe-state e
+  probe-leads : {e : Bool} → e ≡ (tightened-before .if2 .changed || c .probe-variables .result .changed) → Leads (entry probe-start) (round (entry probe-start)) probe-state e
   unfolding stateOf
   probe-leads k =
       rw (in-order (entry probe-start)) at (leads-then (andThen (andThen propagateCall removals) tightenings) probes (tighten-leads tightened-before)
-      (record { left = c .probe-variables .ensures .0; changed = c .probe-variables .ensures .1 }) k)
+      (record { left = c .probe-variables .ensures .0; changed = c .probe-variables .ensures .1 .0 }) k)
+
+  spent : c .probe-variables .result .spent ≡ anySpent (entry probe-start) (round (entry probe-start))
+  unfolding stateOf
+  spent = round-spent (entry probe-start) (tighten-leads tightened-before .left) (c .probe-variables .ensures .1 .1)
 
   lengths : SameLengths (entry probe-start) probe-state
   lengths = same-lengths (probe-leads refl) (probe-start .pre)
@@ -146,29 +152,7 @@ returns : tie.Need-returns
 unfolding stateOf
 returns c =
     let d = c .before .before .before .before in
-    let p = probe-leads d (flag-raised (tightened-before d .if2 .changed) (c .if3 .taken) refl) in (p .left, p .changed)
-
-same-length-6 : tie.Need-same-length-6
-unfolding stateOf
-same-length-6 c = lengths (c .before .before .before .before) .box
-
-same-length-7 : tie.Need-same-length-7
-same-length-7 c = search needs
-
-same-length-8 : tie.Need-same-length-8
-same-length-8 c = search needs
-
-same-length-9 : tie.Need-same-length-9
-same-length-9 c = search needs
-
-same-length-10 : tie.Need-same-length-10
-same-length-10 c = search needs
-
-returns-2 : tie.Need-returns-2
-unfolding stateOf
-returns-2 c =
-    let d = c .before .before .before .before in
-    let p = probe-leads d (flag-kept (tightened-before d .if2 .changed) (c .if3 .left) refl) in (p .left, p .changed)
+    let p = probe-leads d refl in (p .left, (p .changed, spent d))
 
 pub round-spec : {M : Type 1} → statement M
 round-spec =
@@ -185,10 +169,4 @@ round-spec =
     same-length-3
     same-length-4
     same-length-5
-    returns
-    same-length-6
-    same-length-7
-    same-length-8
-    same-length-9
-    same-length-10
-    returns-2)
+    returns)

@@ -10,6 +10,7 @@ use Rattle.model.specs.Rows.{rowsOf}
 use Rattle.model.specs.State.{State, stateOf}
 use Rattle.semantics.proofs.Accepted.{accepted-valid}
 use Rattle.rounds.specs.Answers.{roundsAnswer}
+use Rattle.semantics.specs.Unmoved.{anySpent}
 use Rattle.round.specs.Round.{round}
 use Rattle.rounds.specs.Rounds.{roundsFault}
 use Rattle.round.proofs.RoundLaws.{Leads, SameLengths, leads-valid, valid-lengths}
@@ -18,11 +19,11 @@ use Rattle.rounds.proofs.run.Statement.{statement}
 use Rattle.rounds.proofs.run.Tie as tie
 
 abbrev Inv-loop : tie.InvT-loop
-Inv-loop n m bounds₀ coefs₀ rhs₀ kinds₀ table₀ limit fault made₀ bounds coefs rhs kinds table made =
-    Rest (stateOf n m bounds₀ (rowsOf coefs₀ rhs₀ kinds₀) table₀) limit made (stateOf n m bounds (rowsOf coefs rhs kinds) table)
+Inv-loop n m bounds₀ coefs₀ rhs₀ kinds₀ table₀ limit fault made₀ spent₀ bounds coefs rhs kinds table made spent =
+    Rest (stateOf n m bounds₀ (rowsOf coefs₀ rhs₀ kinds₀) table₀) limit made spent (stateOf n m bounds (rowsOf coefs rhs kinds) table)
 
 abbrev μ-loop : tie.MeasureT-loop
-μ-loop n m bounds₀ coefs₀ rhs₀ kinds₀ table₀ limit fault made₀ bounds coefs rhs kinds table made = limit - made
+μ-loop n m bounds₀ coefs₀ rhs₀ kinds₀ table₀ limit fault made₀ spent₀ bounds coefs rhs kinds table made spent = limit - made
 
 abbrev entry : tie.Start Inv-loop μ-loop → State
 entry s = let a = s .args in stateOf (a .n) (a .m) (a .bounds .now) (rowsOf (a .coefs .now) (a .rhs .now) (a .kinds .now)) (a .table .now)
@@ -90,8 +91,11 @@ module _ (c : tie.After-round Inv-loop μ-loop) where
       let l = c .round .last in
       stateOf (a .n) (a .m) (l .1 .1 .0) (rowsOf (l .1 .1 .1 .0) (l .1 .1 .1 .1 .0) (l .1 .1 .1 .1 .1 .0)) (l .1 .1 .1 .1 .1 .1 .0)
 
-  made : Leads old (round old) new (c .round .result)
-  made = record { left = c .round .ensures .0; changed = c .round .ensures .1 }
+  made : Leads old (round old) new (c .round .result .changed)
+  made = record { left = c .round .ensures .0; changed = c .round .ensures .1 .0 }
+
+  spent : c .round .result .spent ≡ anySpent old (round old)
+  spent = c .round .ensures .1 .1
 
   new-valid : ValidState new
   new-valid = leads-valid made (earlier .loop .inv .valid)
@@ -136,35 +140,35 @@ returns-2 c =
     let d = c .before .before .before .before .before .before .before .before .before .before in
     let h = earlier d in
     finished (first d .args .limit) (entry (first d)) (accepted (h .before))
-    (ends-empty (h .loop .inv) (d .before .before .before .before .before .before .loop-test .taken) (made d) (tested (c .before) ∙ c .if2 .taken))
+    (ends-empty (h .loop .inv) (d .before .before .before .before .before .before .loop-test .taken) (made d) (spent d) (tested (c .before) ∙ c .if2 .taken))
 
 same-length-11 : tie.Need-same-length-11 Inv-loop μ-loop
 unfolding stateOf
-same-length-11 c = lengths (c .before .before .before .before .before .before .before .before .before .before .before) .box
+same-length-11 c = lengths (c .before .before .before .before .before .before .before .before .before .before .before .before) .box
 
 same-length-12 : tie.Need-same-length-12 Inv-loop μ-loop
 unfolding stateOf
-same-length-12 c = lengths (c .before .before .before .before .before .before .before .before .before .before .before) .coefs
+same-length-12 c = lengths (c .before .before .before .before .before .before .before .before .before .before .before .before) .coefs
 
 same-length-13 : tie.Need-same-length-13 Inv-loop μ-loop
 unfolding stateOf
-same-length-13 c = lengths (c .before .before .before .before .before .before .before .before .before .before .before) .rhs
+same-length-13 c = lengths (c .before .before .before .before .before .before .before .before .before .before .before .before) .rhs
 
 same-length-14 : tie.Need-same-length-14 Inv-loop μ-loop
 unfolding stateOf
-same-length-14 c = lengths (c .before .before .before .before .before .before .before .before .before .before .before) .kinds
+same-length-14 c = lengths (c .before .before .before .before .before .before .before .before .before .before .before .before) .kinds
 
 same-length-15 : tie.Need-same-length-15 Inv-loop μ-loop
 unfolding stateOf
-same-length-15 c = lengths (c .before .before .before .before .before .before .before .before .before .before .before) .table
+same-length-15 c = lengths (c .before .before .before .before .before .before .before .before .before .before .before .before) .table
 
 returns-3 : tie.Need-returns-3 Inv-loop μ-loop
 unfolding roundsAnswer stateOf
 returns-3 c =
-    let d = c .before .before .before .before .before .before .before .before .before .before .before in
+    let d = c .before .before .before .before .before .before .before .before .before .before .before .before in
     let h = earlier d in
     finished (first d .args .limit) (entry (first d)) (accepted (h .before))
-    (ends-unchanged (h .loop .inv) (d .before .before .before .before .before .before .loop-test .taken) (made d) (tested (c .before .before) ∙ c .before .if2 .left) (not-true (d .round .result) (c .if3 .taken)))
+    (ends-unchanged (h .loop .inv) (d .before .before .before .before .before .before .loop-test .taken) (made d) (spent d) (tested (c .before .before .before) ∙ c .before .before .if2 .left) (not-true (d .round .result .changed) (c .if3 .taken)))
 
 loop-less : tie.Need-loop-less Inv-loop μ-loop
 loop-less c = omega arith
@@ -172,9 +176,9 @@ loop-less c = omega arith
 loop-again : tie.Need-loop-again Inv-loop μ-loop
 unfolding stateOf
 loop-again c =
-    let d = c .before .before .before .before .before .before .before .before .before .before .before in
+    let d = c .before .before .before .before .before .before .before .before .before .before .before .before in
     let h = earlier d in
-    goes-on (h .loop .inv) (d .before .before .before .before .before .before .loop-test .taken) (made d) (tested (c .before .before) ∙ c .before .if2 .left) (not-false (d .round .result) (c .if3 .left))
+    goes-on (h .loop .inv) (d .before .before .before .before .before .before .loop-test .taken) (made d) (spent d) (tested (c .before .before .before) ∙ c .before .before .if2 .left) (not-false (d .round .result .changed) (c .if3 .left))
 
 same-length-16 : tie.Need-same-length-16 Inv-loop μ-loop
 unfolding stateOf

@@ -25,7 +25,7 @@ same-length-2 : tie.Need-same-length-2
 same-length-2 c = search needs
 
 returns : tie.Need-returns
-returns c = let e = c .before .before .before .before .before .before .run-probe-marked .ensures in (e .0, e .1 .0)
+returns c = search needs
 
 pub run-probe-spec : {M : Type 1} → statement M
 run-probe-spec =

@@ -1,25 +1,27 @@
 -- `step::run_probe_marked`: the copy is the box before, so the probing's case, its new bytes and the comparison give the class of the
--- call. Assumes nothing.
+-- call; its sides say whether one was Spent. Assumes nothing.
 use Prim.Native.Nat.{ℕ}
 use borrow.Author.Needs.{needs}
 use lib.Dec.{eqb}
 use lib.IntN.{ℤ}
 use lib.ListN.{length}
-use mathlib.Core.Bool.{_&&_}
+use mathlib.Core.Bool.{_&&_, _||_}
 use mathlib.Core.List.{List}
 use mathlib.Core.Path.{_∙_, _≡_, ap, refl, sym}
 use Rattle.integer.proofs.Tests.{eqb-test, test-false}
 use Rattle.model.specs.Box.{sameList}
-use Rattle.semantics.specs.Run.{CallClass, changedCall, probeInfeasible, unchangedCall}
+use Rattle.semantics.specs.Perform.{perform}
+use Rattle.semantics.specs.Run.{CallClass, changedCall, infeasibleCall, probeInfeasible, unchangedCall}
+use Rattle.semantics.specs.Unmoved.{sideSpent}
 use Rattle.semantics.specs.Call.{callOf, hasVariable, kindOf}
 use Rattle.model.specs.Rows.{rowsOf}
 use Rattle.model.specs.State.{stateOf}
 use Rattle.semantics.proofs.Accepted.{accepted}
 use Rattle.semantics.proofs.ClassLaws.{addsNone, classBy}
 use Rattle.call.specs.Classes.{classIs}
-use Rattle.probing.specs.Results.{probingOf}
+use Rattle.probing.specs.Results.{probingOf, reportOf}
 use Rattle.probing.specs.declared.sides.Probing.{Probing}
-use Rattle.step.proofs.StepLaws.{Ran, ran-probe}
+use Rattle.step.proofs.StepLaws.{Ran, probe-spent, ran-probe}
 use Rattle.marked_row.proofs.LocalBox.{box-room, box-small, held, held-fits, held-length}
 use Rattle.step.proofs.run_probe_marked.Statement.{statement}
 use Rattle.step.proofs.run_probe_marked.Tie as tie
@@ -68,6 +70,15 @@ module _ (d : tie.After-probe-marked) where
       ran-probe (a .n) (a .m) B (rowsOf (a .coefs .now) (a .rhs .now) (a .kinds .now)) (a .table .now) 3 0 (a .variable) (a .budget) (s .pre .1 .0) _ refl h
       (ap (λ v. probingOf v Q t) (sym e) ∙ d .probe-marked .ensures .0)
 
+  spent : {v : Probing} → d .probe-marked .result ≡ v → let w = probingOf v Q t in let a = s .args in
+      let r = stateOf (a .n) (a .m) B (rowsOf (a .coefs .now) (a .rhs .now) (a .kinds .now)) (a .table .now) in
+      (w .side0 .spent || w .side1 .spent) ≡ sideSpent (perform r (callOf r 3 0 (a .variable) (a .budget)) .answer)
+  unfolding kindOf
+  spent e =
+      let a = s .args in
+      probe-spent (a .n) (a .m) B (rowsOf (a .coefs .now) (a .rhs .now) (a .kinds .now)) (a .table .now) 3 0 (a .variable) (a .budget) (s .pre .1 .0) _ refl
+      (ap (λ v. probingOf v Q t) (sym e) ∙ d .probe-marked .ensures .0)
+
   -- the copy
   abbrev P : List ℤ
   P = d .before .before .before .before .before .before .before .copy-box .last .1 .0
@@ -75,14 +86,23 @@ module _ (d : tie.After-probe-marked) where
   copied : P ≡ B
   copied = d .before .before .before .before .before .before .before .copy-box .ensures
 
-enum-told : tie.Need-enum-told
-enum-told c = search needs
+enum-known-s0 : tie.Need-enum-known-s0
+enum-known-s0 c = search needs
 
-enum-told-2 : tie.Need-enum-told-2
-enum-told-2 c = search needs
+step-of-requires : tie.Need-step-of-requires
+step-of-requires c κs = search needs
+
+enum-known-s0-2 : tie.Need-enum-known-s0-2
+enum-known-s0-2 c = search needs
+
+step-of-requires-2 : tie.Need-step-of-requires-2
+step-of-requires-2 c κs = search needs
 
 enum-known-added : tie.Need-enum-known-added
 enum-known-added c = search needs
+
+step-of-requires-3 : tie.Need-step-of-requires-3
+step-of-requires-3 c κs = search needs
 
 same-length : tie.Need-same-length
 same-length c = search needs
@@ -100,11 +120,12 @@ same-length-5 : tie.Need-same-length-5
 same-length-5 c = search needs
 
 returns : tie.Need-returns
-unfolding classIs probingOf probeInfeasible addsNone
+unfolding classIs probingOf probeInfeasible addsNone reportOf
 returns c =
-    let d = c .before .before .before .before .before .before .before .before .before .before .before .before .before in
-    let w = done d {k = changedCall} (c .before .before .added .given .1) (rw (test-false (eqb (c .before .before .added .given .0 .0) 0) (eqb-test _ 0) (c .if1 .taken))) in
-    (w .0, (w .1, d .probe-marked .ensures .1))
+    let d = c .before .before .before .before .before .before .before .before .before .before .before .before .before .before in
+    let e = c .before .before .before .added .given .1 in
+    let w = done d {k = changedCall} e (rw (test-false (eqb (c .before .before .before .added .given .0 .0) 0) (eqb-test _ 0) (c .before .if1 .taken))) in
+    (c .step-of3 .ensures .0 ∙ w .0, (w .1, (c .step-of3 .ensures .1 ∙ spent d e, d .probe-marked .ensures .1)))
 
 array-share-prefix-before : tie.Need-array-share-prefix-before
 array-share-prefix-before c = let d = c .before .before .before .before .before .before .before .before .before .before .before .before .before in held-fits (P d) (length (B d)) (ap length (copied d))
@@ -116,6 +137,9 @@ same-box-requires : tie.Need-same-box-requires
 same-box-requires c κs =
     let d = c .before .before .before .before .before .before .before .before .before .before .before .before .before .before .before in
     held-length (P d) (length (B d)) (ap length (copied d)) ∙ sym (d .probe-marked .kept .1 .1 .0)
+
+step-of-requires-4 : tie.Need-step-of-requires-4
+step-of-requires-4 c κs = search needs
 
 same-length-6 : tie.Need-same-length-6
 same-length-6 c = search needs
@@ -139,11 +163,15 @@ compared c =
     c .same-box .ensures ∙ ap (λ (z : List ℤ). sameList z (Q d)) (held (P d) (length (B d)) (ap length (copied d)) ∙ copied d)
 
 returns-2 : tie.Need-returns-2
-unfolding classIs probingOf probeInfeasible addsNone
+unfolding classIs probingOf probeInfeasible addsNone reportOf
 returns-2 c =
-    let d = c .before .before .before .before .before .before .before .before .before .before .before .before .before .before .before .before .before in
-    let w = done d {k = unchangedCall} (c .before .before .before .before .before .before .added .given .1) (rw (c .before .before .before .before .if1 .left, sym (compared (c .before)), c .if2 .taken)) in
-    (w .0, (w .1, d .probe-marked .ensures .1))
+    let d = c .before .before .before .before .before .before .before .before .before .before .before .before .before .before .before .before .before .before in
+    let e = c .before .before .before .before .before .before .before .added .given .1 in
+    let w = done d {k = unchangedCall} e (rw (c .before .before .before .before .before .if1 .left, sym (compared (c .before .before)), c .before .if2 .taken)) in
+    (c .step-of4 .ensures .0 ∙ w .0, (w .1, (c .step-of4 .ensures .1 ∙ spent d e, d .probe-marked .ensures .1)))
+
+step-of-requires-5 : tie.Need-step-of-requires-5
+step-of-requires-5 c κs = search needs
 
 same-length-11 : tie.Need-same-length-11
 same-length-11 c = search needs
@@ -161,11 +189,12 @@ same-length-15 : tie.Need-same-length-15
 same-length-15 c = search needs
 
 returns-3 : tie.Need-returns-3
-unfolding classIs probingOf probeInfeasible
+unfolding classIs probingOf probeInfeasible addsNone reportOf
 returns-3 c =
-    let d = c .before .before .before .before .before .before .before .before .before .before .before in
-    let w = done d (c .enum-told .given .1) refl in
-    (w .0, (w .1, d .probe-marked .ensures .1))
+    let d = c .before .before .before .before .before .before .before .before .before .before .before .before .before in
+    let e = c .before .before .s0 .given .1 in
+    let w = done d {k = infeasibleCall} e refl in
+    (c .step-of .ensures .0 ∙ w .0, (w .1, (c .step-of .ensures .1 ∙ spent d e, d .probe-marked .ensures .1)))
 
 same-length-16 : tie.Need-same-length-16
 same-length-16 c = search needs
@@ -183,11 +212,12 @@ same-length-20 : tie.Need-same-length-20
 same-length-20 c = search needs
 
 returns-4 : tie.Need-returns-4
-unfolding classIs probingOf probeInfeasible addsNone
+unfolding classIs probingOf probeInfeasible addsNone reportOf
 returns-4 c =
-    let d = c .before .before .before .before .before .before .before .before .before .before .before in
-    let w = done d (c .enum-told2 .given .1) refl in
-    (w .0, (w .1, d .probe-marked .ensures .1))
+    let d = c .before .before .before .before .before .before .before .before .before .before .before .before .before in
+    let e = c .before .before .s02 .given .1 in
+    let w = done d {k = changedCall} e refl in
+    (c .step-of2 .ensures .0 ∙ w .0, (w .1, (c .step-of2 .ensures .1 ∙ spent d e, d .probe-marked .ensures .1)))
 
 same-length-21 : tie.Need-same-length-21
 same-length-21 c = search needs
@@ -205,11 +235,12 @@ same-length-25 : tie.Need-same-length-25
 same-length-25 c = search needs
 
 returns-5 : tie.Need-returns-5
-unfolding classIs probingOf probeInfeasible addsNone
+unfolding classIs probingOf probeInfeasible addsNone reportOf
 returns-5 c =
-    let d = c .before .before .before .before .before .before .before .before .before .before .before .before .before .before .before .before .before in
-    let w = done d {k = changedCall} (c .before .before .before .before .before .before .added .given .1) (rw (c .before .before .before .before .if1 .left, sym (compared (c .before)), c .if2 .left)) in
-    (w .0, (w .1, d .probe-marked .ensures .1))
+    let d = c .before .before .before .before .before .before .before .before .before .before .before .before .before .before .before .before .before .before in
+    let e = c .before .before .before .before .before .before .before .added .given .1 in
+    let w = done d {k = changedCall} e (rw (c .before .before .before .before .before .if1 .left, sym (compared (c .before .before)), c .before .if2 .left)) in
+    (c .step-of5 .ensures .0 ∙ w .0, (w .1, (c .step-of5 .ensures .1 ∙ spent d e, d .probe-marked .ensures .1)))
 
 pub run-probe-marked-spec : {M : Type 1} → statement M
 run-probe-marked-spec =
@@ -219,9 +250,12 @@ run-probe-marked-spec =
     slice-aggregate-copy-box
     copy-box-requires
     probe-marked-requires
-    enum-told
-    enum-told-2
+    enum-known-s0
+    step-of-requires
+    enum-known-s0-2
+    step-of-requires-2
     enum-known-added
+    step-of-requires-3
     same-length
     same-length-2
     same-length-3
@@ -231,12 +265,14 @@ run-probe-marked-spec =
     array-share-prefix-before
     slice-aggregate-same-box
     same-box-requires
+    step-of-requires-4
     same-length-6
     same-length-7
     same-length-8
     same-length-9
     same-length-10
     returns-2
+    step-of-requires-5
     same-length-11
     same-length-12
     same-length-13
