@@ -47,9 +47,9 @@
  * no fractional point is added; a call answers INFEASIBLE only where no integer point exists.
  *
  * REFUSALS. Every function returns ASTROLABE_OK (0), or the number of the first check that fails. The
- * order of the checks is that of the numbers but for those that came later: 23 stands straight after 7,
- * 16 and 17 after 9, 21 straight after 10, 18 straight after 11:
- *     1 2 3 4 5 6 7 23 8 9 16 17 10 21 11 18 12 13 14 15
+ * order of the checks is that of the numbers but for those that came later: 19 and 20 stand after 4 (the
+ * entry read first decides), 23 straight after 7, 16 and 17 after 9, 21 straight after 10, 18 straight after 11:
+ *     1 2 3 4 19 20 5 6 7 23 8 9 16 17 10 21 11 18 12 13 14 15
  * Each function's comment lists the checks that it makes, in its order. On a refusal no lent number
  * changes, the answer's places among them. All that is lent is checked in every call, so a model can be
  * changed freely between calls.
@@ -129,6 +129,10 @@ extern "C" {
 #define ASTROLABE_REFUSED_ROW_KIND 16            /* a kind byte is above 1; made after 9 */
 #define ASTROLABE_REFUSED_EQUALITY_ROW 17        /* an = row is to be written into a book; made straight after 16 */
 #define ASTROLABE_REFUSED_RETIRED_KIND 18        /* kind 4 or 5 of a record of astrolabe_run; made straight after 11 */
+#define ASTROLABE_REFUSED_COLUMN 19              /* of a sparse book: a column is not below n or not above the one
+                                                    before; made straight after 4 */
+#define ASTROLABE_REFUSED_ZERO_COEFFICIENT 20    /* of a sparse book: an entry's coefficient is 0; made with 19, the
+                                                    entry read first deciding, and in one entry the column */
 #define ASTROLABE_REFUSED_TIE_PLACE 21           /* a place of the tie list is above 2n; made straight after 10 */
 #define ASTROLABE_REFUSED_VARIABLE_TOO_WIDE 23   /* u - l of a variable is over 4,096; made straight after 7 */
 
@@ -554,6 +558,104 @@ uint32_t astrolabe_book_write(size_t n, size_t m,
                               const int32_t *rhs, size_t rhs_len,
                               const uint8_t *kinds, size_t kinds_len,
                               uint8_t *book, size_t book_len);
+
+/* ---------------------------------------------------------------------------------------------
+ * Sparse books, the second edition: the same bounds and the same trailer, and between them for each row its
+ * right-hand side (32 bits), its kind (8), a count (16), and then a column (16) and a coefficient (32) for
+ * each coefficient that is not 0, columns rising. Which edition a file is in is not written in it: a caller
+ * knows, or tells it by which trailer or reading is accepted. With no rows both are the same bytes.
+ */
+
+/*
+ * Reads n and m from the 16 trailer bytes alone, to know what buffers astrolabe_sparse_read needs.
+ *
+ *     answer[0]   n
+ *     answer[1]   m
+ *
+ * Refused by 1 5 (more than 16 bytes, or a wrong answer_len) 3 4, in this order; 4 is of the offsets only.
+ */
+uint32_t astrolabe_sparse_trailer(const uint8_t *bytes, size_t bytes_len,
+                                  uint64_t *answer, size_t answer_len);
+
+/*
+ * Reads a sparse book into the buffers of a model.
+ *
+ *     bounds, coefs, rhs, kinds   written   the model; counts as the book's n and m give them
+ *     answer[0]   n
+ *     answer[1]   m
+ *
+ * Refused by 1 2 3 4 19 20 5 6 7 23 8 9 16, in this order. 4: an offset is wrong, or the walk over the rows
+ * does not end at the trailer; it is finished before any entry is looked at. 19 and 20 are one check: the
+ * entry read first decides, and in one entry the column.
+ */
+uint32_t astrolabe_sparse_read(const uint8_t *book, size_t book_len,
+                               int32_t *bounds, size_t bounds_len,
+                               int32_t *coefs, size_t coefs_len,
+                               int32_t *rhs, size_t rhs_len,
+                               uint8_t *kinds, size_t kinds_len,
+                               uint64_t *answer, size_t answer_len);
+
+/*
+ * Writes a model, = rows too, into a sparse book. There is no answer: the returned number says all. Reading
+ * the book gives back the model, and writing the model of an accepted book gives back its bytes.
+ *
+ *     book        written   exactly as many bytes as astrolabe_sparse_length tells
+ *
+ * Refused by 3 5 6 7 23 8 9 16, in this order.
+ */
+uint32_t astrolabe_sparse_write(size_t n, size_t m,
+                                const int32_t *bounds, size_t bounds_len,
+                                const int32_t *coefs, size_t coefs_len,
+                                const int32_t *rhs, size_t rhs_len,
+                                const uint8_t *kinds, size_t kinds_len,
+                                uint8_t *book, size_t book_len);
+
+/*
+ * How long the sparse book of a model is: 8n + 7m + 16 bytes, and 6 for each coefficient that is not 0; at
+ * most 94,040.
+ *
+ *     answer[0]   bytes
+ *
+ * Refused by 3 5 6 7 23 8 9 16, in this order.
+ */
+uint32_t astrolabe_sparse_length(size_t n, size_t m,
+                                 const int32_t *bounds, size_t bounds_len,
+                                 const int32_t *coefs, size_t coefs_len,
+                                 const int32_t *rhs, size_t rhs_len,
+                                 const uint8_t *kinds, size_t kinds_len,
+                                 uint64_t *answer, size_t answer_len);
+
+/*
+ * How long the sparse edition of a first-edition book is.
+ *
+ *     answer[0]   bytes
+ *
+ * Refused by 1 2 3 4 5 (a wrong answer_len) 6 7 23 8 9, in this order.
+ */
+uint32_t astrolabe_book_to_sparse_length(const uint8_t *book, size_t book_len,
+                                         uint64_t *answer, size_t answer_len);
+
+/*
+ * Turns a first-edition book into a sparse one. There is no answer: the returned number says all. Turning it
+ * back gives the same bytes.
+ *
+ *     to          written   exactly as many bytes as astrolabe_book_to_sparse_length tells
+ *
+ * Refused by 1 2 3 4 5 (to_len) 6 7 23 8 9, in this order.
+ */
+uint32_t astrolabe_book_to_sparse(const uint8_t *from, size_t from_len,
+                                  uint8_t *to, size_t to_len);
+
+/*
+ * Turns a sparse book whose rows are all <= rows into a first-edition one. There is no answer: the returned
+ * number says all. Turning it back gives the same bytes.
+ *
+ *     to          written   exactly ASTROLABE_BOOK_LEN(n, m) bytes
+ *
+ * Refused by 1 2 3 4 19 20 5 (to_len) 6 7 23 8 9 16 17, in this order.
+ */
+uint32_t astrolabe_sparse_to_book(const uint8_t *from, size_t from_len,
+                                  uint8_t *to, size_t to_len);
 
 #ifdef __cplusplus
 }

@@ -61,6 +61,12 @@ const LINES: &[Line] = &[
     line("tie_dense", "tie two variables", "dense", Operation::Tie { k: 0, j: 1 }),
     line("tie_sparse", "tie two variables", "sparse", Operation::Tie { k: 0, j: 1 }),
     line("cliques_full", "clique rows of a full table", "dense", Operation::Cliques),
+    line("read_first", "read a book", "sparse", Operation::BookRead),
+    line("read_sparse", "read a sparse book", "sparse", Operation::SparseRead),
+    line("write_first", "write a book", "sparse", Operation::BookWrite),
+    line("write_sparse", "write a sparse book", "sparse", Operation::SparseWrite),
+    line("to_sparse", "turn a book into a sparse one", "sparse", Operation::BookToSparse),
+    line("to_first", "turn a sparse book into a first-edition one", "sparse", Operation::SparseToBook),
     Line { refusal: 15, ..line("refused_propagate", "propagate, refused by 15", "dense", Operation::Propagate { budget: 0 }) },
     Line { refusal: 15, ..line("refused_probe", "probe, refused by 15", "dense", Operation::Probe { variable: 0, budget: 0 }) },
 ];
@@ -107,7 +113,7 @@ fn described(line: &Line, folder: &str) -> String {
     assert_eq!((plain, proved), (line.refusal, line.refusal), "{}", line.name);
     assert!(left == right, "{}: the sides differ", line.name);
     let percent = (100.0 * nonzeros as f64 / (n * m) as f64).round();
-    let remark = remark(line.operation, &left.answer, line.refusal);
+    let remark = remark(line.operation, &left, line.refusal);
     let model = match line.book.split('_').next() {
         Some(name @ ("big3" | "lseu" | "p0033")) => name.to_string(),
         _ => format!("{n} × {m}, {percent} %"),
@@ -115,8 +121,9 @@ fn described(line: &Line, folder: &str) -> String {
     format!("{}\t{}{remark}\t{model}", line.name, line.call)
 }
 
-/// What the answer says of the work.
-fn remark(operation: Operation, answer: &[u64], refusal: u32) -> String {
+/// What the answer says of the work; of a book how long it is.
+fn remark(operation: Operation, after: &Lent, refusal: u32) -> String {
+    let answer = &after.answer;
     let passes = |count: u64| {
         if count == 1 { "1 pass".into() } else { format!("{count} passes") }
     };
@@ -127,12 +134,20 @@ fn remark(operation: Operation, answer: &[u64], refusal: u32) -> String {
         }
         Operation::Cliques => format!(", {} rows", answer[0]),
         Operation::IsProbingFixpoint => format!(": {}", ["no", "yes"][answer[0] as usize]),
+        _ if operation.reads_book()
+            || operation.reads_sparse()
+            || matches!(operation, Operation::BookWrite | Operation::SparseWrite) =>
+        {
+            let bytes = after.book.len();
+            format!(", {},{:03} bytes", bytes / 1000, bytes % 1000)
+        }
         _ => String::new(),
     }
 }
 
 /// The model of a line's book with a call list that probes each variable, and a table that is empty; for a tie it
 /// says that j is k, for the clique rows it is full, so that every two literals of different variables are joined.
+/// The book is that of the edition that the call is of.
 fn lent(folder: &str, line: &Line) -> Lent {
     let name = line.book;
     let path = Path::new(folder).join(name).with_extension("book");
@@ -155,6 +170,7 @@ fn lent(folder: &str, line: &Line) -> Lent {
         book,
         clique_coefs: vec![0; 2 * n * n],
         clique_rhs: vec![0; 2 * n],
+        to: vec![],
         answer: vec![0; ANSWER],
     };
     assert_eq!(Reference.call(Operation::BookRead, lent.lend()), 0, "{name}");
@@ -164,6 +180,16 @@ fn lent(folder: &str, line: &Line) -> Lent {
     }
     if line.operation == Operation::Cliques {
         lent.table.fill(1);
+    }
+    let sparse = reference::sparse::write(n, &lent.bounds, &lent.coefs, &lent.rhs, &lent.kinds);
+    match line.operation {
+        Operation::BookToSparse => lent.to = vec![0; sparse.len()],
+        Operation::SparseToBook => {
+            lent.to = vec![0; lent.book.len()];
+            lent.book = sparse;
+        }
+        Operation::SparseRead | Operation::SparseWrite => lent.book = sparse,
+        _ => {}
     }
     lent
 }

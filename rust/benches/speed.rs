@@ -44,6 +44,8 @@ enum Kind {
     Rounds,
     BookRead,
     BookWrite,
+    SparseRead,
+    SparseWrite,
 }
 
 use Kind::*;
@@ -75,10 +77,12 @@ fn main() {
 /// All lines of the table, call by call.
 fn works() -> Vec<Work> {
     let mut works = vec![];
-    for kind in [PropagateRow, Propagate, Probe, Rounds, BookRead, BookWrite] {
+    let kinds =
+        [PropagateRow, Propagate, Probe, Rounds, BookRead, BookWrite, SparseRead, SparseWrite];
+    for kind in kinds {
         for (model, lent) in random_models().into_iter().chain(crawling(kind)) {
             let operations = kind.operations(&lent);
-            works.push(Work { kind, model, lent: with_book(lent), operations });
+            works.push(Work { kind, model, lent: with_book(kind, lent), operations });
         }
     }
     works
@@ -121,6 +125,8 @@ impl Kind {
             Rounds => "rounds",
             BookRead => "read a book",
             BookWrite => "write a book",
+            SparseRead => "read a sparse book",
+            SparseWrite => "write a sparse book",
         }
     }
 
@@ -137,13 +143,19 @@ impl Kind {
             Rounds => vec![Operation::Rounds { limit: LIMIT }],
             BookRead => vec![Operation::BookRead],
             BookWrite => vec![Operation::BookWrite],
+            SparseRead => vec![Operation::SparseRead],
+            SparseWrite => vec![Operation::SparseWrite],
         }
     }
 }
 
-/// The model with its book beside it.
-fn with_book(lent: Lent) -> Lent {
-    let book = reference::book::write(lent.n, lent.m, &lent.bounds, &lent.coefs, &lent.rhs);
+/// The model with its book beside it, of the edition that the call is of.
+fn with_book(kind: Kind, lent: Lent) -> Lent {
+    let Lent { n, m, bounds, coefs, rhs, kinds, .. } = &lent;
+    let book = match kind {
+        SparseRead | SparseWrite => reference::sparse::write(*n, bounds, coefs, rhs, kinds),
+        _ => reference::book::write(*n, *m, bounds, coefs, rhs),
+    };
     Lent { book, ..lent }
 }
 

@@ -263,4 +263,84 @@ unsafe extern "C" {
         book: *mut u8,
         book_len: usize,
     ) -> u32;
+
+    /// Answer: n, m.
+    pub fn astrolabe_sparse_trailer(
+        bytes: *const u8,
+        bytes_len: usize,
+        answer: *mut u64,
+        answer_len: usize,
+    ) -> u32;
+
+    /// Answer: n, m.
+    pub fn astrolabe_sparse_read(
+        book: *const u8,
+        book_len: usize,
+        bounds: *mut i32,
+        bounds_len: usize,
+        coefs: *mut i32,
+        coefs_len: usize,
+        rhs: *mut i32,
+        rhs_len: usize,
+        kinds: *mut u8,
+        kinds_len: usize,
+        answer: *mut u64,
+        answer_len: usize,
+    ) -> u32;
+
+    /// No answer: the number says all.
+    pub fn astrolabe_sparse_write(
+        n: usize,
+        m: usize,
+        bounds: *const i32,
+        bounds_len: usize,
+        coefs: *const i32,
+        coefs_len: usize,
+        rhs: *const i32,
+        rhs_len: usize,
+        kinds: *const u8,
+        kinds_len: usize,
+        book: *mut u8,
+        book_len: usize,
+    ) -> u32;
+
+    /// Answer: bytes.
+    pub fn astrolabe_sparse_length(
+        n: usize,
+        m: usize,
+        bounds: *const i32,
+        bounds_len: usize,
+        coefs: *const i32,
+        coefs_len: usize,
+        rhs: *const i32,
+        rhs_len: usize,
+        kinds: *const u8,
+        kinds_len: usize,
+        answer: *mut u64,
+        answer_len: usize,
+    ) -> u32;
+
+    /// Answer: bytes.
+    pub fn astrolabe_book_to_sparse_length(
+        book: *const u8,
+        book_len: usize,
+        answer: *mut u64,
+        answer_len: usize,
+    ) -> u32;
+
+    /// No answer: the number says all.
+    pub fn astrolabe_book_to_sparse(
+        from: *const u8,
+        from_len: usize,
+        to: *mut u8,
+        to_len: usize,
+    ) -> u32;
+
+    /// No answer: the number says all.
+    pub fn astrolabe_sparse_to_book(
+        from: *const u8,
+        from_len: usize,
+        to: *mut u8,
+        to_len: usize,
+    ) -> u32;
 }

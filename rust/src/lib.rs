@@ -46,7 +46,9 @@ mod ties;
 
 pub use answer::{Counts, Outcome, Probe, Propagation, Rest, Rounds, RowPropagation, Side};
 pub use clique::Clique;
-pub use model::{Call, Model, Row, RowKind, book_size};
+pub use model::{
+    Call, Model, Row, RowKind, book_size, book_to_sparse, sparse_size, sparse_to_book,
+};
 pub use refusal::Refusal;
 pub use ties::{CircularTies, Tie, Ties};
 

@@ -139,6 +139,62 @@ pub fn book_size(trailer: &[u8]) -> Result<(usize, usize), Refusal> {
     Ok((n as usize, m as usize))
 }
 
+/// The bytes of a book's trailer, or fewer where there are not so many.
+fn last_bytes(book: &[u8]) -> &[u8] {
+    &book[book.len().saturating_sub(TRAILER)..]
+}
+
+/// n and m of a sparse book, from the 16 bytes of its trailer.
+pub fn sparse_size(trailer: &[u8]) -> Result<(usize, usize), Refusal> {
+    let [n, m, ..]: Places = answered(|answer, answer_len| {
+        // SAFETY: the pointers and counts are those of a slice and an array.
+        unsafe {
+            ffi::astrolabe_sparse_trailer(trailer.as_ptr(), trailer.len(), answer, answer_len)
+        }
+    })?;
+    // At most 128 and 120 by the library's contract.
+    Ok((n as usize, m as usize))
+}
+
+/// Turns a book of the first edition into a sparse one; [`sparse_to_book`] gives back the same bytes.
+///
+/// ```
+/// let book = astrolabe::Model::new(vec![0, 1, 0, 1], vec![3, 0], vec![4])?.to_book()?;
+/// let sparse = astrolabe::book_to_sparse(&book)?;
+/// assert_eq!((book.len(), sparse.len()), (44, 45));
+/// assert_eq!(astrolabe::sparse_to_book(&sparse)?, book);
+/// # Ok::<(), astrolabe::Refusal>(())
+/// ```
+pub fn book_to_sparse(book: &[u8]) -> Result<Vec<u8>, Refusal> {
+    let [len, ..]: Places = answered(|answer, answer_len| {
+        // SAFETY: the pointers and counts are those of a slice and an array.
+        unsafe {
+            ffi::astrolabe_book_to_sparse_length(book.as_ptr(), book.len(), answer, answer_len)
+        }
+    })?;
+    let mut sparse = vec![0; len as usize]; // at most 94,040 by the library's contract
+    // SAFETY: the pointers and counts are those of two slices that do not overlap.
+    let returned = unsafe {
+        ffi::astrolabe_book_to_sparse(book.as_ptr(), book.len(), sparse.as_mut_ptr(), sparse.len())
+    };
+    Refusal::from_returned(returned)?;
+    Ok(sparse)
+}
+
+/// Turns a sparse book whose rows are all ≤ rows into one of the first edition; [`book_to_sparse`] gives back
+/// the same bytes. An = row is refused: [`Refusal::EqualityRow`].
+pub fn sparse_to_book(sparse: &[u8]) -> Result<Vec<u8>, Refusal> {
+    // Where the trailer is bad, no length is right, and the book's own checks come before the lengths.
+    let (n, m) = sparse_size(last_bytes(sparse)).unwrap_or((0, 0));
+    let mut book = vec![0; 8 * n + m * (4 + 4 * n) + TRAILER];
+    // SAFETY: the pointers and counts are those of two slices that do not overlap.
+    let returned = unsafe {
+        ffi::astrolabe_sparse_to_book(sparse.as_ptr(), sparse.len(), book.as_mut_ptr(), book.len())
+    };
+    Refusal::from_returned(returned)?;
+    Ok(book)
+}
+
 impl Model {
     /// A model from its flat buffers: `l0 u0 l1 u1 …` for n variables, the coefficients row after row,
     /// and m right-hand sides. All rows are ≤ rows. The implication table starts with all 0.
@@ -207,8 +263,7 @@ impl Model {
     pub fn from_book(book: &[u8]) -> Result<Self, Refusal> {
         // Where the trailer is bad, reading into empty buffers says by which check of the book's own
         // order: 1 to 4 come before the lengths.
-        let trailer = &book[book.len().saturating_sub(TRAILER)..];
-        let (n, m) = book_size(trailer).unwrap_or((0, 0));
+        let (n, m) = book_size(last_bytes(book)).unwrap_or((0, 0));
         let (mut bounds, mut coefs, mut rhs) = (vec![0; 2 * n], vec![0; m * n], vec![0; m]);
         let mut kinds = vec![RowKind::AtMost; m];
         let _: Places = answered(|answer, answer_len| {
@@ -244,6 +299,72 @@ impl Model {
             ffi::astrolabe_book_write(
                 n,
                 m,
+                self.bounds.as_ptr(),
+                self.bounds.len(),
+                self.coefs.as_ptr(),
+                self.coefs.len(),
+                self.rhs.as_ptr(),
+                self.rhs.len(),
+                self.kinds.as_ptr().cast(),
+                self.kinds.len(),
+                book.as_mut_ptr(),
+                book.len(),
+            )
+        };
+        Refusal::from_returned(returned)?;
+        Ok(book)
+    }
+
+    /// Reads a sparse book, = rows too. The implication table starts with all 0: a book does not hold it.
+    ///
+    /// ```
+    /// use astrolabe::{Model, Refusal, RowKind};
+    ///
+    /// // x + 2y = 2 over three variables.
+    /// let (bounds, coefs) = (vec![0, 1, 0, 1, 0, 1], vec![1, 2, 0]);
+    /// let model = Model::with_kinds(bounds, coefs, vec![2], vec![RowKind::Equal])?;
+    /// let book = model.to_sparse_book()?;
+    /// assert_eq!(book.len(), 8 * 3 + 7 + 2 * 6 + 16);
+    /// assert_eq!(Model::from_sparse_book(&book)?, model);
+    /// assert_eq!(astrolabe::sparse_to_book(&book), Err(Refusal::EqualityRow));
+    /// # Ok::<(), Refusal>(())
+    /// ```
+    pub fn from_sparse_book(book: &[u8]) -> Result<Self, Refusal> {
+        let (n, m) = sparse_size(last_bytes(book)).unwrap_or((0, 0));
+        let (mut bounds, mut coefs, mut rhs) = (vec![0; 2 * n], vec![0; m * n], vec![0; m]);
+        let mut kinds = vec![RowKind::AtMost; m];
+        let _: Places = answered(|answer, answer_len| {
+            // SAFETY: the pointers and counts are those of slices, no two of which overlap. A RowKind is a
+            // byte, and the call makes each kind byte 0 or 1 or leaves it by the library's contract.
+            unsafe {
+                ffi::astrolabe_sparse_read(
+                    book.as_ptr(),
+                    book.len(),
+                    bounds.as_mut_ptr(),
+                    bounds.len(),
+                    coefs.as_mut_ptr(),
+                    coefs.len(),
+                    rhs.as_mut_ptr(),
+                    rhs.len(),
+                    kinds.as_mut_ptr().cast(),
+                    kinds.len(),
+                    answer,
+                    answer_len,
+                )
+            }
+        })?;
+        Ok(Model { n, m, bounds, coefs, rhs, kinds, table: vec![0; 4 * n * n] })
+    }
+
+    /// Writes the model into a sparse book. Reading it gives back the model, but for the table.
+    pub fn to_sparse_book(&self) -> Result<Vec<u8>, Refusal> {
+        let [len, ..]: Places = call!(self.astrolabe_sparse_length, as_ptr, as_ptr, as_ptr)?;
+        let mut book = vec![0; len as usize]; // at most 94,040 by the library's contract
+        // SAFETY: the pointers and counts are those of slices, no two of which overlap.
+        let returned = unsafe {
+            ffi::astrolabe_sparse_write(
+                self.n,
+                self.m,
                 self.bounds.as_ptr(),
                 self.bounds.len(),
                 self.coefs.as_ptr(),

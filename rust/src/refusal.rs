@@ -8,8 +8,9 @@ use std::fmt;
 /// The discriminants are the check numbers of the specification and of its requests. The checks are made
 /// in the order of the numbers but for [`Refusal::VariableTooWide`], 23, which comes straight after 7,
 /// [`Refusal::RowKind`] and [`Refusal::EqualityRow`], 16 and 17, which come after 9 and before 10,
-/// [`Refusal::TiePlace`], 21, which comes straight after 10, and [`Refusal::RetiredKind`], 18, which comes
-/// straight after 11:
+/// [`Refusal::TiePlace`], 21, which comes straight after 10, [`Refusal::RetiredKind`], 18, which comes
+/// straight after 11, and [`Refusal::SparseColumn`] and [`Refusal::SparseZero`], 19 and 20, which come after 4
+/// and before 5, the entry read first deciding:
 ///
 /// ```
 /// use astrolabe::{Model, Refusal};
@@ -61,6 +62,10 @@ pub enum Refusal {
     /// by [`Model::tighten_coefficient`](crate::Model::tighten_coefficient) and
     /// [`Model::remove_redundant_row`](crate::Model::remove_redundant_row).
     RetiredKind = 18,
+    /// Of a sparse book: a column is not below n, or not above the one before.
+    SparseColumn = 19,
+    /// Of a sparse book: the coefficient of an entry is 0.
+    SparseZero = 20,
     /// A place of a tie list is above 2n: it names no literal.
     TiePlace = 21,
     /// A variable's upper bound is more than 4,096 above its lower. A stored book that is refused by it
@@ -69,7 +74,7 @@ pub enum Refusal {
 }
 
 impl Refusal {
-    const ALL: [Refusal; 20] = [
+    const ALL: [Refusal; 22] = [
         Refusal::BookTooShort,
         Refusal::BookLengthMismatch,
         Refusal::SizeOutOfRange,
@@ -88,6 +93,8 @@ impl Refusal {
         Refusal::RowKind,
         Refusal::EqualityRow,
         Refusal::RetiredKind,
+        Refusal::SparseColumn,
+        Refusal::SparseZero,
         Refusal::TiePlace,
         Refusal::VariableTooWide,
     ];
@@ -130,6 +137,8 @@ impl Refusal {
             Refusal::RowKind => "a kind byte is above 1",
             Refusal::EqualityRow => "a book of the first edition holds no = row",
             Refusal::RetiredKind => "the kind is retired from call lists",
+            Refusal::SparseColumn => "a column is not below n or not above the one before",
+            Refusal::SparseZero => "an entry of a sparse book has the coefficient 0",
             Refusal::TiePlace => "a place of the tie list is above 2n",
             Refusal::VariableTooWide => "a variable is over 4096 wide",
         }
@@ -151,7 +160,7 @@ mod tests {
     #[test]
     fn each_number_gives_its_own_refusal() {
         assert_eq!(Refusal::from_returned(0), Ok(()));
-        for number in (1..=18).chain([21, 23]) {
+        for number in (1..=21).chain([23]) {
             assert_eq!(Refusal::from_returned(number).unwrap_err().check(), number);
         }
     }

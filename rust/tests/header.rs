@@ -56,7 +56,7 @@ fn the_header_and_the_rust_declarations_agree() {
     let mut rust = declarations(FFI, "pub fn astrolabe_", ") -> u32;", str::to_string);
     c.sort();
     rust.sort();
-    assert_eq!(c.len(), 16);
+    assert_eq!(c.len(), 23);
     assert_eq!(c, rust);
 }
 
@@ -98,6 +98,8 @@ fn the_header_has_the_limits_and_numbers_of_the_wrapper() {
     assert_eq!(defined("REFUSED_ROW_KIND"), Refusal::RowKind.check().to_string());
     assert_eq!(defined("REFUSED_EQUALITY_ROW"), Refusal::EqualityRow.check().to_string());
     assert_eq!(defined("REFUSED_TIE_PLACE"), Refusal::TiePlace.check().to_string());
+    assert_eq!(defined("REFUSED_COLUMN"), Refusal::SparseColumn.check().to_string());
+    assert_eq!(defined("REFUSED_ZERO_COEFFICIENT"), Refusal::SparseZero.check().to_string());
     assert_eq!(defined("REFUSED_VARIABLE_TOO_WIDE"), Refusal::VariableTooWide.check().to_string());
     assert_eq!(defined("ROW_KIND_AT_MOST"), (RowKind::AtMost as u8).to_string());
     assert_eq!(defined("ROW_KIND_EQUAL"), (RowKind::Equal as u8).to_string());

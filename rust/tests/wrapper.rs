@@ -105,12 +105,7 @@ fn call(model: &mut Model, ties: &mut Ties, operation: Operation, list: &[Call])
             [width, budget, told.passes]
         }),
         Operation::Cliques => said(model.cliques(), |cliques| [cliques.len() as u64]),
-        Operation::PlanLengths
-        | Operation::BookTrailer
-        | Operation::BookRead
-        | Operation::BookWrite => {
-            unreachable!("books have their own test")
-        }
+        _ => unreachable!("{operation:?}: books have their own tests"),
     }
 }
 
@@ -500,4 +495,59 @@ fn a_model_is_checked_when_it_is_made() {
     assert_eq!(with(&[], 1), Err(Refusal::BufferLength));
     assert_eq!(with(&[RowKind::AtMost; 2], 1), Err(Refusal::BufferLength));
     assert_eq!(with(&[RowKind::Equal], 1_000_000_001), Err(Refusal::RightHandSideOutOfRange));
+}
+
+#[test]
+fn sparse_books_come_back_and_turn_into_books() {
+    let mut rng = Rng::new(SEED + 3);
+    for _ in 0..2_000 {
+        let family = rng.pick(&[Family::Tiny, Family::Mixed, Family::Empty]);
+        let lent = models::model(&mut rng, family);
+        let model = wrapped(&lent);
+        let sparse = model.to_sparse_book().expect("an accepted model");
+        let expected =
+            reference::sparse::write(lent.n, &lent.bounds, &lent.coefs, &lent.rhs, &lent.kinds);
+        assert_eq!(sparse, expected);
+        assert_eq!(astrolabe::sparse_size(&sparse[sparse.len() - 16..]), Ok((lent.n, lent.m)));
+        assert_eq!(Model::from_sparse_book(&sparse), Ok(model.clone()));
+        match model.to_book() {
+            Ok(book) => {
+                assert_eq!(astrolabe::book_to_sparse(&book).as_ref(), Ok(&sparse));
+                assert_eq!(astrolabe::sparse_to_book(&sparse), Ok(book));
+            }
+            Err(refusal) => {
+                assert_eq!(refusal, Refusal::EqualityRow);
+                assert_eq!(astrolabe::sparse_to_book(&sparse), Err(refusal));
+            }
+        }
+    }
+}
+
+#[test]
+fn sparse_books_are_refused_by_their_own_checks() {
+    // 3x + 2y ≤ 4 as bytes: bounds, row, trailer.
+    let model = Model::new(vec![0, 1, 0, 1], vec![3, 2], vec![4]).expect("a model");
+    let book = model.to_sparse_book().expect("an accepted model");
+    let spoiled = |changes: &[(usize, u8)]| {
+        let mut book = book.clone();
+        changes.iter().for_each(|&(at, byte)| book[at] = byte);
+        Model::from_sparse_book(&book).map(|_| ()).map_err(Refusal::check)
+    };
+    let (kind, count, entry0, entry1) = (20, 21, 23, 29);
+    assert_eq!(spoiled(&[]), Ok(()));
+    assert_eq!(spoiled(&[(count, 3)]), Err(4));
+    assert_eq!(spoiled(&[(count, 1)]), Err(4));
+    // The walk is finished before any entry is looked at.
+    assert_eq!(spoiled(&[(entry0, 9), (count, 3)]), Err(4));
+    assert_eq!(spoiled(&[(entry1, 2)]), Err(19));
+    assert_eq!(spoiled(&[(entry1, 0)]), Err(19));
+    // Entry 0 zero, entry 1 bad column: the entry read first decides; and in one entry the column.
+    assert_eq!(spoiled(&[(entry0 + 2, 0), (entry1, 9)]), Err(20));
+    assert_eq!(spoiled(&[(entry0 + 2, 0), (entry0, 9)]), Err(19));
+    assert_eq!(spoiled(&[(entry0 + 2, 0), (kind, 2)]), Err(20));
+    assert_eq!(spoiled(&[(entry0 + 5, 1), (kind, 2)]), Err(8));
+    assert_eq!(spoiled(&[(kind, 2)]), Err(16));
+    let mut equal = book.clone();
+    equal[kind] = 1;
+    assert_eq!(astrolabe::sparse_to_book(&equal), Err(Refusal::EqualityRow));
 }

@@ -68,7 +68,7 @@ and-assoc : (a b c : Bool) → (a && b && c) ≡ (a && (b && c))
 and-assoc true b c = refl
 and-assoc false b c = refl
 
-all-cong : (n : ℕ) (f g : ℕ → Bool) → ((i : ℕ) → i < n → f i ≡ g i) → all n f ≡ all n g
+pub all-cong : (n : ℕ) (f g : ℕ → Bool) → ((i : ℕ) → i < n → f i ≡ g i) → all n f ≡ all n g
 unfolding all
 all-cong zero f g h = refl
 all-cong (suc n) f g h = cc (all-cong n f g (λ i k. h i (omega arith)), h n (omega arith))

@@ -35,40 +35,40 @@ row-within n m i h = omega (arith, piece-within m (4 + 4 * n) i h)
 
 -- ---- the trailer
 
-module _ (n m : ℕ) where
-  pub length-trailerBytes : length (trailerBytes n m) ≡ 16
+module _ (n m len : ℕ) where
+  pub length-trailerBytes : length (trailerBytes n m len) ≡ 16
   unfolding trailerBytes bytesOf
   length-trailerBytes = refl
 
-  pub trailer-bounds : boundsOffset (trailerBytes n m) ≡ 0
+  pub trailer-bounds : boundsOffset (trailerBytes n m len) ≡ 0
   unfolding numberAt trailerBytes bytesOf
   trailer-bounds = number-bytes 4 0 (omega arith)
 
-  pub trailer-rows : n ≤ 128 → rowsOffset (trailerBytes n m) ≡ 8 * n
+  pub trailer-rows : n ≤ 128 → rowsOffset (trailerBytes n m len) ≡ 8 * n
   unfolding numberAt trailerBytes bytesOf
   trailer-rows h = number-bytes 4 (8 * n) (omega arith)
 
-  pub trailer-n : n ≤ 128 → variables (trailerBytes n m) ≡ n
+  pub trailer-n : n ≤ 128 → variables (trailerBytes n m len) ≡ n
   unfolding numberAt trailerBytes bytesOf
   trailer-n h = number-bytes 2 n (omega arith)
 
-  pub trailer-m : m ≤ 120 → rows (trailerBytes n m) ≡ m
+  pub trailer-m : m ≤ 120 → rows (trailerBytes n m len) ≡ m
   unfolding numberAt trailerBytes bytesOf
   trailer-m h = number-bytes 2 m (omega arith)
 
-  pub trailer-length : n ≤ 128 → m ≤ 120 → lengthGiven (trailerBytes n m) ≡ bookLength n m
+  pub trailer-length : len < 4_294_967_296 → lengthGiven (trailerBytes n m len) ≡ len
   unfolding numberAt trailerBytes bytesOf
-  trailer-length h k = number-bytes 4 (bookLength n m) (omega (arith, length-below n m h k))
+  trailer-length h = number-bytes 4 len (omega arith)
 
 -- the five numbers written one after the other
-pub trailer-written : (n m : ℕ) (t : List ℕ) → length t ≡ 16
-    → overwrite 12 (bytesOf 4 (bookLength n m)) (overwrite 10 (bytesOf 2 m) (overwrite 8 (bytesOf 2 n) (overwrite 4 (bytesOf 4 (8 * n)) (overwrite 0 (bytesOf 4 0) t)))) ≡ trailerBytes n m
+pub trailer-written : (n m len : ℕ) (t : List ℕ) → length t ≡ 16
+    → overwrite 12 (bytesOf 4 len) (overwrite 10 (bytesOf 2 m) (overwrite 8 (bytesOf 2 n) (overwrite 4 (bytesOf 4 (8 * n)) (overwrite 0 (bytesOf 4 0) t)))) ≡ trailerBytes n m len
 unfolding trailerBytes bytesOf
-trailer-written n m t l =
+trailer-written n m len t l =
     let b = bytesOf 4 (8 * n) in
     let c = bytesOf 2 n in
     let d = bytesOf 2 m in
-    let e = bytesOf 4 (bookLength n m) in
+    let e = bytesOf 4 len in
     let z = bytesOf 4 0 in
     ap (λ (r : List ℕ). overwrite 12 e (overwrite 10 d (overwrite 8 c r))) (overwrite-next 0 4 z b t refl (omega arith))
     ∙ ap (λ (r : List ℕ). overwrite 12 e (overwrite 10 d r)) (overwrite-next 0 8 (z ++ b) c t refl (omega arith))
@@ -105,26 +105,29 @@ module _ (M : Model) where
   pub length-encode : length (encode M) ≡ bookLength (M .n) (M .m)
   unfolding encode bookLength
   length-encode =
-      omega (arith, length-append (boundBytes M ++ joined (M .m) (rowBytesAt (M .n) (M .rows))) (trailerBytes (M .n) (M .m)), length-body, length-trailerBytes (M .n) (M .m))
+      let len = bookLength (M .n) (M .m) in
+      omega (arith, length-append (boundBytes M ++ joined (M .m) (rowBytesAt (M .n) (M .rows))) (trailerBytes (M .n) (M .m) len), length-body, length-trailerBytes (M .n) (M .m) len)
 
   -- the bounds, the rows and the trailer written one after the other
   pub book-assembled : (bs : List ℕ) (q : ℕ) → length bs ≡ bookLength (M .n) (M .m) → q ≡ length bs - 16
-      → overwrite q (trailerBytes (M .n) (M .m)) (overwrite (8 * M .n) (joined (M .m) (rowBytesAt (M .n) (M .rows))) (overwrite 0 (boundBytes M) bs)) ≡ encode M
+      → overwrite q (trailerBytes (M .n) (M .m) (bookLength (M .n) (M .m))) (overwrite (8 * M .n) (joined (M .m) (rowBytesAt (M .n) (M .rows))) (overwrite 0 (boundBytes M) bs)) ≡ encode M
   unfolding encode bookLength
   book-assembled bs q l e =
-      let t = trailerBytes (M .n) (M .m) in
+      let t = trailerBytes (M .n) (M .m) (bookLength (M .n) (M .m)) in
       let R = joined (M .m) (rowBytesAt (M .n) (M .rows)) in
-      let k = length-trailerBytes (M .n) (M .m) in
+      let k = length-trailerBytes (M .n) (M .m) (bookLength (M .n) (M .m)) in
       ap (overwrite q t) (overwrite-next 0 (8 * M .n) (boundBytes M) R bs (omega (arith, length-boundBytes)) (omega (arith, length-allRows)))
       ∙ overwrite-next 0 q (boundBytes M ++ R) t bs (omega (arith, length-body)) (omega (arith, k))
       ∙ overwrite-all (boundBytes M ++ R ++ t) bs (length-encode ∙ sym l)
 
-  pub trailer-encode : trailerOf (encode M) ≡ trailerBytes (M .n) (M .m)
+  pub trailer-encode : trailerOf (encode M) ≡ trailerBytes (M .n) (M .m) (bookLength (M .n) (M .m))
   unfolding trailerOf encode
   trailer-encode =
       let body = boundBytes M ++ joined (M .m) (rowBytesAt (M .n) (M .rows)) in
-      let e : length (encode M) - 16 ≡ length body = omega (arith, length-append body (trailerBytes (M .n) (M .m)), length-trailerBytes (M .n) (M .m)) in
-      ap (λ (k : ℕ). drop k (encode M)) e ∙ drop-append-seam body (trailerBytes (M .n) (M .m))
+      let len = bookLength (M .n) (M .m) in
+      let t = trailerBytes (M .n) (M .m) len in
+      let e : length (encode M) - 16 ≡ length body = omega (arith, length-append body t, length-trailerBytes (M .n) (M .m) len) in
+      ap (λ (k : ℕ). drop k (encode M)) e ∙ drop-append-seam body t
 
   pub bound-encode : (i : ℕ) → i < 2 * M .n → part (0 + i * 4) 4 (encode M) ≡ integerBytes (at (M .box) i)
   unfolding encode boundBytes

@@ -18,37 +18,37 @@ use Rattle.model.specs.Rows.{Rows, isEquality, rowAt, rowsOf}
 use Rattle.model.specs.Valid.{Between, ValidModel}
 use Rattle.model.proofs.RowsLaws.{at-rowOf}
 use Rattle.book.specs.Answers.{Answer, bookWritten, boundsRead, coefsRead, kindsRead, readCall, readFault, refused, rhsRead, sizesAre, unless, writeCall, writeFault, written}
-use Rattle.book.specs.Book.{bookLength, boundBytes, boundsOf, coefsOf, decode, encode, kindsOf, modelIn, rhsOf, rowBytes, rowBytesAt, rowPlace, rows, trailerBytes, trailerOf, variables}
+use Rattle.book.specs.Book.{bookLength, boundBytes, boundsOf, boundsOffset, coefsOf, decode, encode, kindsOf, lengthGiven, modelIn, rhsOf, rowBytes, rowBytesAt, rowPlace, rows, rowsOffset, trailerBytes, trailerOf, variables}
 use Rattle.book.specs.BookChecks.{bookFault}
 use Rattle.bytes.specs.Bytes.{Bytes, bitsOf, bytesOf, integerBytes, integersAt}
 use Rattle.bytes.specs.Pieces.{joined, part}
 use Rattle.book.specs.RoundTrips.{FirstEdition, OneBook, OneModel, ReadsWritten, WritesRead}
-use Rattle.book.proofs.AcceptLaws.{Head, Layout, book-test, read-passed, write-passed}
+use Rattle.book.proofs.AcceptLaws.{Head, book-test, read-passed, write-passed}
 use Rattle.book.proofs.AnswerLaws.{becomes}
 use Rattle.bytes.proofs.ByteLaws.{bytes-numberAt, integer-read, integer-written}
 use Rattle.book.proofs.DecodeLaws.{at-boundsOf, at-coefsOf, at-rhsOf, kind-none, length-kindsOf}
-use Rattle.book.proofs.EncodeLaws.{bound-encode, coef-encode, length-encode, rhs-encode, trailer-bounds, trailer-encode, trailer-length, trailer-m, trailer-n, trailer-rows}
+use Rattle.book.proofs.EncodeLaws.{bound-encode, coef-encode, length-below, length-encode, rhs-encode, trailer-bounds, trailer-encode, trailer-length, trailer-m, trailer-n, trailer-rows}
 use Rattle.bytes.proofs.PieceLaws.{grid-all, joined-cong, joined-parts, listOf-all, part-add, part-whole, piece-within}
 
 -- ---- the bytes of a book are bytes
 
-bytes-cons : (x : ℕ) (xs : List ℕ) → x < 256 → Bytes xs → Bytes (x ∷ xs)
+pub bytes-cons : (x : ℕ) (xs : List ℕ) → x < 256 → Bytes xs → Bytes (x ∷ xs)
 bytes-cons x xs h k = record { below = go }
   where
     go : (i : ℕ) → getD (x ∷ xs) i 0 < 256
     go zero = h
     go (suc i) = k .below i
 
-bytes-append : (xs ys : List ℕ) → Bytes xs → Bytes ys → Bytes (xs ++ ys)
+pub bytes-append : (xs ys : List ℕ) → Bytes xs → Bytes ys → Bytes (xs ++ ys)
 bytes-append [] ys h k = k
 bytes-append (x ∷ xs) ys h k = bytes-cons x (xs ++ ys) (h .below 0) (bytes-append xs ys (record { below = λ j. h .below (suc j) }) k)
 
-bytes-joined : (n : ℕ) (f : ℕ → List ℕ) → ((i : ℕ) → Bytes (f i)) → Bytes (joined n f)
+pub bytes-joined : (n : ℕ) (f : ℕ → List ℕ) → ((i : ℕ) → Bytes (f i)) → Bytes (joined n f)
 unfolding joined
 bytes-joined zero f h = record { below = λ i. omega arith }
 bytes-joined (suc n) f h = bytes-append (joined n f) (f n) (bytes-joined n f h) (h n)
 
-bytes-bytesOf : (w x : ℕ) → Bytes (bytesOf w x)
+pub bytes-bytesOf : (w x : ℕ) → Bytes (bytesOf w x)
 unfolding bytesOf
 bytes-bytesOf zero x = record { below = λ i. omega arith }
 bytes-bytesOf (suc w) x = bytes-cons (x % 256) (bytesOf w (x / 256)) (omega arith) (bytes-bytesOf w (x / 256))
@@ -68,7 +68,7 @@ bytes-encode M =
 -- ---- reading a written book
 
 -- the limits lie within 32 bits
-between-fits : (low high z : ℤ) → SFits w32 low → SFits w32 high → Between low high z → SFits w32 z
+pub between-fits : (low high z : ℤ) → SFits w32 low → SFits w32 high → Between low high z → SFits w32 z
 between-fits low high z l h b = fits w32 z (omega (zarith, b .above, b .below, fit-in⁻ l, fit-in⁺ h))
 
 module _ (M : Model) (w : FirstEdition M) where
@@ -102,10 +102,10 @@ module _ (M : Model) (w : FirstEdition M) where
       omega (arith, kind-none (M .m) i l, v .kinds i, neqb→ne (getD (M .rows .kinds) i 0) 1 (w .inequality i l)))
 
   n-back : variables (trailerOf (encode M)) ≡ M .n
-  n-back = ap variables (trailer-encode M) ∙ trailer-n (M .n) (M .m) (v .few)
+  n-back = ap variables (trailer-encode M) ∙ trailer-n (M .n) (M .m) (bookLength (M .n) (M .m)) (v .few)
 
   m-back : rows (trailerOf (encode M)) ≡ M .m
-  m-back = ap rows (trailer-encode M) ∙ trailer-m (M .n) (M .m) (v .fewRows)
+  m-back = ap rows (trailer-encode M) ∙ trailer-m (M .n) (M .m) (bookLength (M .n) (M .m)) (v .fewRows)
 
   pub decode-encode : decode (encode M) ≡ M
   unfolding decode modelIn
@@ -117,16 +117,20 @@ module _ (M : Model) (w : FirstEdition M) where
       let e = trailer-encode M in
       let n = M .n in
       let m = M .m in
+      let len = bookLength n m in
+      let tn = trailer-n n m len (v .few) in
+      let tm = trailer-m n m len (v .fewRows) in
+      let tl = trailer-length n m len (omega (arith, length-below n m (v .few) (v .fewRows))) in
       record {
         long = omega (arith, length-encode M);
-        whole = rw e (trailer-length n m (v .few) (v .fewRows) ∙ sym (length-encode M));
+        whole = rw e (tl ∙ sym (length-encode M));
         layout = rw e (record {
-          some = rw (trailer-n n m (v .few)) (v .some);
-          few = rw (trailer-n n m (v .few)) (v .few);
-          fewRows = rw (trailer-m n m (v .fewRows)) (v .fewRows);
-          boundsStart = trailer-bounds n m;
-          rowsStart = rw (trailer-n n m (v .few)) (trailer-rows n m (v .few));
-          ends = rw (trailer-n n m (v .few), trailer-m n m (v .fewRows)) (trailer-length n m (v .few) (v .fewRows));
+          some = rw tn (v .some);
+          few = rw tn (v .few);
+          fewRows = rw tm (v .fewRows);
+          boundsStart = trailer-bounds n m len;
+          rowsStart = rw tn (trailer-rows n m len (v .few));
+          ends = rw (tn, tm) tl;
         });
       }
 
@@ -138,11 +142,12 @@ reads-written M w = (
 
 -- ---- writing a read book
 
--- the trailer of a layout
-trailer-back : (t : List ℕ) → Bytes t → length t ≡ 16 → Layout t → trailerBytes (variables t) (rows t) ≡ t
+-- a trailer whose offsets are 0 and 8n, written again
+pub trailer-back : (t : List ℕ) → Bytes t → length t ≡ 16 → boundsOffset t ≡ 0 → rowsOffset t ≡ 8 * variables t
+    → trailerBytes (variables t) (rows t) (lengthGiven t) ≡ t
 unfolding trailerBytes
-trailer-back t b l h =
-    rw (← h .boundsStart, ← h .rowsStart, ← h .ends)
+trailer-back t b l eb er =
+    rw (← eb, ← er)
     (rw (bytes-numberAt 4 0 t b (omega arith), bytes-numberAt 4 4 t b (omega arith), bytes-numberAt 2 8 t b (omega arith))
     (rw (bytes-numberAt 2 10 t b (omega arith), bytes-numberAt 4 12 t b (omega arith))
     (rw (← part-add 0 4 4 t, ← part-add 0 8 2 t, ← part-add 0 10 2 t, ← part-add 0 12 4 t) (part-whole t 16 l))))
@@ -171,7 +176,7 @@ module _ (n m : ℕ) (bs : List ℕ) (b : Bytes bs) (l : length bs ≡ bookLengt
   rows-again = joined-cong m _ _ row-again ∙ joined-parts m (4 + 4 * n) (8 * n) bs
 
   -- the bounds, the rows and the trailer are the book
-  book-again : trailerBytes n m ≡ trailerOf bs → encode (modelIn n m bs) ≡ bs
+  book-again : trailerBytes n m (bookLength n m) ≡ trailerOf bs → encode (modelIn n m bs) ≡ bs
   unfolding encode modelIn trailerOf bookLength
   book-again e =
       let k = m * (4 + 4 * n) in
@@ -195,8 +200,11 @@ writes-read bs a =
     let t = trailerOf bs in
     let l = h .0 .layout in
     let k : length t ≡ 16 = omega (arith, length-drop (length bs - 16) bs, h .0 .long) in
-    let tb : Bytes t = record { below = λ i. rw (getD-drop (length bs - 16) bs i 0) (a .bytes .below (length bs - 16 + i)) } in
-    (book-inequalities bs (h .1), book-again (variables t) (rows t) bs (a .bytes) (sym (h .0 .whole) ∙ l .ends) (trailer-back t tb k l))
+    let tb : Bytes t = record { below = λ i. rw (getD-drop (length bs - 16) bs i 0) (a .bytes .below (length bs - 16 + i)) } in (
+      book-inequalities bs (h .1),
+      book-again (variables t) (rows t) bs (a .bytes) (sym (h .0 .whole) ∙ l .ends)
+          (ap (trailerBytes (variables t) (rows t)) (sym (l .ends)) ∙ trailer-back t tb k (l .boundsStart) (l .rowsStart)),
+    )
 
 -- ---- and so
 
@@ -209,7 +217,7 @@ one-book bs cs a c e = sym (writes-read bs a .1) ∙ ap encode e ∙ writes-read
 -- ---- the round trips of the calls
 
 -- an answer that is no refusal comes of no fault
-unless-accepted : (fault : ℕ) (a b : Answer) → ((k : ℕ) → refused k ≡ b → ⊥) → unless fault a ≡ b → (fault ≡ 0) × (a ≡ b)
+pub unless-accepted : (fault : ℕ) (a b : Answer) → ((k : ℕ) → refused k ≡ b → ⊥) → unless fault a ≡ b → (fault ≡ 0) × (a ≡ b)
 unfolding unless
 unless-accepted fault a b n =
     cond-ind (eqb fault 0) a (refused fault) (λ (r : Answer). r ≡ b → (fault ≡ 0) × (a ≡ b))

@@ -38,11 +38,11 @@ abbrev pub rowBytesAt : ℕ → Rows → ℕ → List ℕ
 rowBytesAt n A i = rowBytes n (rowAt n A i)
 
 -- "offset of the bounds (0), offset of the rows (8n), 32 bits each; n, m, 16 bits each; length of the book, 32 bits"
-unfoldable pub trailerBytes : ℕ → ℕ → List ℕ
-trailerBytes n m = bytesOf 4 0 ++ bytesOf 4 (8 * n) ++ bytesOf 2 n ++ bytesOf 2 m ++ bytesOf 4 (bookLength n m)
+unfoldable pub trailerBytes : ℕ → ℕ → ℕ → List ℕ
+trailerBytes n m len = bytesOf 4 0 ++ bytesOf 4 (8 * n) ++ bytesOf 2 n ++ bytesOf 2 m ++ bytesOf 4 len
 
 unfoldable pub encode : Model → List ℕ
-encode M = boundBytes M ++ joined (M .m) (rowBytesAt (M .n) (M .rows)) ++ trailerBytes (M .n) (M .m)
+encode M = boundBytes M ++ joined (M .m) (rowBytesAt (M .n) (M .rows)) ++ trailerBytes (M .n) (M .m) (bookLength (M .n) (M .m))
 
 -- ---- the model of a book
 

@@ -5,7 +5,7 @@ use bytes::write_u16;
 use bytes::write_u32;
 use model::size_fault;
 ghost use mathlib.Core.Path.{_≡_};
-ghost use Prim.Native.Nat.{_≤_};
+ghost use Prim.Native.Nat.{_<_, _≤_};
 ghost use lib.ListN.{length};
 ghost use Rattle.model.specs.Checks.{first};
 ghost use Rattle.book.specs.Answers.{sizesAnswer, trailerCall};
@@ -27,14 +27,14 @@ pub enum SizesAnswer {
 }
 
 // n and m as the trailer's bytes say them.
-fn variables_of(trailer: &[u8]) -> usize
+pub fn variables_of(trailer: &[u8]) -> usize
     requires { ⌜ 16 ≤ length (now trailer) ⌝ }
     ensures { λ r. ⌜ r ≡ variables (now (trailer .entry)) ⌝ }
 {
     read_u16(trailer, VARIABLES) as usize
 }
 
-fn rows_of(trailer: &[u8]) -> usize
+pub fn rows_of(trailer: &[u8]) -> usize
     requires { ⌜ 16 ≤ length (now trailer) ⌝ }
     ensures { λ r. ⌜ r ≡ rows (now (trailer .entry)) ⌝ }
 {
@@ -89,7 +89,7 @@ fn layout_fault(trailer: &[u8]) -> u32
 }
 
 // Check 2: 2 where the length that the trailer gives is not the book's, else 0.
-fn given_length_fault(trailer: &[u8], len: usize) -> u32
+pub fn given_length_fault(trailer: &[u8], len: usize) -> u32
     requires { ⌜ 16 ≤ length (now trailer) ⌝ }
     ensures { λ r. ⌜ r ≡ first (givenLengthChecks (now (trailer .entry)) len) ⌝ }
 {
@@ -136,14 +136,14 @@ pub fn trailer(bytes: &[u8]) -> SizesAnswer
     }
 }
 
-// Writes the trailer of a book of n variables and m rows.
-pub fn write_trailer(trailer: &mut [u8], n: usize, m: usize)
-    requires { ⌜ (length (now trailer) ≡ 16) × (n ≤ 128) × (m ≤ 120) ⌝ }
-    ensures { λ r. ⌜ now (trailer .exit) ≡ trailerBytes n m ⌝ }
+// Writes the trailer of a book of n variables, m rows and len bytes.
+pub fn write_trailer(trailer: &mut [u8], n: usize, m: usize, len: usize)
+    requires { ⌜ (length (now trailer) ≡ 16) × (n ≤ 128) × (m ≤ 120) × (len < 4_294_967_296) ⌝ }
+    ensures { λ r. ⌜ now (trailer .exit) ≡ trailerBytes n m len ⌝ }
 {
     write_u32(trailer, 0, 0);
     write_u32(trailer, 4, (8 * n) as u32);
     write_u16(trailer, VARIABLES, n as u16);
     write_u16(trailer, ROWS, m as u16);
-    write_u32(trailer, 12, book_length(n, m) as u32);
+    write_u32(trailer, 12, len as u32);
 }

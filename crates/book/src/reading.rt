@@ -22,7 +22,7 @@ ghost use Rattle.book.specs.Answers.{sizesAnswer, sizesAre};
 ghost use Rattle.book.specs.Book.{HoldsModel, boundsOf, coefsOf, encode, kindsOf, rhsOf};
 
 // Checks 6, 7 and 23 over the book's bounds.
-fn bounds_fault(n: usize, book: &[u8]) -> u32
+pub fn bounds_fault(n: usize, book: &[u8]) -> u32
     requires { ⌜ (n ≤ 128) × (8 * n ≤ length (now book)) ⌝ }
     ensures { λ r. ⌜ r ≡ first (boxChecks n (boundsOf n (now (book .entry)))) ⌝ }
 {
@@ -90,7 +90,7 @@ fn read_fault(book: &[u8], bounds: &[i32], coefs: &[i32], rhs: &[i32], kinds: &[
     number_fault(n, m, book)
 }
 
-fn read_coefs(n: usize, m: usize, book: &[u8], coefs: &mut [i32])
+pub fn read_coefs(n: usize, m: usize, book: &[u8], coefs: &mut [i32])
     requires { ⌜ HoldsModel n m (now book) × (length (now coefs) ≡ m * n) ⌝ }
     ensures { λ r. ⌜ now (coefs .exit) ≡ coefsOf n m (now (book .entry)) ⌝ }
 {

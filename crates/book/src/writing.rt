@@ -133,7 +133,8 @@ pub fn write(
     }
     write_integers(book, 0, bounds);
     write_rows(n, coefs, rhs, book);
-    let end = book.len() - TRAILER;
-    write_trailer(&mut book[end..], n, m);
+    let len = book.len();
+    let end = len - TRAILER;
+    write_trailer(&mut book[end..], n, m, len);
     WriteAnswer::Written
 }

@@ -101,7 +101,7 @@ pub extern "C" fn astrolabe_book_read(
     put(sizes_reply(read(book, bounds, coefs, rhs, kinds)), answer)
 }
 
-fn write_number(a: WriteAnswer) -> u32
+pub fn write_number(a: WriteAnswer) -> u32
     ensures { λ r. ⌜ r ≡ returned (bookReply (writeAnswer a)) ⌝ }
 {
     match a {

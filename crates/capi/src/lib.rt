@@ -5,6 +5,7 @@ pub mod books;
 pub mod calls;
 pub mod clique_rows;
 pub mod plans;
+pub mod sparse_books;
 pub mod tied;
 
 // The length of every answer buffer.

@@ -35,9 +35,11 @@ pub fn case(seed: u64, number: u64) -> Case {
     match number % 10 {
         0..4 => session(&mut rng),
         4 => tied(&mut rng),
-        5 => book(&mut rng),
+        5 if number % 20 == 5 => book(&mut rng),
+        5 => sparse_book(&mut rng),
         6 => around_the_widest(&mut rng),
         7 if number % 20 == 7 => clique_rows(&mut rng),
+        7 => damaged_sparse(&mut rng),
         _ => damaged(&mut rng),
     }
 }
@@ -211,6 +213,61 @@ fn clique_rows(rng: &mut Rng) -> Case {
     lent.calls = call_list(rng, &lent);
     let steps = operations.map(|operation| Step { afresh: false, operation }).collect();
     Case { lent, steps, returns: None }
+}
+
+/// One accepted call on a sparse book, or from one edition to the other; an = row is refused on the way to
+/// the first.
+fn sparse_book(rng: &mut Rng) -> Case {
+    let family = rng.pick(&[Family::Tiny, Family::Mixed, Family::Limits, Family::Empty]);
+    let family = if rng.chance(1) { Family::Largest } else { family };
+    let mut lent = models::model(rng, family);
+    let operation = rng.pick(&Operation::SPARSE);
+    if operation == Operation::SparseToBook && rng.chance(50) {
+        lent.kinds.fill(0);
+    }
+    lend_books(&mut lent, operation);
+    single(lent, operation)
+}
+
+/// The books that the call reads and writes.
+fn lend_books(lent: &mut Lent, operation: Operation) {
+    if operation.reads_book() {
+        damage::write_book(lent);
+    } else {
+        damage::write_sparse(lent);
+    }
+    if operation == Operation::SparseTrailer {
+        lent.book.drain(..lent.book.len() - reference::book::TRAILER);
+    }
+    damage::room(operation, lent);
+    if operation == Operation::SparseRead {
+        scramble(lent);
+    }
+}
+
+/// One call on a sparse book that fails a check, each check of each call as often as the others.
+fn damaged_sparse(rng: &mut Rng) -> Case {
+    let mut operation = rng.pick(&Operation::SPARSE);
+    let mut lent = loop {
+        let family = if rng.chance(2) { Family::Largest } else { Family::Tiny };
+        let mut lent = models::model(rng, family);
+        if operation == Operation::SparseToBook {
+            lent.kinds.fill(0);
+        }
+        if lent.coefs.iter().any(|&a| a != 0) && !reference::bounds::is_empty(&lent.bounds) {
+            break lent;
+        }
+    };
+    let (bounds, coefs) = (lent.bounds.clone(), lent.coefs.clone());
+    let (rhs, kinds) = (lent.rhs.clone(), lent.kinds.clone());
+    lend_books(&mut lent, operation);
+    (lent.bounds, lent.coefs, lent.rhs, lent.kinds) = (bounds, coefs, rhs, kinds);
+    let check = rng.pick(damage::checks(operation));
+    damage::damage(rng, &mut operation, &mut lent, check);
+    if operation == Operation::SparseRead {
+        scramble(&mut lent);
+    }
+    Case { returns: Some(check), ..single(lent, operation) }
 }
 
 /// Fills the buffers that a book is read into with numbers that no model has.

@@ -188,6 +188,7 @@ impl Coverage {
             | Operation::BookTrailer
             | Operation::BookRead
             | Operation::BookWrite => 0,
+            _ if Operation::SPARSE.contains(&operation) => 0,
             _ => answer[0],
         };
         *self.answered.entry((operation.name(), case)).or_default() += 1;
@@ -326,6 +327,7 @@ impl Coverage {
             (Operation::BookRead, 1),
             (Operation::BookWrite, 1),
         ];
+        let all = all.into_iter().chain(Operation::SPARSE.map(|operation| (operation, 1)));
         let mut missing: Vec<String> =
             [&MOVES[..], &EQUALITIES, &UNREST, &PLANS, &RETIRED, &TIES, &CLIQUES]
                 .concat()

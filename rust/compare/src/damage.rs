@@ -22,8 +22,13 @@ pub fn checks(operation: Operation) -> &'static [u32] {
         Operation::Tie { .. } => &[3, 5, 6, 7, 23, 8, 9, 16, 10, 21, 13],
         Operation::PlanWidth | Operation::PlanRun => &[3, 5, 6, 7, 23],
         Operation::Cliques => &[3, 5, 10],
-        Operation::BookTrailer | Operation::PlanLengths => &[1, 5, 3, 4],
-        Operation::BookRead => &[1, 2, 3, 4, 5, 6, 7, 23, 8, 9],
+        Operation::BookTrailer | Operation::PlanLengths | Operation::SparseTrailer => &[1, 5, 3, 4],
+        Operation::BookRead | Operation::BookToSparseLength | Operation::BookToSparse => {
+            &[1, 2, 3, 4, 5, 6, 7, 23, 8, 9]
+        }
+        Operation::SparseRead => &[1, 2, 3, 4, 19, 20, 5, 6, 7, 23, 8, 9, 16],
+        Operation::SparseWrite | Operation::SparseLength => &[3, 5, 6, 7, 23, 8, 9, 16],
+        Operation::SparseToBook => &[1, 2, 3, 4, 19, 20, 5, 6, 7, 23, 8, 9, 16, 17],
     }
 }
 
@@ -51,12 +56,22 @@ fn damage_one(rng: &mut Rng, operation: &mut Operation, lent: &mut Lent, check: 
         5 => wrong_length(rng, *operation, lent),
         6..=9 | 23 => {
             wrong_number(rng, lent, check);
-            if *operation == Operation::BookRead {
-                write_book(lent);
-            }
+            rewrite(*operation, lent);
         }
-        16 => *any(rng, &mut lent.kinds) = rng.pick(&[2, 3, 128, 255]),
-        17 => *any(rng, &mut lent.kinds) = EQUAL,
+        16 => {
+            *any(rng, &mut lent.kinds) = rng.pick(&[2, 3, 128, 255]);
+            rewrite(*operation, lent);
+        }
+        17 => {
+            *any(rng, &mut lent.kinds) = EQUAL;
+            rewrite(*operation, lent);
+        }
+        19 => wrong_column(rng, lent),
+        20 => {
+            let places = entries(&lent.book);
+            let at = rng.pick(&places);
+            lent.book[at + 2..at + 6].fill(0);
+        }
         10 => *any(rng, &mut lent.table) = rng.pick(&[2, 3, 128, 255]),
         21 => {
             let most = 2 * lent.n as u16;
@@ -69,6 +84,64 @@ fn damage_one(rng: &mut Rng, operation: &mut Operation, lent: &mut Lent, check: 
 /// The book of the model as it stands, accepted or not.
 pub fn write_book(lent: &mut Lent) {
     lent.book = reference::book::write(lent.n, lent.m, &lent.bounds, &lent.coefs, &lent.rhs);
+}
+
+/// The sparse book of the model as it stands, accepted or not.
+pub fn write_sparse(lent: &mut Lent) {
+    lent.book = reference::sparse::write(lent.n, &lent.bounds, &lent.coefs, &lent.rhs, &lent.kinds);
+}
+
+/// The book that the call reads, once more, after a number of the model has changed. The book that a
+/// conversion writes gets the length that the new numbers need.
+fn rewrite(operation: Operation, lent: &mut Lent) {
+    if operation.reads_book() {
+        write_book(lent);
+    } else if operation.reads_sparse() {
+        write_sparse(lent);
+    }
+    room(operation, lent);
+}
+
+/// Room of the length needed for the book that the call writes.
+pub fn room(operation: Operation, lent: &mut Lent) {
+    let sparse = reference::sparse::length(lent.n, lent.m, &lent.coefs);
+    match operation {
+        Operation::SparseWrite => lent.book = vec![0x55; sparse],
+        Operation::BookToSparse => lent.to = vec![0x55; sparse],
+        Operation::SparseToBook => {
+            lent.to = vec![0x55; reference::book::length(lent.n, lent.m)];
+        }
+        _ => {}
+    }
+}
+
+/// The places of all entries of an accepted sparse book.
+fn entries(book: &[u8]) -> Vec<usize> {
+    let end = book.len() - reference::book::TRAILER;
+    let (n, m) = reference::sparse::trailer(&book[end..], true).expect("a trailer");
+    let starts = reference::sparse::row_starts(book, n, m, end).expect("a walk");
+    starts.iter().flat_map(|&start| reference::sparse::entries(book, start)).collect()
+}
+
+/// Check 19: a column that is n or more, or not above the one before in its row. Where a coefficient is 0
+/// already, the first entry is damaged, so that its column decides.
+fn wrong_column(rng: &mut Rng, lent: &mut Lent) {
+    let places = entries(&lent.book);
+    let column = |at: usize| u16::from_le_bytes(lent.book[at..at + 2].try_into().unwrap());
+    let zeros = places.iter().any(|&at| lent.book[at + 2..at + 6] == [0; 4]);
+    let second: Vec<usize> = (1..places.len())
+        .filter(|&e| places[e] == places[e - 1] + 6 && column(places[e - 1]) < column(places[e]))
+        .collect();
+    let n = lent.n as u16;
+    let (at, wrong) = if zeros {
+        (places[0], rng.pick(&[n, n + 1, u16::MAX]))
+    } else if second.is_empty() || rng.chance(50) {
+        (rng.pick(&places), rng.pick(&[n, n + 1, u16::MAX]))
+    } else {
+        let e = rng.pick(&second);
+        (places[e], column(places[e - 1]) - u16::from(rng.chance(50) && column(places[e - 1]) > 0))
+    };
+    lent.book[at..at + 2].copy_from_slice(&wrong.to_le_bytes());
 }
 
 /// A place of the buffer: often the first or the last.
@@ -106,25 +179,28 @@ fn wrong_book_length(rng: &mut Rng, book: &mut Vec<u8>) {
     }
 }
 
+/// Whether n and m are in the bytes that the call is lent.
+fn reads_bytes(operation: Operation) -> bool {
+    operation.reads_trailer() || operation.reads_book() || operation.reads_sparse()
+}
+
 /// Check 3: n is 0 or above 128, or m is above 120. Sometimes the lengths are right for the wrong size.
 fn wrong_size(rng: &mut Rng, operation: Operation, lent: &mut Lent) {
-    let in_book =
-        matches!(operation, Operation::BookTrailer | Operation::PlanLengths | Operation::BookRead);
     let only_n =
         matches!(operation, Operation::PlanWidth | Operation::PlanRun | Operation::Cliques);
     let n_is_wrong = only_n || rng.chance(50);
     match operation {
-        _ if in_book && n_is_wrong => {
+        _ if reads_bytes(operation) && n_is_wrong => {
             set_field(&mut lent.book, N, rng.pick(&[0, 129, 256, 65_535]));
         }
-        _ if in_book => {
+        _ if reads_bytes(operation) => {
             set_field(&mut lent.book, M, rng.pick(&[121, 256, 65_535]));
         }
         _ if n_is_wrong => lent.n = rng.pick(&[0, 129, 1 << 31, 1 << 63, usize::MAX]),
         _ => lent.m = rng.pick(&[121, 1 << 32, usize::MAX]),
     }
     let small = lent.n <= 129 && lent.m <= 121;
-    if small && !in_book && rng.chance(50) {
+    if small && !reads_bytes(operation) && rng.chance(50) {
         lent.bounds.resize(2 * lent.n, 0);
         lent.coefs.resize(lent.n * lent.m, 0);
         lent.rhs.resize(lent.m, 0);
@@ -144,7 +220,18 @@ fn wrong_layout(rng: &mut Rng, operation: Operation, lent: &mut Lent) {
         0 => set_field(book, BOUNDS_AT, rng.pick(&[1, 16, u32::MAX])),
         1 => set_field(book, ROWS_AT, rng.pick(&[8 * n - 1, 8 * n + 1, 0, u32::MAX])),
         2 => set_field(book, N, if n == 1 { 2 } else { n - 1 }),
-        3 => set_field(book, M, if m == 0 { 1 } else { m - 1 }),
+        3 if operation != Operation::SparseTrailer => {
+            set_field(book, M, if m == 0 { 1 } else { m - 1 });
+        }
+        _ if operation == Operation::SparseTrailer => set_field(book, BOUNDS_AT, 8),
+        _ if operation.reads_sparse() => {
+            // The last row says another count, so that the walk ends elsewhere; or the book is longer and says so.
+            let starts = reference::sparse::row_starts(book, lent.n, lent.m, book.len() - 16);
+            let at = starts.expect("a walk").pop().expect("a row") + 5;
+            let count = u16::from_le_bytes(book[at..at + 2].try_into().unwrap());
+            let counts = [count.wrapping_sub(1), count + 1, u16::MAX];
+            book[at..at + 2].copy_from_slice(&rng.pick(&counts).to_le_bytes());
+        }
         _ if matches!(operation, Operation::BookTrailer | Operation::PlanLengths) => {
             let length = reference::book::length(lent.n, lent.m) as u32;
             set_field(book, LENGTH, rng.pick(&[length - 1, length + 1, 0, u32::MAX]));
@@ -169,13 +256,17 @@ fn wrong_length(rng: &mut Rng, operation: Operation, lent: &mut Lent) {
         Operation::PlanWidth => &["answer", "bounds"],
         Operation::PlanRun => &["answer", "bounds", "calls"],
         Operation::Cliques => &["answer", "table", "clique_coefs", "clique_rhs"],
-        Operation::BookTrailer | Operation::PlanLengths => &["answer", "trailer"],
-        Operation::BookWrite => &["book"],
+        _ if operation.reads_trailer() => &["answer", "trailer"],
+        Operation::BookWrite | Operation::SparseWrite => &["book"],
+        Operation::BookToSparse | Operation::SparseToBook => &["to"],
         _ => &["answer"],
     };
     let buffers = match operation {
         Operation::PlanWidth | Operation::PlanRun | Operation::Cliques => others.to_vec(),
-        Operation::BookTrailer | Operation::PlanLengths => others.to_vec(),
+        Operation::BookToSparseLength | Operation::BookToSparse | Operation::SparseToBook => {
+            others.to_vec()
+        }
+        _ if operation.reads_trailer() => others.to_vec(),
         _ => [&model, others].concat(),
     };
     match rng.pick(&buffers) {
@@ -193,6 +284,7 @@ fn wrong_length(rng: &mut Rng, operation: Operation, lent: &mut Lent) {
         "calls" if operation == Operation::PlanRun && rng.chance(5) => {
             lent.calls = vec![2; 4 * (reference::plan::MAX_RECORDS + 1)];
         }
+        "to" => resize(rng, &mut lent.to),
         "calls" => lent.calls.extend(vec![1; rng.pick(&[1, 2, 3])]),
         _ => lent.book.extend(vec![0; rng.pick(&[1, 16, 28])]),
     }

@@ -21,6 +21,8 @@ pub struct Lent {
     /// A list of 2n rows for the clique rows: their coefficients and right sides. Only that call is lent it.
     pub clique_coefs: Vec<i32>,
     pub clique_rhs: Vec<i32>,
+    /// The book that a conversion writes.
+    pub to: Vec<u8>,
     pub answer: Vec<u64>,
 }
 
@@ -38,6 +40,7 @@ pub struct Loan<'a> {
     pub book: &'a mut [u8],
     pub clique_coefs: &'a mut [i32],
     pub clique_rhs: &'a mut [i32],
+    pub to: &'a mut [u8],
     pub answer: &'a mut [u64],
 }
 
@@ -55,6 +58,7 @@ impl Lent {
         self.book.clone_from(&to.book);
         self.clique_coefs.clone_from(&to.clique_coefs);
         self.clique_rhs.clone_from(&to.clique_rhs);
+        self.to.clone_from(&to.to);
         self.answer.clone_from(&to.answer);
     }
 
@@ -72,6 +76,7 @@ impl Lent {
             book: &mut self.book,
             clique_coefs: &mut self.clique_coefs,
             clique_rhs: &mut self.clique_rhs,
+            to: &mut self.to,
             answer: &mut self.answer,
         }
     }
@@ -96,11 +101,46 @@ pub enum Operation {
     BookTrailer,
     BookRead,
     BookWrite,
+    SparseTrailer,
+    SparseRead,
+    SparseWrite,
+    SparseLength,
+    BookToSparseLength,
+    BookToSparse,
+    SparseToBook,
 }
 
 impl Operation {
-    /// Each of the sixteen with these numbers, where it has them: first the nine on a model, then the three
-    /// that tell beforehand with the clique rows among them, and the three on books.
+    /// The calls on sparse books, and from one edition to the other.
+    pub const SPARSE: [Operation; 7] = [
+        Operation::SparseTrailer,
+        Operation::SparseRead,
+        Operation::SparseWrite,
+        Operation::SparseLength,
+        Operation::BookToSparseLength,
+        Operation::BookToSparse,
+        Operation::SparseToBook,
+    ];
+
+    /// Whether the call reads a sparse book, and not only its trailer.
+    pub fn reads_sparse(self) -> bool {
+        matches!(self, Operation::SparseRead | Operation::SparseToBook)
+    }
+
+    /// Whether the call reads a first-edition book, and not only its trailer.
+    pub fn reads_book(self) -> bool {
+        let readers = [Operation::BookRead, Operation::BookToSparseLength, Operation::BookToSparse];
+        readers.contains(&self)
+    }
+
+    /// Whether the call reads 16 trailer bytes alone.
+    pub fn reads_trailer(self) -> bool {
+        let readers = [Operation::BookTrailer, Operation::PlanLengths, Operation::SparseTrailer];
+        readers.contains(&self)
+    }
+
+    /// Each of the others with these numbers, where it has them: first those on a model, then those that tell
+    /// beforehand with the clique rows among them, and those on books.
     pub fn each(row: u32, variable: u32, budget: u32, limit: u64) -> [Operation; 16] {
         [
             Operation::PropagateRow { row },
@@ -141,6 +181,13 @@ impl Operation {
             Operation::BookTrailer => "book_trailer",
             Operation::BookRead => "book_read",
             Operation::BookWrite => "book_write",
+            Operation::SparseTrailer => "sparse_trailer",
+            Operation::SparseRead => "sparse_read",
+            Operation::SparseWrite => "sparse_write",
+            Operation::SparseLength => "sparse_length",
+            Operation::BookToSparseLength => "book_to_sparse_length",
+            Operation::BookToSparse => "book_to_sparse",
+            Operation::SparseToBook => "sparse_to_book",
         }
     }
 }
@@ -156,7 +203,7 @@ pub struct Reference;
 
 impl Backend for Reference {
     fn call(&mut self, operation: Operation, loan: Loan) -> u32 {
-        let Loan { n, m, bounds, coefs, rhs, kinds, table, ties, calls, book, .. } = loan;
+        let Loan { n, m, bounds, coefs, rhs, kinds, table, ties, calls, book, to, .. } = loan;
         let Loan { clique_coefs, clique_rhs, answer, .. } = loan;
         match operation {
             Operation::PropagateRow { row } => {
@@ -191,6 +238,15 @@ impl Backend for Reference {
             Operation::BookTrailer => calls::book_trailer(book, answer),
             Operation::BookRead => calls::book_read(book, bounds, coefs, rhs, kinds, answer),
             Operation::BookWrite => calls::book_write(n, m, bounds, coefs, rhs, kinds, book),
+            Operation::SparseTrailer => calls::sparse_trailer(book, answer),
+            Operation::SparseRead => calls::sparse_read(book, bounds, coefs, rhs, kinds, answer),
+            Operation::SparseWrite => calls::sparse_write(n, m, bounds, coefs, rhs, kinds, book),
+            Operation::SparseLength => {
+                calls::sparse_length(n, m, bounds, coefs, rhs, kinds, answer)
+            }
+            Operation::BookToSparseLength => calls::book_to_sparse_length(book, answer),
+            Operation::BookToSparse => calls::book_to_sparse(book, to),
+            Operation::SparseToBook => calls::sparse_to_book(book, to),
         }
     }
 }

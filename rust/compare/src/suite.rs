@@ -265,6 +265,7 @@ impl Guarded {
             book: guard(&lent.book, 0x55),
             clique_coefs: guard(&lent.clique_coefs, 0x5555_5555),
             clique_rhs: guard(&lent.clique_rhs, 0x5555_5555),
+            to: guard(&lent.to, 0x55),
             answer: guard(&lent.answer, 0x5555_5555_5555_5555),
         };
         Guarded { cells }
@@ -289,6 +290,7 @@ impl Guarded {
             book: inner(&mut cells.book),
             clique_coefs: inner(&mut cells.clique_coefs),
             clique_rhs: inner(&mut cells.clique_rhs),
+            to: inner(&mut cells.to),
             answer: inner(&mut cells.answer),
         }
     }
@@ -308,6 +310,7 @@ impl Guarded {
             book: loan.book.to_vec(),
             clique_coefs: loan.clique_coefs.to_vec(),
             clique_rhs: loan.clique_rhs.to_vec(),
+            to: loan.to.to_vec(),
             answer: loan.answer.to_vec(),
         }
     }
@@ -359,8 +362,9 @@ impl fmt::Display for Difference {
         first(f, "book", [&left.book, &right.book])?;
         first(f, "clique_coefs", [&left.clique_coefs, &right.clique_coefs])?;
         first(f, "clique_rhs", [&left.clique_rhs, &right.clique_rhs])?;
+        first(f, "to", [&left.to, &right.to])?;
         first(f, "answer", [&left.answer, &right.answer])?;
-        if self.before.n * self.before.m <= 64 {
+        if self.before.n.saturating_mul(self.before.m) <= 64 {
             writeln!(f, "  before: {:?}", self.before)?;
         }
         Ok(())

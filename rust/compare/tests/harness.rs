@@ -61,6 +61,7 @@ fn reborrow<'a>(loan: &'a mut Loan) -> Loan<'a> {
         book: loan.book,
         clique_coefs: loan.clique_coefs,
         clique_rhs: loan.clique_rhs,
+        to: loan.to,
         answer: loan.answer,
     }
 }
@@ -477,7 +478,7 @@ fn catches_the_width_in_another_place() {
 
 #[test]
 fn catches_each_check_left_out() {
-    for left_out in (1..=17).chain([21, 23]) {
+    for left_out in (1..=17).chain([19, 20, 21, 23]) {
         // Check 11 refuses records only: it is seen in the counts.
         if left_out == 11 {
             continue;
@@ -929,6 +930,35 @@ fn catches_a_buffer_that_the_call_does_not_own() {
     is_caught(|operation, _, said, loan| {
         if matches!(operation, Operation::RemoveRedundantRow { .. }) && said == 0 {
             loan.bounds[0] = loan.bounds[0].wrapping_add(1);
+        }
+        said
+    });
+}
+
+#[test]
+fn catches_a_column_called_a_zero() {
+    is_caught(
+        |operation, _, said, _| {
+            if operation.reads_sparse() && said == 19 { 20 } else { said }
+        },
+    );
+}
+
+#[test]
+fn catches_kinds_lost_in_a_sparse_book() {
+    is_caught(|operation, _, said, loan| {
+        if operation == Operation::SparseRead && said == 0 {
+            loan.kinds.fill(0);
+        }
+        said
+    });
+}
+
+#[test]
+fn catches_a_conversion_that_writes_before_it_refuses() {
+    is_caught(|operation, _, said, loan| {
+        if operation == Operation::SparseToBook && said == 17 {
+            loan.to.fill(0);
         }
         said
     });

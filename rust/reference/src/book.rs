@@ -6,17 +6,17 @@ use crate::checks::{self, Check};
 pub const TRAILER: usize = 16;
 
 /// The last 16 bytes of a book.
-struct Trailer {
-    bounds_at: u32,
-    rows_at: u32,
-    n: usize,
-    m: usize,
-    length: u32,
+pub struct Trailer {
+    pub bounds_at: u32,
+    pub rows_at: u32,
+    pub n: usize,
+    pub m: usize,
+    pub length: u32,
 }
 
 impl Trailer {
     /// Reads the trailer from exactly 16 bytes.
-    fn read(bytes: &[u8]) -> Self {
+    pub fn read(bytes: &[u8]) -> Self {
         let word = |at: usize| u32::from_le_bytes(bytes[at..at + 4].try_into().unwrap());
         let half = |at: usize| u16::from_le_bytes(bytes[at..at + 2].try_into().unwrap());
         Trailer {

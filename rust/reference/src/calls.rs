@@ -14,7 +14,7 @@ use crate::propagation::{self, Ending};
 use crate::rounds::{self, Rounds, RoundsEnding};
 use crate::row::{self, AT_MOST, Outcome, RowPropagation, Rows};
 use crate::ties::Tied;
-use crate::{State, book, bounds as boxes};
+use crate::{State, book, bounds as boxes, sparse};
 
 /// The places of an answer.
 pub const ANSWER: usize = 12;
@@ -411,4 +411,135 @@ pub fn book_write(
     }
     book.copy_from_slice(&book::write(n, m, bounds, coefs, rhs));
     0
+}
+
+/// n and m of the 16 trailer bytes of a sparse book (02, C-18).
+pub fn sparse_trailer(bytes: &[u8], answer: &mut [u64]) -> u32 {
+    reply(answer, |places_lent| {
+        let (n, m) = sparse::trailer(bytes, places_lent == ANSWER)?;
+        Ok(places([n as u64, m as u64]))
+    })
+}
+
+/// Reads a sparse book into lent buffers.
+pub fn sparse_read(
+    book: &[u8],
+    bounds: &mut [i32],
+    coefs: &mut [i32],
+    rhs: &mut [i32],
+    kinds: &mut [u8],
+    answer: &mut [u64],
+) -> u32 {
+    reply(answer, |places_lent| {
+        let (n, m, starts) = sparse::layout(book)?;
+        checks::lengths(&[
+            (bounds.len(), 2 * n),
+            (coefs.len(), m * n),
+            (rhs.len(), m),
+            (kinds.len(), m),
+            (places_lent, ANSWER),
+        ])?;
+        let new = sparse::numbers(book, n, &starts);
+        checks::numbers(&new.bounds, &new.coefs, &new.rhs)?;
+        checks::kinds(&new.kinds)?;
+        bounds.copy_from_slice(&new.bounds);
+        coefs.copy_from_slice(&new.coefs);
+        rhs.copy_from_slice(&new.rhs);
+        kinds.copy_from_slice(&new.kinds);
+        Ok(places([n as u64, m as u64]))
+    })
+}
+
+/// Writes the sparse book of a model into a lent buffer of exactly its length.
+pub fn sparse_write(
+    n: usize,
+    m: usize,
+    bounds: &[i32],
+    coefs: &[i32],
+    rhs: &[i32],
+    kinds: &[u8],
+    book: &mut [u8],
+) -> u32 {
+    let check = || -> Check {
+        checks::size(n, m)?; // before a length is reckoned from it
+        check_model(
+            n,
+            m,
+            bounds,
+            coefs,
+            rhs,
+            kinds,
+            None,
+            &[(book.len(), sparse::length(n, m, coefs))],
+        )
+    };
+    if let Err(check) = check() {
+        return check;
+    }
+    book.copy_from_slice(&sparse::write(n, bounds, coefs, rhs, kinds));
+    0
+}
+
+/// The length of the sparse book of a model.
+pub fn sparse_length(
+    n: usize,
+    m: usize,
+    bounds: &[i32],
+    coefs: &[i32],
+    rhs: &[i32],
+    kinds: &[u8],
+    answer: &mut [u64],
+) -> u32 {
+    reply(answer, |places_lent| {
+        check_model(n, m, bounds, coefs, rhs, kinds, None, &[(places_lent, ANSWER)])?;
+        Ok(places([sparse::length(n, m, coefs) as u64]))
+    })
+}
+
+/// The length of the sparse edition of a first-edition book.
+pub fn book_to_sparse_length(book: &[u8], answer: &mut [u64]) -> u32 {
+    reply(answer, |places_lent| {
+        let (n, m) = book::size(book)?;
+        checks::lengths(&[(places_lent, ANSWER)])?;
+        let (bounds, coefs, rhs) = book::numbers(book, n, m);
+        checks::numbers(&bounds, &coefs, &rhs)?;
+        Ok(places([sparse::length(n, m, &coefs) as u64]))
+    })
+}
+
+/// Turns a first-edition book into a sparse one.
+pub fn book_to_sparse(from: &[u8], to: &mut [u8]) -> u32 {
+    let convert = || -> Result<Vec<u8>, u32> {
+        let (n, m) = book::size(from)?;
+        let (bounds, coefs, rhs) = book::numbers(from, n, m);
+        checks::lengths(&[(to.len(), sparse::length(n, m, &coefs))])?;
+        checks::numbers(&bounds, &coefs, &rhs)?;
+        Ok(sparse::write(n, &bounds, &coefs, &rhs, &vec![AT_MOST; m]))
+    };
+    put(convert(), to)
+}
+
+/// Turns a sparse book into a first-edition one: "an = row is refused as 17".
+pub fn sparse_to_book(from: &[u8], to: &mut [u8]) -> u32 {
+    let convert = || -> Result<Vec<u8>, u32> {
+        let (n, m, starts) = sparse::layout(from)?;
+        checks::lengths(&[(to.len(), book::length(n, m))])?;
+        let new = sparse::numbers(from, n, &starts);
+        checks::numbers(&new.bounds, &new.coefs, &new.rhs)?;
+        checks::kinds(&new.kinds)?;
+        checks::no_equality(&new.kinds)?;
+        Ok(book::write(n, m, &new.bounds, &new.coefs, &new.rhs))
+    };
+    put(convert(), to)
+}
+
+/// A book into a buffer of its length, or the number of the check that refuses it.
+fn put(book: Result<Vec<u8>, u32>, to: &mut [u8]) -> u32 {
+    match book {
+        Ok(book) => {
+            to.copy_from_slice(&book);
+            0
+        }
+        Err(check) => check,
+    }
 }

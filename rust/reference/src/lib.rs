@@ -14,18 +14,23 @@
 //! | [`list`] | Run sheet |
 //! | [`rounds`] | the rounds of the program `reduce` |
 //! | [`book`] | Book |
+//! | [`sparse`] | the sparse book (02, C-18) |
 //! | [`checks`] | Checks in their order; 02's new numbers in their places |
 //! | [`plan`] | size and passes told beforehand (02, C-17) |
 //! | [`ties`] | tied variables (02, C-19) |
 //! | [`cliques`] | clique rows (02, C-12; 000, 2.2.2) |
+//! | [`calls`] | the fifteen calls as the C interface has them: a refusal number and twelve places of answer |
+//! | [`calls`] | the twenty-one calls as the C interface has them: a refusal number and twelve places of answer |
 //! | [`calls`] | the calls as the C interface has them: a refusal number and twelve places of answer |
 //! | [`report`] | what `reduce` prints |
+//! | [`convert`] | what `convert` writes (02, C-18) |
 
 pub mod book;
 pub mod bounds;
 pub mod calls;
 pub mod checks;
 pub mod cliques;
+pub mod convert;
 pub mod list;
 pub mod plan;
 pub mod probing;
@@ -33,6 +38,7 @@ pub mod propagation;
 pub mod report;
 pub mod rounds;
 pub mod row;
+pub mod sparse;
 pub mod ties;
 
 /// A model and its implication table in lent memory: what a call list and the rounds work on.

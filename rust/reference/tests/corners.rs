@@ -612,3 +612,100 @@ fn a_call_list_reads_kinds_and_writes_no_row() {
     assert_eq!(model.run(&calls), Err(16));
     assert_eq!(model.run(&[]), Err(16));
 }
+
+/// 3x + 2y ≤ 4 over two binary variables, as a sparse book: bounds, row (at 16), trailer (at 35).
+fn sparse_example() -> Vec<u8> {
+    let model = Model::binary(2, &[(&[3, 2], 4)]);
+    reference::sparse::write(2, &model.bounds, &model.coefs, &model.rhs, &model.kinds)
+}
+
+/// What reading a sparse book says; a refusal writes nothing.
+fn read_sparse(book: &[u8], lent: usize) -> u32 {
+    let (mut bounds, mut coefs, mut rhs) = (vec![9; lent], vec![9; 2], vec![9; 1]);
+    let (mut kinds, mut answer) = (vec![9; 1], [7; ANSWER]);
+    let said = calls::sparse_read(book, &mut bounds, &mut coefs, &mut rhs, &mut kinds, &mut answer);
+    let written = coefs != [9; 2] || rhs != [9] || kinds != [9] || answer != [7; ANSWER];
+    assert_eq!(said == 0, written || bounds != vec![9; lent], "a refusal writes nothing");
+    said
+}
+
+fn with_bytes(mut book: Vec<u8>, changes: &[(usize, u8)]) -> Vec<u8> {
+    changes.iter().for_each(|&(at, byte)| book[at] = byte);
+    book
+}
+
+#[test]
+fn a_sparse_book_is_checked_in_order() {
+    // C-18: 1 2 3 4, 19 or 20, 5, 6 7 23 8 9 16.
+    let good = sparse_example();
+    assert_eq!(good.len(), 16 + 7 + 2 * 6 + 16);
+    let read = |changes: &[(usize, u8)]| read_sparse(&with_bytes(good.clone(), changes), 4);
+    assert_eq!(read(&[]), 0);
+    assert_eq!(read_sparse(&good[36..], 4), 1);
+    assert_eq!(read_sparse(&good[1..], 4), 2);
+    assert_eq!(read(&[(43, 0)]), 3);
+    assert_eq!(read(&[(35, 1)]), 4);
+    assert_eq!(read(&[(39, 17)]), 4);
+    // The walk: a row too few or too many, an entry too few or too many, the largest count.
+    assert_eq!(read(&[(45, 0)]), 4);
+    assert_eq!(read(&[(45, 2)]), 4);
+    assert_eq!(read(&[(21, 1)]), 4);
+    assert_eq!(read(&[(21, 3)]), 4);
+    assert_eq!(read(&[(21, 255), (22, 255)]), 4);
+    // It is finished before any entry is looked at.
+    assert_eq!(read(&[(21, 3), (23, 9), (25, 0)]), 4);
+    // A column of n, one that stands twice, one that falls.
+    assert_eq!(read(&[(29, 2)]), 19);
+    assert_eq!(read(&[(29, 0)]), 19);
+    assert_eq!(read(&[(23, 1), (29, 0)]), 19);
+    assert_eq!(read(&[(25, 0)]), 20);
+    // "the entry read first deciding, and in one entry the column"
+    assert_eq!(read(&[(25, 0), (29, 9)]), 20);
+    assert_eq!(read(&[(25, 0), (23, 9)]), 19);
+    // 5 after them, and before the numbers.
+    assert_eq!(read_sparse(&with_bytes(good.clone(), &[(25, 0)]), 3), 20);
+    assert_eq!(read_sparse(&with_bytes(good.clone(), &[(6, 1)]), 3), 5);
+    assert_eq!(read(&[(6, 1)]), 6);
+    assert_eq!(read(&[(0, 2)]), 7);
+    assert_eq!(read(&[(5, 0x10)]), 23); // u = 4,097
+    assert_eq!(read(&[(28, 1), (19, 0x7f), (20, 2)]), 8);
+    assert_eq!(read(&[(19, 0x7f), (20, 2)]), 9);
+    assert_eq!(read(&[(20, 2)]), 16);
+    assert_eq!(read(&[(20, 1)]), 0);
+}
+
+#[test]
+fn the_trailer_of_a_sparse_book_says_its_offsets_only() {
+    let book = sparse_example();
+    let trailer = &book[35..];
+    let mut answer = [7; ANSWER];
+    assert_eq!(calls::sparse_trailer(trailer, &mut answer), 0);
+    assert_eq!(Ok(answer), ok(&[2, 1]));
+    // Another length and another m are no matter of the trailer alone.
+    assert_eq!(calls::sparse_trailer(&with_bytes(trailer.to_vec(), &[(12, 0)]), &mut answer), 0);
+    assert_eq!(calls::sparse_trailer(&with_bytes(trailer.to_vec(), &[(10, 9)]), &mut answer), 0);
+    assert_eq!(calls::sparse_trailer(&with_bytes(trailer.to_vec(), &[(8, 3)]), &mut answer), 4);
+    assert_eq!(calls::sparse_trailer(&trailer[1..], &mut answer[..ANSWER - 1]), 1);
+    assert_eq!(calls::sparse_trailer(&book[34..], &mut answer), 5);
+}
+
+#[test]
+fn conversions_come_back_and_refuse_an_equality_row() {
+    let model = Model::binary(2, &[(&[3, 0], 4), (&[0, 0], 0)]);
+    let book = model.book();
+    let mut sparse = vec![0; reference::sparse::length(2, 2, &model.coefs)];
+    assert_eq!(calls::book_to_sparse(&book, &mut sparse[1..]), 5);
+    assert_eq!(calls::book_to_sparse(&book, &mut sparse), 0);
+    let mut back = vec![0; book.len()];
+    assert_eq!(calls::sparse_to_book(&sparse, &mut back), 0);
+    assert_eq!(back, book);
+    // 5 stands before 6 and after 19; 17 comes last.
+    let wide = with_bytes(sparse.clone(), &[(6, 1)]);
+    assert_eq!(calls::sparse_to_book(&wide, &mut back[1..]), 5);
+    assert_eq!(calls::sparse_to_book(&with_bytes(sparse.clone(), &[(23, 2)]), &mut back[1..]), 19);
+    assert_eq!(calls::sparse_to_book(&with_bytes(sparse.clone(), &[(20, 1)]), &mut back), 17);
+    assert_eq!(calls::sparse_to_book(&with_bytes(sparse, &[(20, 1), (33, 2)]), &mut back), 16);
+    // With no rows both editions are the same bytes.
+    let empty = Model::binary(2, &[]);
+    assert_eq!(reference::sparse::write(2, &empty.bounds, &[], &[], &[]), empty.book());
+}

@@ -30,6 +30,7 @@ impl Backend for Native {
         let (book, book_len) = raw(loan.book);
         let (clique_coefs, clique_coefs_len) = raw(loan.clique_coefs);
         let (clique_rhs, clique_rhs_len) = raw(loan.clique_rhs);
+        let (to, to_len) = raw(loan.to);
         let (answer, answer_len) = raw(loan.answer);
         // SAFETY: each pointer and count is that of a slice of its own, or null and 0.
         unsafe {
@@ -103,6 +104,30 @@ impl Backend for Native {
                     n, m, bounds, bounds_len, coefs, coefs_len, rhs, rhs_len, kinds, kinds_len,
                     book, book_len,
                 ),
+                Operation::SparseTrailer => {
+                    ffi::astrolabe_sparse_trailer(book, book_len, answer, answer_len)
+                }
+                Operation::SparseRead => ffi::astrolabe_sparse_read(
+                    book, book_len, bounds, bounds_len, coefs, coefs_len, rhs, rhs_len, kinds,
+                    kinds_len, answer, answer_len,
+                ),
+                Operation::SparseWrite => ffi::astrolabe_sparse_write(
+                    n, m, bounds, bounds_len, coefs, coefs_len, rhs, rhs_len, kinds, kinds_len,
+                    book, book_len,
+                ),
+                Operation::SparseLength => ffi::astrolabe_sparse_length(
+                    n, m, bounds, bounds_len, coefs, coefs_len, rhs, rhs_len, kinds, kinds_len,
+                    answer, answer_len,
+                ),
+                Operation::BookToSparseLength => {
+                    ffi::astrolabe_book_to_sparse_length(book, book_len, answer, answer_len)
+                }
+                Operation::BookToSparse => {
+                    ffi::astrolabe_book_to_sparse(book, book_len, to, to_len)
+                }
+                Operation::SparseToBook => {
+                    ffi::astrolabe_sparse_to_book(book, book_len, to, to_len)
+                }
             }
         }
     }

@@ -1,13 +1,11 @@
 -- `book::layout::write_trailer`: the five numbers one after the other fill the 16 bytes (`trailer-written`).
 -- Assumes nothing.
-use Prim.Native.Nat.{_*_, ℕ}
+use Prim.Native.Nat.{_*_}
 use borrow.Author.Needs.{needs}
-use mathlib.Core.List.{List}
-use mathlib.Core.Path.{_∙_, ap, ap₂}
-use native.Mathlib.Omega.{arith}
+use mathlib.Core.Path.{_∙_, ap}
 use Rattle.bytes.specs.Bytes.{bytesOf}
 use Rattle.bytes.specs.Pieces.{overwrite}
-use Rattle.book.proofs.EncodeLaws.{length-below, trailer-written}
+use Rattle.book.proofs.EncodeLaws.{trailer-written}
 use Rattle.book.proofs.layout.write_trailer.Statement.{statement}
 use Rattle.book.proofs.layout.write_trailer.Tie as tie
 
@@ -35,13 +33,8 @@ cast-write-u16-2 c = search needs
 write-u16-requires-2 : tie.Need-write-u16-requires-2
 write-u16-requires-2 c κs = search needs
 
-book-length-requires : tie.Need-book-length-requires
-book-length-requires c κs = search needs
-
 cast-write-u32-2 : tie.Need-cast-write-u32-2
-cast-write-u32-2 c =
-    let s = c .before .before .before .before .before .before .before .before .before .before .before .before .before .before .before .before .before .before .before in
-    omega (arith, c .book-length .ensures, length-below (s .args .n) (s .args .m) (s .pre .1) (s .pre .2))
+cast-write-u32-2 c = search needs
 
 write-u32-requires-3 : tie.Need-write-u32-requires-3
 write-u32-requires-3 c κs = search needs
@@ -51,7 +44,7 @@ same-length c = search needs
 
 returns : tie.Need-returns
 returns c =
-    let c4 = c .before .before .before .before .before .before .before in
+    let c4 = c .before .before .before .before .before .before in
     let c3 = c4 .before .before .before .before in
     let c2 = c3 .before .before .before .before in
     let c1 = c2 .before .before .before .before in
@@ -63,8 +56,8 @@ returns c =
     let eight = ap (overwrite 8 (bytesOf 2 n)) (c2 .write-u322 .ensures ∙ four) in
     let ten = ap (overwrite 10 (bytesOf 2 m)) (c3 .write-u16 .ensures ∙ eight) in
     c .before .before .write-u323 .ensures
-    ∙ ap₂ (λ (k : ℕ) (r : List ℕ). overwrite 12 (bytesOf 4 k) r) (c .before .before .before .book-length .ensures) (c4 .write-u162 .ensures ∙ ten)
-    ∙ trailer-written n m t (s .pre .0)
+    ∙ ap (overwrite 12 (bytesOf 4 (s .args .len))) (c4 .write-u162 .ensures ∙ ten)
+    ∙ trailer-written n m (s .args .len) t (s .pre .0)
 
 pub write-trailer-spec : {M : Type 1} → statement M
 write-trailer-spec =
@@ -78,7 +71,6 @@ write-trailer-spec =
     write-u16-requires
     cast-write-u16-2
     write-u16-requires-2
-    book-length-requires
     cast-write-u32-2
     write-u32-requires-3
     same-length

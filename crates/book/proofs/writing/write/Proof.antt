@@ -11,12 +11,12 @@ use Rattle.model.specs.Model.{Model, modelOf}
 use Rattle.model.specs.Rows.{rowsOf}
 use Rattle.model.specs.Valid.{ValidModel}
 use Rattle.book.specs.Answers.{bookWritten, writeAnswer, writeCall, writeFault, written}
-use Rattle.book.specs.Book.{bookLength, boundBytes, encode, rowBytes, rowBytesAt}
+use Rattle.book.specs.Book.{bookLength, boundBytes, encode, rowBytes, rowBytesAt, trailerBytes}
 use Rattle.bytes.specs.Bytes.{integerBytes, integersBytes}
 use Rattle.bytes.specs.Pieces.{joined, overwrite}
 use Rattle.book.proofs.AcceptLaws.{write-passed}
 use Rattle.book.proofs.AnswerLaws.{accepted-by, becomes, refused-by, stays}
-use Rattle.book.proofs.EncodeLaws.{book-assembled, length-trailerBytes}
+use Rattle.book.proofs.EncodeLaws.{book-assembled, length-below, length-trailerBytes}
 use Rattle.bytes.proofs.PieceLaws.{length-part, overwrite-part}
 use Rattle.book.proofs.RoundTripLaws.{writes-back}
 use Rattle.book.proofs.writing.write.Statement.{statement}
@@ -111,7 +111,7 @@ write-trailer-requires c κs =
     let w = c .before .before .before in
     let v = ready (w .before .before .before .before .before .before) .0 in
     let bs = w .write-rows .last .1 .1 .1 .0 in
-    (rw (trailer-length w) (length-part (length bs - 16) 16 bs (omega (arith, kept-length w))), v .few, v .fewRows)
+    (rw (trailer-length w) (length-part (length bs - 16) 16 bs (omega (arith, kept-length w))), v .few, v .fewRows, omega (arith, kept-length w, length-below _ _ (v .few) (v .fewRows)))
 
 same-length-2 : tie.Need-same-length-2
 same-length-2 c = search needs
@@ -128,11 +128,11 @@ returns-2 c =
     let z = no-fault (w .before .before .before .before .before .before) in
     let call = c .before .before .write-trailer in
     let l : length (call .last .0) ≡ length cs - q =
-    ap length (call .ensures) ∙ length-trailerBytes (M .n) (M .m) ∙ sym (trailer-length w) in
+    ap length (call .ensures) ∙ length-trailerBytes (M .n) (M .m) (length cs) ∙ sym (trailer-length w) in
     let said = accepted-by z written in
     let new =
     overwrite-part q (length cs - q) (call .last .0) cs l
-    ∙ ap₂ (overwrite q) (call .ensures) (body w)
+    ∙ ap₂ (overwrite q) (call .ensures ∙ ap (trailerBytes (M .n) (M .m)) (kept-length w .0 ∙ kept-length w .1)) (body w)
     ∙ book-assembled M bs q (kept-length w .1) (ap (λ (k : ℕ). k - 16) (kept-length w .0))
     ∙ becomes z bs (encode M) in
     (said, (new, (λ h. writes-back M bs _ new (sym said ∙ h))))

@@ -1,0 +1,3 @@
+pub mod SparseCallLaws
+pub mod ConversionLaws
+pub mod RoomLaws

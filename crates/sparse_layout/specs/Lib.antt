@@ -1,0 +1,4 @@
+pub mod SparseBook
+pub mod SparseChecks
+pub mod SparseTrips
+pub mod SparseCases
