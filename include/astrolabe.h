@@ -24,6 +24,9 @@
  *                                 of the literal that holds just when variable j
  *                                 is 1. Start it with all 0
  *     calls    uint32_t   4 each  call records: kind, row, variable, budget       any
+ *     proposals int32_t   n each  proposed allocations, one after the other       any
+ *     verdicts uint32_t   2 each  what each proposal gets, see "Proposed
+ *                                 allocations" below
  *     book     uint8_t    16+     a model as a file, see "Books" below
  *     answer   uint64_t   12      the answer; places that a call does not use
  *                                 are set to 0
@@ -48,8 +51,9 @@
  *
  * REFUSALS. Every function returns ASTROLABE_OK (0), or the number of the first check that fails. The
  * order of the checks is that of the numbers but for those that came later: 19 and 20 stand after 4 (the
- * entry read first decides), 23 straight after 7, 16 and 17 after 9, 21 straight after 10, 18 straight after 11:
- *     1 2 3 4 19 20 5 6 7 23 8 9 16 17 10 21 11 18 12 13 14 15
+ * entry read first decides), 22 straight before 5, 23 straight after 7, 16 and 17 after 9, 21 straight after 10,
+ * 18 straight after 11:
+ *     1 2 3 4 19 20 22 5 6 7 23 8 9 16 17 10 21 11 18 12 13 14 15
  * Each function's comment lists the checks that it makes, in its order. On a refusal no lent number
  * changes, the answer's places among them. All that is lent is checked in every call, so a model can be
  * changed freely between calls.
@@ -100,6 +104,8 @@ extern "C" {
 #define ASTROLABE_ROW_KIND_EQUAL 1   /* sum = right-hand side */
 /* The most records of a list for astrolabe_plan_run; astrolabe_run takes any number. */
 #define ASTROLABE_MAX_PLANNED_RECORDS 1000000
+/* The most proposals of astrolabe_check_allocations. */
+#define ASTROLABE_MAX_PROPOSALS 64
 /* The count of every answer buffer. */
 #define ASTROLABE_ANSWER_LEN 12
 /* The bytes of a book's trailer. */
@@ -134,6 +140,7 @@ extern "C" {
 #define ASTROLABE_REFUSED_ZERO_COEFFICIENT 20    /* of a sparse book: an entry's coefficient is 0; made with 19, the
                                                     entry read first deciding, and in one entry the column */
 #define ASTROLABE_REFUSED_TIE_PLACE 21           /* a place of the tie list is above 2n; made straight after 10 */
+#define ASTROLABE_REFUSED_PROPOSAL_COUNT 22      /* the count of proposals is not 1 to 64; made straight before 5 */
 #define ASTROLABE_REFUSED_VARIABLE_TOO_WIDE 23   /* u - l of a variable is over 4,096; made straight after 7 */
 
 /* ---------------------------------------------------------------------------------------------
@@ -504,6 +511,38 @@ uint32_t astrolabe_plan_run(size_t n,
                             const int32_t *bounds, size_t bounds_len,
                             const uint32_t *calls, size_t calls_len,
                             uint64_t *answer, size_t answer_len);
+
+/* ---------------------------------------------------------------------------------------------
+ * Proposed allocations. Up to 64 lists of n numbers, each held against the model.
+ */
+
+/* Cases of a verdict, verdicts[2c]. */
+#define ASTROLABE_VERDICT_INSIDE 0  /* an integer point of the model */
+#define ASTROLABE_VERDICT_OUTSIDE 1 /* outside the box; verdicts[2c + 1] is the lowest such variable */
+#define ASTROLABE_VERDICT_BREAKS 2  /* inside the box; verdicts[2c + 1] is the lowest row that does not hold */
+
+/*
+ * Holds proposals against a model: box and rows, by the rows' kinds. Ties are not read. There is no answer: the
+ * verdicts and the returned number say all. Each proposal gets what it alone would get. The rows are read
+ * once for all of them.
+ *
+ *     proposals   const     count * n numbers, one proposal after the other; any numbers
+ *     count                 1 to 64
+ *     verdicts    written   2 * count numbers: a case, and a variable or a row (0 where it is inside)
+ *
+ * A proposal gets ASTROLABE_VERDICT_INSIDE exactly if it is an integer point of the model. So it gets the same
+ * yes or no against a model and against what the calls above (the rounds among them) made of it.
+ *
+ * Refused by 3 22 5 6 7 23 8 9 16, in this order.
+ */
+uint32_t astrolabe_check_allocations(size_t n, size_t m,
+                                     const int32_t *bounds, size_t bounds_len,
+                                     const int32_t *coefs, size_t coefs_len,
+                                     const int32_t *rhs, size_t rhs_len,
+                                     const uint8_t *kinds, size_t kinds_len,
+                                     const int32_t *proposals, size_t proposals_len,
+                                     uint32_t count,
+                                     uint32_t *verdicts, size_t verdicts_len);
 
 /* ---------------------------------------------------------------------------------------------
  * Books. A model as a file, little-endian: the bounds, l and u of each variable; then for each row its

@@ -224,6 +224,25 @@ unsafe extern "C" {
         answer_len: usize,
     ) -> u32;
 
+    /// No answer: `verdicts` and the number say all. Case, and variable or row, of each proposal.
+    pub fn astrolabe_check_allocations(
+        n: usize,
+        m: usize,
+        bounds: *const i32,
+        bounds_len: usize,
+        coefs: *const i32,
+        coefs_len: usize,
+        rhs: *const i32,
+        rhs_len: usize,
+        kinds: *const u8,
+        kinds_len: usize,
+        proposals: *const i32,
+        proposals_len: usize,
+        count: u32,
+        verdicts: *mut u32,
+        verdicts_len: usize,
+    ) -> u32;
+
     /// Answer: n, m.
     pub fn astrolabe_book_trailer(
         bytes: *const u8,

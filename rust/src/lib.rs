@@ -36,6 +36,7 @@
 //!
 //! [`ffi`] has the C interface as it is.
 
+mod allocations;
 mod answer;
 mod clique;
 pub mod ffi;
@@ -44,6 +45,7 @@ pub mod plan;
 mod refusal;
 mod ties;
 
+pub use allocations::{MAX_PROPOSALS, Verdict};
 pub use answer::{Counts, Outcome, Probe, Propagation, Rest, Rounds, RowPropagation, Side};
 pub use clique::Clique;
 pub use model::{

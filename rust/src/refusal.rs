@@ -6,7 +6,8 @@ use std::fmt;
 /// The first check that failed. A refused call changes nothing.
 ///
 /// The discriminants are the check numbers of the specification and of its requests. The checks are made
-/// in the order of the numbers but for [`Refusal::VariableTooWide`], 23, which comes straight after 7,
+/// in the order of the numbers but for [`Refusal::ProposalCount`], 22, which comes straight before 5,
+/// [`Refusal::VariableTooWide`], 23, which comes straight after 7,
 /// [`Refusal::RowKind`] and [`Refusal::EqualityRow`], 16 and 17, which come after 9 and before 10,
 /// [`Refusal::TiePlace`], 21, which comes straight after 10, [`Refusal::RetiredKind`], 18, which comes
 /// straight after 11, and [`Refusal::SparseColumn`] and [`Refusal::SparseZero`], 19 and 20, which come after 4
@@ -68,13 +69,15 @@ pub enum Refusal {
     SparseZero = 20,
     /// A place of a tie list is above 2n: it names no literal.
     TiePlace = 21,
+    /// The count of proposals is not 1 to 64.
+    ProposalCount = 22,
     /// A variable's upper bound is more than 4,096 above its lower. A stored book that is refused by it
     /// has to be retyped: see `docs/INTEGRATION.md`.
     VariableTooWide = 23,
 }
 
 impl Refusal {
-    const ALL: [Refusal; 22] = [
+    const ALL: [Refusal; 23] = [
         Refusal::BookTooShort,
         Refusal::BookLengthMismatch,
         Refusal::SizeOutOfRange,
@@ -96,6 +99,7 @@ impl Refusal {
         Refusal::SparseColumn,
         Refusal::SparseZero,
         Refusal::TiePlace,
+        Refusal::ProposalCount,
         Refusal::VariableTooWide,
     ];
 
@@ -140,6 +144,7 @@ impl Refusal {
             Refusal::SparseColumn => "a column is not below n or not above the one before",
             Refusal::SparseZero => "an entry of a sparse book has the coefficient 0",
             Refusal::TiePlace => "a place of the tie list is above 2n",
+            Refusal::ProposalCount => "the count of proposals is not 1 to 64",
             Refusal::VariableTooWide => "a variable is over 4096 wide",
         }
     }
@@ -160,7 +165,7 @@ mod tests {
     #[test]
     fn each_number_gives_its_own_refusal() {
         assert_eq!(Refusal::from_returned(0), Ok(()));
-        for number in (1..=21).chain([23]) {
+        for number in 1..=23 {
             assert_eq!(Refusal::from_returned(number).unwrap_err().check(), number);
         }
     }

@@ -23,6 +23,7 @@ fn parameter_from_c(text: &str) -> String {
         "uint32_t" => "u32",
         "int32_t *" => "*mut i32",
         "const int32_t *" => "*const i32",
+        "uint32_t *" => "*mut u32",
         "const uint32_t *" => "*const u32",
         "uint8_t *" => "*mut u8",
         "const uint8_t *" => "*const u8",
@@ -56,7 +57,7 @@ fn the_header_and_the_rust_declarations_agree() {
     let mut rust = declarations(FFI, "pub fn astrolabe_", ") -> u32;", str::to_string);
     c.sort();
     rust.sort();
-    assert_eq!(c.len(), 23);
+    assert_eq!(c.len(), 24);
     assert_eq!(c, rust);
 }
 
@@ -100,6 +101,8 @@ fn the_header_has_the_limits_and_numbers_of_the_wrapper() {
     assert_eq!(defined("REFUSED_TIE_PLACE"), Refusal::TiePlace.check().to_string());
     assert_eq!(defined("REFUSED_COLUMN"), Refusal::SparseColumn.check().to_string());
     assert_eq!(defined("REFUSED_ZERO_COEFFICIENT"), Refusal::SparseZero.check().to_string());
+    assert_eq!(defined("MAX_PROPOSALS"), astrolabe::MAX_PROPOSALS.to_string());
+    assert_eq!(defined("REFUSED_PROPOSAL_COUNT"), Refusal::ProposalCount.check().to_string());
     assert_eq!(defined("REFUSED_VARIABLE_TOO_WIDE"), Refusal::VariableTooWide.check().to_string());
     assert_eq!(defined("ROW_KIND_AT_MOST"), (RowKind::AtMost as u8).to_string());
     assert_eq!(defined("ROW_KIND_EQUAL"), (RowKind::Equal as u8).to_string());

@@ -1,6 +1,7 @@
 // The C interface (include/astrolabe.h): every open call as a function with C linkage, each slice a pointer and a
 // count. A function returns 0 or the number of the failed check, and writes the twelve places of its answer. It makes
 // one check more than the open call has, of the answer's length, and nothing else happens here.
+pub mod allocations;
 pub mod books;
 pub mod calls;
 pub mod clique_rows;

@@ -14,7 +14,9 @@
 //! | [`suite`] | the comparison |
 //! | [`points`] | the integer points of a small model, before and after a tie |
 //! | [`coverage`] | what the cases met |
+//! | [`allocations`] | the same for the call on proposed allocations (02, C-21), in a module of its own |
 
+pub mod allocations;
 pub mod cases;
 pub mod coverage;
 pub mod damage;

@@ -22,9 +22,12 @@
 //! | [`calls`] | the fifteen calls as the C interface has them: a refusal number and twelve places of answer |
 //! | [`calls`] | the twenty-one calls as the C interface has them: a refusal number and twelve places of answer |
 //! | [`calls`] | the calls as the C interface has them: a refusal number and twelve places of answer |
+//! | [`allocations`] | many proposed allocations, one reading (02, C-21) |
+//! | [`calls`] | the fourteen calls as the C interface has them: a refusal number and twelve places of answer |
 //! | [`report`] | what `reduce` prints |
 //! | [`convert`] | what `convert` writes (02, C-18) |
 
+pub mod allocations;
 pub mod book;
 pub mod bounds;
 pub mod calls;

@@ -1,0 +1,4 @@
+pub mod HeldLaws
+pub mod TellingLaws
+pub mod ValueLaws
+pub mod JudgeLaws
