@@ -28,6 +28,7 @@
  *     verdicts uint32_t   2 each  what each proposal gets, see "Proposed
  *                                 allocations" below
  *     book     uint8_t    16+     a model as a file, see "Books" below
+ *     pages    uint8_t    4,860 each  a model on paper, see "Pages for the floor" below
  *     answer   uint64_t   12      the answer; places that a call does not use
  *                                 are set to 0
  *
@@ -695,6 +696,48 @@ uint32_t astrolabe_book_to_sparse(const uint8_t *from, size_t from_len,
  */
 uint32_t astrolabe_sparse_to_book(const uint8_t *from, size_t from_len,
                                   uint8_t *to, size_t to_len);
+
+/* ---------------------------------------------------------------------------------------------
+ * Pages for the floor: the bounds, and what each variable implies at 1, as ASCII text on paper. A page has 60
+ * lines of 80 columns, space filled, each ended by a line feed. Line 1 of each page is the page number, from 1,
+ * in columns 75 to 80. Then each variable has its line, upwards:
+ *
+ *     columns 1 to 6     the variable, from 0; right-aligned, as are the next two
+ *             8 to 14    its lower bound
+ *             16 to 22   its upper bound
+ *             24 to 71   up to eight literals that "this variable is 1" implies by the table, rising, six columns
+ *                        each: + for "is 1" or - for "is 0", then the variable, then spaces
+ *
+ * Further literals go on lines of their own, with columns 1 to 23 empty. The last page is filled with empty lines.
+ * The rows are not printed. The numbers on the pages give back the bounds and those implications, all of them and no
+ * others.
+ */
+
+/* The bytes of a page, and the most pages that there are. */
+#define ASTROLABE_PAGE_LEN 4860
+#define ASTROLABE_MAX_PAGES 70
+
+/*
+ * Tells the number of pages.
+ *
+ *     answer[0]   the number of pages, 1 to ASTROLABE_MAX_PAGES
+ *
+ * Refused by 3 (n alone) 5 10, in this order.
+ */
+uint32_t astrolabe_page_count(size_t n,
+                              const uint8_t *table, size_t table_len,
+                              uint64_t *answer, size_t answer_len);
+
+/*
+ * Writes the pages. pages_len is ASTROLABE_PAGE_LEN times their number. No answer: the returned number says all.
+ *
+ * Refused by 3 (n alone) 5 6 7 23 10, in this order. For 5 the pages are counted by the table's bytes that are 1;
+ * any other byte is left to 10.
+ */
+uint32_t astrolabe_write_pages(size_t n,
+                               const int32_t *bounds, size_t bounds_len,
+                               const uint8_t *table, size_t table_len,
+                               uint8_t *pages, size_t pages_len);
 
 #ifdef __cplusplus
 }

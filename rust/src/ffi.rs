@@ -362,4 +362,24 @@ unsafe extern "C" {
         to: *mut u8,
         to_len: usize,
     ) -> u32;
+
+    /// Answer: the number of pages.
+    pub fn astrolabe_page_count(
+        n: usize,
+        table: *const u8,
+        table_len: usize,
+        answer: *mut u64,
+        answer_len: usize,
+    ) -> u32;
+
+    /// No answer: the number says all. 4,860 bytes a page.
+    pub fn astrolabe_write_pages(
+        n: usize,
+        bounds: *const i32,
+        bounds_len: usize,
+        table: *const u8,
+        table_len: usize,
+        pages: *mut u8,
+        pages_len: usize,
+    ) -> u32;
 }

@@ -41,6 +41,7 @@ mod answer;
 mod clique;
 pub mod ffi;
 mod model;
+pub mod pages;
 pub mod plan;
 mod refusal;
 mod ties;

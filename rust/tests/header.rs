@@ -57,7 +57,7 @@ fn the_header_and_the_rust_declarations_agree() {
     let mut rust = declarations(FFI, "pub fn astrolabe_", ") -> u32;", str::to_string);
     c.sort();
     rust.sort();
-    assert_eq!(c.len(), 24);
+    assert_eq!(c.len(), 26);
     assert_eq!(c, rust);
 }
 
@@ -95,6 +95,7 @@ fn the_header_has_the_limits_and_numbers_of_the_wrapper() {
     assert_eq!(defined("MAX_PLANNED_RECORDS"), astrolabe::plan::MAX_RECORDS.to_string());
     assert_eq!(defined("MAX_BUDGET"), astrolabe::MAX_BUDGET.to_string());
     assert_eq!((defined("NO_LIMIT"), astrolabe::NO_LIMIT), ("UINT64_MAX", u64::MAX));
+    assert_eq!(defined("PAGE_LEN"), astrolabe::pages::PAGE.to_string());
     assert_eq!(defined("REFUSED_BUDGET"), Refusal::BudgetOutOfRange.check().to_string());
     assert_eq!(defined("REFUSED_ROW_KIND"), Refusal::RowKind.check().to_string());
     assert_eq!(defined("REFUSED_EQUALITY_ROW"), Refusal::EqualityRow.check().to_string());

@@ -105,7 +105,7 @@ fn call(model: &mut Model, ties: &mut Ties, operation: Operation, list: &[Call])
             [width, budget, told.passes]
         }),
         Operation::Cliques => said(model.cliques(), |cliques| [cliques.len() as u64]),
-        _ => unreachable!("{operation:?}: books have their own tests"),
+        _ => unreachable!("{operation:?}: books and pages have their own tests"),
     }
 }
 
@@ -340,6 +340,26 @@ fn lengths_are_those_of_the_buffers() {
         };
         assert_eq!(plan::lengths(&book[book.len() - 16..]), Ok(lengths));
     }
+}
+
+#[test]
+fn pages_are_those_of_the_reference() {
+    let n = 128;
+    let mut model = Model::new([-32_768, -28_672].repeat(n), vec![], vec![]).unwrap();
+    assert_eq!(model.page_count(), Ok(3)); // 128 lines, 59 to a page
+    let pages = reference::pages::write(n, model.bounds(), model.table());
+    assert_eq!(model.pages(), Ok(pages));
+    model.bounds_mut().fill(0);
+    model.set_bounds(127, 0, 4_097);
+    assert_eq!(model.pages(), Err(Refusal::VariableTooWide));
+    // x + y + z ≤ 1: what probing finds is on the page.
+    let mut model = Model::new([0, 1].repeat(3), vec![1, 1, 1], vec![1]).unwrap();
+    model.rounds(8).unwrap();
+    let text = String::from_utf8(model.pages().unwrap()).unwrap();
+    let lines: Vec<&str> = text.lines().map(str::trim_end).collect();
+    assert_eq!(lines[1], "     0       0       1 -1    -2");
+    assert_eq!(lines[3], "     2       0       1 -0    -1");
+    assert_eq!((text.len(), lines.len()), (astrolabe::pages::PAGE, 60));
 }
 
 #[test]

@@ -1,3 +1,4 @@
 pub mod Exports
 pub mod CliqueExports
 pub mod SparseExports
+pub mod PageExports

@@ -5,6 +5,7 @@ pub mod allocations;
 pub mod books;
 pub mod calls;
 pub mod clique_rows;
+pub mod pages;
 pub mod plans;
 pub mod sparse_books;
 pub mod tied;

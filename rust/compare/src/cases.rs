@@ -33,6 +33,7 @@ fn single(lent: Lent, operation: Operation) -> Case {
 pub fn case(seed: u64, number: u64) -> Case {
     let mut rng = Rng::for_case(seed, number);
     match number % 10 {
+        0..4 if rng.chance(4) => pages(&mut rng),
         0..4 => session(&mut rng),
         4 => tied(&mut rng),
         5 if number % 20 == 5 => book(&mut rng),
@@ -283,6 +284,38 @@ fn trailer_only(lent: &mut Lent) {
     lent.book.drain(..lent.book.len() - reference::book::TRAILER);
 }
 
+/// The number of pages of a table, or the pages: of a table that a few probes filled, or of one with bytes 1
+/// anywhere, from none to all; about eight literals of a variable, or about a whole page of lines.
+fn pages(rng: &mut Rng) -> Case {
+    let family = rng.pick(&[Family::Tiny, Family::Mixed, Family::Limits, Family::Empty]);
+    let family = if rng.chance(10) { Family::Largest } else { family };
+    let mut lent = models::model(rng, family);
+    if rng.chance(20) {
+        // As many variables as a page has lines for, or one more.
+        lent = models::model(rng, Family::Largest);
+        lent.n = rng.pick(&[59, 60, 118, 119]);
+        lent.bounds.truncate(2 * lent.n);
+        lent.table = vec![0; 4 * lent.n * lent.n];
+        lent.coefs.truncate(lent.n * lent.m);
+    }
+    let n = lent.n;
+    match rng.between(0, 3) {
+        0 => {}
+        1 => lent.table.fill(1),
+        2 => {
+            let k = rng.index(n);
+            let some = rng.pick(&[1, 7, 8, 9, 16, 17, 254, 2 * n]).min(2 * n);
+            lent.table[(2 * k + 1) * 2 * n..][..some].fill(1);
+        }
+        _ => {
+            let chance = rng.pick(&[1, 10, 50]);
+            lent.table.iter_mut().for_each(|byte| *byte = u8::from(rng.chance(chance)));
+        }
+    }
+    damage::pages_room(&mut lent);
+    single(lent, rng.pick(&Operation::ON_PAGES))
+}
+
 /// One call on a model whose variables are about as wide as they may be, alone or with another fault of
 /// its numbers: 6 and 7 come before 23, and 8 after it.
 fn around_the_widest(rng: &mut Rng) -> Case {
@@ -290,14 +323,18 @@ fn around_the_widest(rng: &mut Rng) -> Case {
     let row = rng.index(lent.m) as u32;
     let [on_bounds @ .., _, _, _, read, write] =
         Operation::each(row, 0, rng.pick(&[1, MAX_BUDGET]), 1);
-    let operation = rng.pick(&[&on_bounds[..], &[read, write]].concat());
-    let reads_rows = !matches!(operation, Operation::PlanWidth | Operation::PlanRun);
+    let operation = rng.pick(&[&on_bounds[..], &[read, write, Operation::WritePages]].concat());
+    let reads_rows =
+        !matches!(operation, Operation::PlanWidth | Operation::PlanRun | Operation::WritePages);
     let too_wide = lent.bounds.chunks(2).any(|pair| pair[1] - pair[0] > MAX_WIDTH);
     let fault = rng.pick(&[0, 0, 0, 6, 7, 8]);
     if fault > 0 {
         damage::wrong_number(rng, &mut lent, fault);
     }
-    damage::write_book(&mut lent);
+    match operation {
+        Operation::WritePages => damage::pages_room(&mut lent),
+        _ => damage::write_book(&mut lent),
+    }
     let returns = match fault {
         0 | 8 if too_wide => 23,
         8 if !reads_rows => 0,
@@ -320,7 +357,8 @@ fn damaged(rng: &mut Rng) -> Case {
         }
     };
     let (row, variable, budget) = (rng.index(lent.m) as u32, 0, rng.pick(&[1, MAX_BUDGET]));
-    let mut operation = rng.pick(&Operation::each(row, variable, budget, 1));
+    let all = [&Operation::each(row, variable, budget, 1)[..], &Operation::ON_PAGES].concat();
+    let mut operation = rng.pick(&all);
     if let Operation::Tie { j, .. } = &mut operation {
         *j = rng.index(lent.n) as u32;
     }
@@ -328,6 +366,7 @@ fn damaged(rng: &mut Rng) -> Case {
     lend_list(&mut lent);
     match operation {
         Operation::BookTrailer | Operation::PlanLengths => trailer_only(&mut lent),
+        Operation::WritePages => damage::pages_room(&mut lent),
         _ => damage::write_book(&mut lent),
     }
     let check = rng.pick(damage::checks(operation));

@@ -20,7 +20,7 @@ pub struct Coverage {
     pub most_passes: u64,
     /// The most bounds that one propagation moved.
     pub most_moved: u64,
-    /// Which of [`MOVES`], [`EQUALITIES`], [`UNREST`], [`PLANS`], [`RETIRED`], [`TIES`] and [`CLIQUES`] were met.
+    /// Which of [`MOVES`], [`EQUALITIES`], [`UNREST`], [`PLANS`], [`RETIRED`], [`TIES`], [`CLIQUES`] and [`PAGES`] were met.
     pub met: BTreeSet<&'static str>,
 }
 
@@ -95,6 +95,16 @@ const CLIQUES: [&str; 4] = [
     "several clique rows",
 ];
 
+/// The same of the pages for the floor (02, C-23).
+const PAGES: [&str; 6] = [
+    "pages of the empty box",
+    "pages with a bound of -32,768",
+    "a variable with eight literals",
+    "a variable with nine literals",
+    "a last page without an empty line",
+    "seventy pages",
+];
+
 impl Coverage {
     /// Notes how many points of a small model a tie kept and lost.
     pub fn tied(&mut self, kept: usize, lost: usize) {
@@ -161,6 +171,21 @@ impl Coverage {
         self.met(several, after.answer[0] > 1);
     }
 
+    /// Notes what pages were written.
+    fn note_pages(&mut self, before: &Lent, pages: &[u8]) {
+        let [empty, lowest, eight, nine, full, most] = PAGES;
+        let n = before.n;
+        let literals = |k: usize| {
+            before.table[(2 * k + 1) * 2 * n..][..2 * n].iter().filter(|&&byte| byte == 1).count()
+        };
+        self.met(empty, bounds::is_empty(&before.bounds));
+        self.met(lowest, before.bounds.contains(&-32_768));
+        self.met(eight, (0..n).any(|k| literals(k) == 8));
+        self.met(nine, (0..n).any(|k| literals(k) == 9));
+        self.met(full, !pages[pages.len() - 81..].trim_ascii().is_empty());
+        self.met(most, pages.len() == 70 * reference::pages::PAGE);
+    }
+
     /// Notes how many passes a list made that was lent `before`, and their limit.
     pub fn planned(&mut self, before: &Lent, made: u64, limit: u64) {
         let [reached, below, on_empty, _] = PLANS;
@@ -187,7 +212,9 @@ impl Coverage {
             | Operation::Cliques
             | Operation::BookTrailer
             | Operation::BookRead
-            | Operation::BookWrite => 0,
+            | Operation::BookWrite
+            | Operation::PageCount
+            | Operation::WritePages => 0,
             _ if Operation::SPARSE.contains(&operation) => 0,
             _ => answer[0],
         };
@@ -198,6 +225,9 @@ impl Coverage {
         }
         if let Operation::Tie { k, j } = operation {
             self.note_tie(before, after, k as usize, j as usize);
+        }
+        if operation == Operation::WritePages {
+            self.note_pages(before, &after.book);
         }
         let [several, again, before_infeasible, side_before_infeasible] = MOVES;
         match answer[..] {
@@ -305,7 +335,7 @@ impl Coverage {
     }
 
     /// What a long enough run must have met and has not: each check of each call, each case of each
-    /// answer, and each of [`MOVES`], [`EQUALITIES`], [`UNREST`], [`PLANS`], [`RETIRED`], [`TIES`] and [`CLIQUES`].
+    /// answer, and each of [`MOVES`], [`EQUALITIES`], [`UNREST`], [`PLANS`], [`RETIRED`], [`TIES`], [`CLIQUES`] and [`PAGES`].
     pub fn missing(&self) -> Vec<String> {
         let (row, variable, budget, limit) = (0, 0, 0, 0);
         let tie = Operation::Tie { k: variable, j: variable };
@@ -326,10 +356,12 @@ impl Coverage {
             (Operation::BookTrailer, 1),
             (Operation::BookRead, 1),
             (Operation::BookWrite, 1),
+            (Operation::PageCount, 1),
+            (Operation::WritePages, 1),
         ];
         let all = all.into_iter().chain(Operation::SPARSE.map(|operation| (operation, 1)));
         let mut missing: Vec<String> =
-            [&MOVES[..], &EQUALITIES, &UNREST, &PLANS, &RETIRED, &TIES, &CLIQUES]
+            [&MOVES[..], &EQUALITIES, &UNREST, &PLANS, &RETIRED, &TIES, &CLIQUES, &PAGES]
                 .concat()
                 .into_iter()
                 .filter(|what| !self.met.contains(what))

@@ -21,7 +21,7 @@ pub fn checks(operation: Operation) -> &'static [u32] {
         Operation::Run | Operation::Rounds { .. } => &[3, 5, 6, 7, 23, 8, 9, 16, 10],
         Operation::Tie { .. } => &[3, 5, 6, 7, 23, 8, 9, 16, 10, 21, 13],
         Operation::PlanWidth | Operation::PlanRun => &[3, 5, 6, 7, 23],
-        Operation::Cliques => &[3, 5, 10],
+        Operation::Cliques | Operation::PageCount => &[3, 5, 10],
         Operation::BookTrailer | Operation::PlanLengths | Operation::SparseTrailer => &[1, 5, 3, 4],
         Operation::BookRead | Operation::BookToSparseLength | Operation::BookToSparse => {
             &[1, 2, 3, 4, 5, 6, 7, 23, 8, 9]
@@ -29,6 +29,7 @@ pub fn checks(operation: Operation) -> &'static [u32] {
         Operation::SparseRead => &[1, 2, 3, 4, 19, 20, 5, 6, 7, 23, 8, 9, 16],
         Operation::SparseWrite | Operation::SparseLength => &[3, 5, 6, 7, 23, 8, 9, 16],
         Operation::SparseToBook => &[1, 2, 3, 4, 19, 20, 5, 6, 7, 23, 8, 9, 16, 17],
+        Operation::WritePages => &[3, 5, 6, 7, 23, 10],
     }
 }
 
@@ -72,7 +73,12 @@ fn damage_one(rng: &mut Rng, operation: &mut Operation, lent: &mut Lent, check: 
             let at = rng.pick(&places);
             lent.book[at + 2..at + 6].fill(0);
         }
-        10 => *any(rng, &mut lent.table) = rng.pick(&[2, 3, 128, 255]),
+        10 => {
+            *any(rng, &mut lent.table) = rng.pick(&[2, 3, 128, 255]);
+            if *operation == Operation::WritePages {
+                pages_room(lent); // a byte that is no longer 1 counts no more
+            }
+        }
         21 => {
             let most = 2 * lent.n as u16;
             *any(rng, &mut lent.ties) = rng.pick(&[most + 1, most + 1, most + 2, u16::MAX]);
@@ -144,6 +150,12 @@ fn wrong_column(rng: &mut Rng, lent: &mut Lent) {
     lent.book[at..at + 2].copy_from_slice(&wrong.to_le_bytes());
 }
 
+/// A buffer for the pages of the table as it stands, filled with what no page has.
+pub fn pages_room(lent: &mut Lent) {
+    let pages = reference::pages::count(lent.n, &lent.table);
+    lent.book = vec![0x55; reference::pages::PAGE * pages];
+}
+
 /// A place of the buffer: often the first or the last.
 fn any<'a, T>(rng: &mut Rng, buffer: &'a mut [T]) -> &'a mut T {
     let last = buffer.len() - 1;
@@ -186,8 +198,14 @@ fn reads_bytes(operation: Operation) -> bool {
 
 /// Check 3: n is 0 or above 128, or m is above 120. Sometimes the lengths are right for the wrong size.
 fn wrong_size(rng: &mut Rng, operation: Operation, lent: &mut Lent) {
-    let only_n =
-        matches!(operation, Operation::PlanWidth | Operation::PlanRun | Operation::Cliques);
+    let only_n = matches!(
+        operation,
+        Operation::PlanWidth
+            | Operation::PlanRun
+            | Operation::Cliques
+            | Operation::PageCount
+            | Operation::WritePages
+    );
     let n_is_wrong = only_n || rng.chance(50);
     match operation {
         _ if reads_bytes(operation) && n_is_wrong => {
@@ -259,6 +277,8 @@ fn wrong_length(rng: &mut Rng, operation: Operation, lent: &mut Lent) {
         _ if operation.reads_trailer() => &["answer", "trailer"],
         Operation::BookWrite | Operation::SparseWrite => &["book"],
         Operation::BookToSparse | Operation::SparseToBook => &["to"],
+        Operation::PageCount => &["answer", "table"],
+        Operation::WritePages => &["bounds", "table", "pages"],
         _ => &["answer"],
     };
     let buffers = match operation {
@@ -267,6 +287,7 @@ fn wrong_length(rng: &mut Rng, operation: Operation, lent: &mut Lent) {
             others.to_vec()
         }
         _ if operation.reads_trailer() => others.to_vec(),
+        Operation::PageCount | Operation::WritePages => others.to_vec(),
         _ => [&model, others].concat(),
     };
     match rng.pick(&buffers) {
@@ -281,6 +302,8 @@ fn wrong_length(rng: &mut Rng, operation: Operation, lent: &mut Lent) {
         "answer" if rng.chance(20) => lent.answer.truncate(6), // its length before C-11
         "answer" => resize(rng, &mut lent.answer),
         "book" => resize(rng, &mut lent.book),
+        "pages" if rng.chance(50) => lent.book.resize(lent.book.len() + reference::pages::PAGE, 0),
+        "pages" => resize(rng, &mut lent.book),
         "calls" if operation == Operation::PlanRun && rng.chance(5) => {
             lent.calls = vec![2; 4 * (reference::plan::MAX_RECORDS + 1)];
         }

@@ -16,7 +16,7 @@ pub struct Lent {
     pub ties: Vec<u16>,
     /// Four numbers a record.
     pub calls: Vec<u32>,
-    /// A book, or the bytes of a trailer.
+    /// A book, the bytes of a trailer, or pages.
     pub book: Vec<u8>,
     /// A list of 2n rows for the clique rows: their coefficients and right sides. Only that call is lent it.
     pub clique_coefs: Vec<i32>,
@@ -108,6 +108,8 @@ pub enum Operation {
     BookToSparseLength,
     BookToSparse,
     SparseToBook,
+    PageCount,
+    WritePages,
 }
 
 impl Operation {
@@ -162,6 +164,9 @@ impl Operation {
         ]
     }
 
+    /// The two on pages; they are lent the table, and `book` for the pages.
+    pub const ON_PAGES: [Operation; 2] = [Operation::PageCount, Operation::WritePages];
+
     /// The call's name in the C interface, without `astrolabe_`.
     pub fn name(self) -> &'static str {
         match self {
@@ -188,6 +193,8 @@ impl Operation {
             Operation::BookToSparseLength => "book_to_sparse_length",
             Operation::BookToSparse => "book_to_sparse",
             Operation::SparseToBook => "sparse_to_book",
+            Operation::PageCount => "page_count",
+            Operation::WritePages => "write_pages",
         }
     }
 }
@@ -247,6 +254,8 @@ impl Backend for Reference {
             Operation::BookToSparseLength => calls::book_to_sparse_length(book, answer),
             Operation::BookToSparse => calls::book_to_sparse(book, to),
             Operation::SparseToBook => calls::sparse_to_book(book, to),
+            Operation::PageCount => calls::page_count(n, table, answer),
+            Operation::WritePages => calls::write_pages(n, bounds, table, book),
         }
     }
 }

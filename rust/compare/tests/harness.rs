@@ -963,3 +963,36 @@ fn catches_a_conversion_that_writes_before_it_refuses() {
         said
     });
 }
+
+#[test]
+fn catches_pages_written_otherwise() {
+    // The last page not filled.
+    is_caught(|operation, _, said, loan| {
+        if operation == Operation::WritePages && said == 0 {
+            let last = loan.book.len() - 81;
+            loan.book[last..].fill(0);
+        }
+        said
+    });
+    // The page numbers from 0.
+    is_caught(|operation, _, said, loan| {
+        if operation == Operation::WritePages && said == 0 {
+            loan.book[79] -= 1;
+        }
+        said
+    });
+    // A literal's sign.
+    is_caught(|operation, _, said, loan| {
+        if operation == Operation::WritePages && said == 0 {
+            loan.book.iter_mut().filter(|byte| **byte == b'+').for_each(|byte| *byte = b'-');
+        }
+        said
+    });
+    // A page too many, and one that is counted by a byte that is not 1.
+    is_caught(|operation, _, said, loan| {
+        if operation == Operation::PageCount && said == 0 {
+            loan.answer[0] += 1;
+        }
+        said
+    });
+}

@@ -8,6 +8,7 @@
 use crate::checks::{self, Check};
 use crate::cliques as clique_rows;
 use crate::list;
+use crate::pages;
 use crate::plan;
 use crate::probing::{self, Rest, Verdict};
 use crate::propagation::{self, Ending};
@@ -361,6 +362,33 @@ pub fn cliques(
         checks::table(table)?;
         Ok(places([clique_rows::write(n, table, clique_coefs, clique_rhs) as u64]))
     })
+}
+
+/// The number of pages of a table (02, C-23). Checks 3, 5 and 10.
+pub fn page_count(n: usize, table: &[u8], answer: &mut [u64]) -> u32 {
+    reply(answer, |places_lent| {
+        checks::size(n, 0)?;
+        checks::lengths(&[(table.len(), 4 * n * n), (places_lent, ANSWER)])?;
+        checks::table(table)?;
+        Ok(places([pages::count(n, table) as u64]))
+    })
+}
+
+/// Writes the pages of a box and a table (02, C-23). Checks 3, 5, 6, 7, 23 and 10: the number of pages, which
+/// gives the length, is that of the bytes that are 1, and other bytes are left to 10.
+pub fn write_pages(n: usize, bounds: &[i32], table: &[u8], lent: &mut [u8]) -> u32 {
+    let check = || -> Check {
+        checks::size(n, 0)?;
+        checks::lengths(&[(bounds.len(), 2 * n), (table.len(), 4 * n * n)])?;
+        checks::lengths(&[(lent.len(), pages::PAGE * pages::count(n, table))])?;
+        checks::numbers(bounds, &[], &[])?;
+        checks::table(table)
+    };
+    if let Err(check) = check() {
+        return check;
+    }
+    lent.copy_from_slice(&pages::write(n, bounds, table));
+    0
 }
 
 /// Reads a book into lent buffers. 02, C-14: "First-edition books have kind 0 throughout."

@@ -24,6 +24,8 @@
 //! | [`calls`] | the calls as the C interface has them: a refusal number and twelve places of answer |
 //! | [`allocations`] | many proposed allocations, one reading (02, C-21) |
 //! | [`calls`] | the fourteen calls as the C interface has them: a refusal number and twelve places of answer |
+//! | [`pages`] | the pages for the floor (02, C-23) |
+//! | [`calls`] | the calls as the C interface has them: a refusal number and twelve places of answer |
 //! | [`report`] | what `reduce` prints |
 //! | [`convert`] | what `convert` writes (02, C-18) |
 
@@ -35,6 +37,7 @@ pub mod checks;
 pub mod cliques;
 pub mod convert;
 pub mod list;
+pub mod pages;
 pub mod plan;
 pub mod probing;
 pub mod propagation;

@@ -93,6 +93,12 @@ impl Backend for Native {
                 Operation::PlanLengths => {
                     ffi::astrolabe_plan_lengths(book, book_len, answer, answer_len)
                 }
+                Operation::PageCount => {
+                    ffi::astrolabe_page_count(n, table, table_len, answer, answer_len)
+                }
+                Operation::WritePages => ffi::astrolabe_write_pages(
+                    n, bounds, bounds_len, table, table_len, book, book_len,
+                ),
                 Operation::BookTrailer => {
                     ffi::astrolabe_book_trailer(book, book_len, answer, answer_len)
                 }
