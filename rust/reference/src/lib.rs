@@ -19,11 +19,7 @@
 //! | [`plan`] | size and passes told beforehand (02, C-17) |
 //! | [`ties`] | tied variables (02, C-19) |
 //! | [`cliques`] | clique rows (02, C-12; 000, 2.2.2) |
-//! | [`calls`] | the fifteen calls as the C interface has them: a refusal number and twelve places of answer |
-//! | [`calls`] | the twenty-one calls as the C interface has them: a refusal number and twelve places of answer |
-//! | [`calls`] | the calls as the C interface has them: a refusal number and twelve places of answer |
 //! | [`allocations`] | many proposed allocations, one reading (02, C-21) |
-//! | [`calls`] | the fourteen calls as the C interface has them: a refusal number and twelve places of answer |
 //! | [`pages`] | the pages for the floor (02, C-23) |
 //! | [`calls`] | the calls as the C interface has them: a refusal number and twelve places of answer |
 //! | [`report`] | what `reduce` prints |
