@@ -1,0 +1,1 @@
+// A row packed in words.
