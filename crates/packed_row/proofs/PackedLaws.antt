@@ -1,6 +1,7 @@
 -- What words say, index by index: where a sweep comes to, the coefficients there, and the zeros that it passes over.
 use Prim.Native.Nat.{_+_, _-_, _/_, _%_, _<_, _≤_, min, suc, zero, ℕ}
-use lib.Dec.{T, leb}
+use lib.Arith.{lt→nleb}
+use lib.Dec.{le→leb, leb}
 use lib.IntN.{_-ℤ_, pos, ℤ}
 use lib.ListN.{getD, length}
 use mathlib.Core.List.{List, [], _∷_}
@@ -8,7 +9,7 @@ use mathlib.Core.Path.{_∙_, _≡_, ap, refl, sym}
 use native.Mathlib.Numerals.{add-one}
 use native.Mathlib.Omega.{arith}
 use Rattle.integer.proofs.Parts.{zarith, zify}
-use Rattle.integer.proofs.Tests.{cond-ind, leb-test}
+use Rattle.integer.proofs.Tests.{T→false, T→true, cond-ind, leb-test}
 use Rattle.model.specs.Box.{at}
 use Rattle.model.specs.Limits.{maxCoef, maxRhs, minCoef, minRhs}
 use Rattle.model.specs.Valid.{Between, ValidBox}
@@ -23,6 +24,23 @@ unfolding coefOf
 coef-in w = cond-ind (leb (w / 128) 2_000_000) (pos (w / 128) -ℤ pos 1_000_000) (pos 0) (Between minCoef maxCoef)
     (λ t. let h = leb-test (w / 128) 2_000_000 .0 t in record { above = simp zify (omega zarith); below = simp zify (omega zarith) })
     (λ _. record { above = omega zarith; below = omega zarith })
+
+-- what the words hold, as the machine reads them
+pub coef-outside : (w : ℕ) → 2_000_000 < w / 128 → coefOf w ≡ pos 0
+unfolding coefOf
+coef-outside w h = rw (T→false (leb (w / 128) 2_000_000) (lt→nleb (w / 128) 2_000_000 h))
+
+pub coef-inside : (w : ℕ) → w / 128 ≤ 2_000_000 → coefOf w ≡ pos (w / 128) -ℤ pos 1_000_000
+unfolding coefOf
+coef-inside w h = rw (T→true (leb (w / 128) 2_000_000) (le→leb (w / 128) 2_000_000 h))
+
+pub rhs-outside : (w : ℕ) → 2_000_000_000 < w / 2 → rhsOf w ≡ pos 0
+unfolding rhsOf
+rhs-outside w h = rw (T→false (leb (w / 2) 2_000_000_000) (lt→nleb (w / 2) 2_000_000_000 h))
+
+pub rhs-inside : (w : ℕ) → w / 2 ≤ 2_000_000_000 → rhsOf w ≡ pos (w / 2) -ℤ pos 1_000_000_000
+unfolding rhsOf
+rhs-inside w h = rw (T→true (leb (w / 2) 2_000_000_000) (le→leb (w / 2) 2_000_000_000 h))
 
 pub rhs-in : (w : ℕ) → Between minRhs maxRhs (rhsOf w)
 unfolding rhsOf
