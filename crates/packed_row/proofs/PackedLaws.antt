@@ -15,11 +15,11 @@ use Rattle.model.specs.Limits.{maxCoef, maxRhs, minCoef, minRhs}
 use Rattle.model.specs.Valid.{Between, ValidBox}
 use Rattle.row.specs.ValidRow.{ValidCoefs, ValidRow}
 use Rattle.sweep.specs.Steps.{Steps}
-use Rattle.packed_row.specs.Words.{coefOf, coefsFrom, rhsOf}
+use Rattle.packed_row.specs.Words.{Readable, coefOf, coefsFrom, rhsOf}
 
 -- ---- the row is valid
 
-coef-in : (w : ℕ) → Between minCoef maxCoef (coefOf w)
+pub coef-in : (w : ℕ) → Between minCoef maxCoef (coefOf w)
 unfolding coefOf
 coef-in w = cond-ind (leb (w / 128) 2_000_000) (pos (w / 128) -ℤ pos 1_000_000) (pos 0) (Between minCoef maxCoef)
     (λ t. let h = leb-test (w / 128) 2_000_000 .0 t in record { above = simp zify (omega zarith); below = simp zify (omega zarith) })
@@ -67,6 +67,9 @@ coefs-in (w ∷ ws) (suc k) (suc j) = coefs-in ws k j
 
 pub packed-valid : {n : ℕ} (ws : List ℕ) {B : List ℤ} → 0 < n → n ≤ 128 → length ws ≡ n → ValidBox n B → ValidCoefs n (coefsFrom ws 0) B
 packed-valid ws some few len v = record { some = some; few = few; len = length-coefs ws 0 ∙ len; range = coefs-in ws 0; box = v }
+
+pub readable-row : (ws : List ℕ) {B : List ℤ} (side : ℕ) → Readable ws B → ValidRow (length ws) (coefsFrom ws 0) (rhsOf side) B
+readable-row ws side v = record { coefs = packed-valid ws (v .some) (v .few) refl (v .box); rhs = rhs-in side }
 
 -- ---- the steps of a sweep
 

@@ -9,6 +9,7 @@ use row::propagation::both;
 use row::propagation::tighten_bounds_at;
 ghost use mathlib.Core.Path.{_≡_};
 ghost use lib.ListN.{length};
+ghost use Rattle.model.specs.Rows.{rowWith};
 ghost use Rattle.row.specs.Activity.{minActivity, widestTerm};
 ghost use Rattle.row.specs.Answers.{propagatedRowOf};
 ghost use Rattle.row.specs.Kinds.{propagateRowOf, rowMovesOf, signed};
@@ -104,6 +105,25 @@ fn propagate_form_packed(words: &[u32], sign: i32, b: i32, bounds: &mut [i32]) -
     RowPropagation::Tightened(tighten_bounds_packed(words, sign, rhs, least, bounds))
 }
 
+// Propagates the row with the given right side: an = row (kind 1) by its ≤ form and then, on the box that it left, by its
+// negated form.
+fn propagate_forms(words: &[u32], b: i32, kind: u32, bounds: &mut [i32]) -> RowPropagation
+    requires { ⌜ ValidRow (length (now words)) (coefsFrom (now words) 0) b (now bounds) ⌝ }
+    ensures { λ r.
+        let W = now (words .entry) in
+        ⌜ propagatedRowOf r (now (bounds .exit))
+        ≡ propagateRowOf (length W) (rowWith (coefsFrom W 0) b kind) (now (bounds .entry)) ⌝ }
+{
+    let first = propagate_form_packed(words, 1, b, bounds);
+    if kind != 1 {
+        return first;
+    }
+    let RowPropagation::Infeasible = first else {
+        return both(first, propagate_form_packed(words, -1, -b, bounds));
+    };
+    first
+}
+
 // The right side in a word beside its kind; one that is out of range is 0.
 fn right_side(side: u32) -> i32
     ensures { λ r. ⌜ r ≡ rhsOf side ⌝ }
@@ -115,8 +135,7 @@ fn right_side(side: u32) -> i32
     (b as i32) - 1_000_000_000
 }
 
-// Propagates the row that the words and the word of its right side say: an = row by its ≤ form and then, on the box
-// that it left, by its negated form.
+// Propagates the row that the words and the word of its right side say.
 pub fn propagate_row_packed(words: &[u32], side: u32, bounds: &mut [i32]) -> RowPropagation
     requires { ⌜ Readable (now words) (now bounds) ⌝ }
     ensures { λ r.
@@ -124,15 +143,7 @@ pub fn propagate_row_packed(words: &[u32], side: u32, bounds: &mut [i32]) -> Row
         ⌜ propagatedRowOf r (now (bounds .exit))
         ≡ propagateRowOf (length W) (rowOfWords W side) (now (bounds .entry)) ⌝ }
 {
-    let b = right_side(side);
-    let first = propagate_form_packed(words, 1, b, bounds);
-    if side % 2 != 1 {
-        return first;
-    }
-    let RowPropagation::Infeasible = first else {
-        return both(first, propagate_form_packed(words, -1, -b, bounds));
-    };
-    first
+    propagate_forms(words, right_side(side), side % 2, bounds)
 }
 
 // Whether propagating the form would answer other than Unchanged; nothing is written.
@@ -150,19 +161,28 @@ fn form_moves_packed(words: &[u32], sign: i32, b: i32, bounds: &[i32]) -> bool
     (b as i64) - r.least < r.widest
 }
 
-// Whether propagating the row would answer other than Unchanged; nothing is written.
+// Whether propagating the row with the given right side would answer other than Unchanged; nothing is written.
+fn forms_move(words: &[u32], b: i32, kind: u32, bounds: &[i32]) -> bool
+    requires { ⌜ ValidRow (length (now words)) (coefsFrom (now words) 0) b (now bounds) ⌝ }
+    ensures { λ r.
+        let W = now (words .entry) in
+        ⌜ r ≡ rowMovesOf (length W) (rowWith (coefsFrom W 0) b kind) (now (bounds .entry)) ⌝ }
+{
+    if form_moves_packed(words, 1, b, bounds) {
+        return true;
+    }
+    if kind != 1 {
+        return false;
+    }
+    form_moves_packed(words, -1, -b, bounds)
+}
+
+// The same of the row that the words and the word of its right side say.
 pub fn row_moves_packed(words: &[u32], side: u32, bounds: &[i32]) -> bool
     requires { ⌜ Readable (now words) (now bounds) ⌝ }
     ensures { λ r.
         let W = now (words .entry) in
         ⌜ r ≡ rowMovesOf (length W) (rowOfWords W side) (now (bounds .entry)) ⌝ }
 {
-    let b = right_side(side);
-    if form_moves_packed(words, 1, b, bounds) {
-        return true;
-    }
-    if side % 2 != 1 {
-        return false;
-    }
-    form_moves_packed(words, -1, -b, bounds)
+    forms_move(words, right_side(side), side % 2, bounds)
 }

@@ -4,10 +4,10 @@ use Prim.Native.Nat.{_*_, _+_, _-_, _%_, _<_, _≤_, min, ℕ}
 use lib.IntN.{_*ℤ_, ℤ}
 use lib.ListN.{getD, length}
 use mathlib.Core.List.{List}
-use mathlib.Core.Path.{_∙_, _≡_, ap, refl, sym}
+use mathlib.Core.Path.{_∙_, _≡_, ap, refl, subst⁻¹, sym}
 use mir.Facts.{toZ-ofZ}
 use mir.Syntax.{w32, w64}
-use mir.Val.{ofZ, toZ}
+use mir.Val.{SFits, ofZ, toZ}
 use native.Mathlib.Omega.{arith}
 use Rattle.integer.specs.Index.{sum as total}
 use Rattle.integer.specs.Order.{maxZ}
@@ -106,10 +106,15 @@ module _ (c : tie.After-coef Inv-loop μ-loop) where
   coef-is = c .coef .ensures ∙ sym (coef-at (W head) 0 (j head) within (head .loop .inv .0))
 
   a-is : toZ w32 (ofZ w32 (toZ w32 (ofZ w32 (s head .args .sign)) *ℤ toZ w32 (ofZ w32 (c .coef .result)))) ≡ at (A head) (j head)
-  a-is = rw coef-is (signed-bits (s head .pre .1) (C head) (j head) (coefs-small (s head .pre .0) (j head)))
+  a-is = ap (λ (z : ℤ). toZ w32 (ofZ w32 (toZ w32 (ofZ w32 (s head .args .sign)) *ℤ toZ w32 (ofZ w32 z)))) coef-is
+      ∙ signed-bits (s head .pre .1) (C head) (j head) (coefs-small (s head .pre .0) (j head))
+
+  a-fits : SFits w32 (toZ w32 (ofZ w32 (s head .args .sign)) *ℤ toZ w32 (ofZ w32 (c .coef .result)))
+  a-fits = subst⁻¹ (λ (z : ℤ). SFits w32 (toZ w32 (ofZ w32 (s head .args .sign)) *ℤ toZ w32 (ofZ w32 z))) coef-is
+      (signed-fits (s head .pre .1) (C head) (j head) (coefs-small (s head .pre .0) (j head)))
 
 mul-a : tie.Need-mul-a Inv-loop μ-loop
-mul-a c = let h = head c in rw (coef-is c) (signed-fits (s h .pre .1) (C h) (j h) (coefs-small (s h .pre .0) (j h)))
+mul-a c = a-fits c
 
 mul-low : tie.Need-mul-low Inv-loop μ-loop
 mul-low c = omega arith

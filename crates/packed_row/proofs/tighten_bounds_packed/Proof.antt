@@ -5,10 +5,10 @@ use lib.IntN.{_*ℤ_, ℤ}
 use lib.ListN.{getD, length}
 use mathlib.Core.List.{List}
 use mathlib.Core.Logic.{inl, inr, ⊎-elim}
-use mathlib.Core.Path.{_∙_, _≡_, ap, ap₂, refl, sym}
+use mathlib.Core.Path.{_∙_, _≡_, ap, ap₂, refl, subst⁻¹, sym}
 use mir.Facts.{toZ-ofZ}
 use mir.Syntax.{w32, w64}
-use mir.Val.{ofZ, toZ}
+use mir.Val.{SFits, ofZ, toZ}
 use native.Mathlib.Omega.{arith}
 use Rattle.model.specs.Box.{at, lower, upper}
 use Rattle.model.proofs.BoxLoops.{writeTo}
@@ -121,16 +121,29 @@ module _ (c : tie.After-coef Inv-loop μ-loop) where
   coef-is = c .coef .ensures ∙ sym (coef-at (W head) 0 (j head) within (head .loop .inv .0))
 
   a-is : toZ w32 (ofZ w32 (toZ w32 (ofZ w32 (s head .args .sign)) *ℤ toZ w32 (ofZ w32 (c .coef .result)))) ≡ at (A head) (j head)
-  a-is = rw coef-is (signed-bits (s head .pre .1) (C head) (j head) (s head .pre .0 .coefs (j head)))
+  a-is = ap (λ (z : ℤ). toZ w32 (ofZ w32 (toZ w32 (ofZ w32 (s head .args .sign)) *ℤ toZ w32 (ofZ w32 z)))) coef-is
+      ∙ signed-bits (s head .pre .1) (C head) (j head) (s head .pre .0 .coefs (j head))
+
+  a-fits : SFits w32 (toZ w32 (ofZ w32 (s head .args .sign)) *ℤ toZ w32 (ofZ w32 (c .coef .result)))
+  a-fits = subst⁻¹ (λ (z : ℤ). SFits w32 (toZ w32 (ofZ w32 (s head .args .sign)) *ℤ toZ w32 (ofZ w32 z))) coef-is
+      (signed-fits (s head .pre .1) (C head) (j head) (s head .pre .0 .coefs (j head)))
 
 mul-tighten-bounds-at : tie.Need-mul-tighten-bounds-at Inv-loop μ-loop
-mul-tighten-bounds-at c = let h = head c in rw (coef-is c) (signed-fits (s h .pre .1) (C h) (j h) (s h .pre .0 .coefs (j h)))
+mul-tighten-bounds-at c = a-fits c
 
 tighten-bounds-at-requires : tie.Need-tighten-bounds-at-requires Inv-loop μ-loop
-tighten-bounds-at-requires c κs = ?
+tighten-bounds-at-requires c κs =
+    let f = c .before in
+    let h = head f in
+    let k = within f in
+    (rw (a-is f, b-is h, least-is h, l-is h k, u-is h k) (implies-at (A h) (s h .args .b) (s h .args .least) (B h) (v h) (j h)),
+    omega (arith, s h .pre .0 .boxLen, h .loop .inv .1))
 
 add-moved : tie.Need-add-moved Inv-loop μ-loop
-add-moved c = ?
+add-moved c =
+    let f = c .before .before .before .before in
+    let h = head f in
+    omega (arith, s h .pre .0 .few, moved-is h (within f), moved-le (j h) (B h) (impliedBox (length (W h)) (A h) (b h) (L h) (B h)))
 
 cast-j : tie.Need-cast-j Inv-loop μ-loop
 cast-j c = omega arith
@@ -139,13 +152,27 @@ add-j : tie.Need-add-j Inv-loop μ-loop
 add-j c = omega arith
 
 add-j-2 : tie.Need-add-j-2 Inv-loop μ-loop
-add-j-2 c = ?
+add-j-2 c = omega (arith, s (head (c .before .before .before .before)) .pre .0 .few)
 
 loop-less : tie.Need-loop-less Inv-loop μ-loop
 loop-less c = omega arith
 
 loop-again : tie.Need-loop-again Inv-loop μ-loop
-loop-again c = ?
+loop-again c =
+    let f = c .before .before .before .before in
+    let h = head f in
+    let call = c .before .before .tighten-bounds-at in
+    let k = within f in
+    let e = there h k in (
+      skip-next (W h) 0 (j h) _ k (h .loop .inv .0) (omega arith),
+      call .kept .1 .1 .1 .0 ∙ h .loop .inv .1,
+      tighten-more (A h) (b h) (L h) (B h) (j h) (a-is f) (box-is h k) (call .ensures .0) ∙ step-box (steps h) k (b h) (L h) (B h)
+          ∙ ap (tightenTo (A h) (b h) (L h) (B h)) e,
+      moved-more (A h) (b h) (L h) (B h) (length (W h)) (j h) k (a-is f) (box-is h k) (moved-is h k) (call .ensures .1)
+          (⊎-elim (λ w. inl (w .0 .taken, w .1)) (λ w. inr (w .0 .left, w .1)) (c .if1 .came))
+          ∙ step-moved (steps h) k (b h) (L h) (B h)
+          ∙ ap (movedTo (A h) (b h) (L h) (B h) (length (W h))) e,
+    )
 
 same-length : tie.Need-same-length Inv-loop μ-loop
 same-length c = c .before .loop .inv .1
