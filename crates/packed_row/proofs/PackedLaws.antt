@@ -57,7 +57,7 @@ length-coefs (w ∷ ws) (suc k) = ap suc (length-coefs ws k)
 zero-in : Between minCoef maxCoef (pos 0)
 zero-in = record { above = omega zarith; below = omega zarith }
 
-coefs-in : (ws : List ℕ) (k j : ℕ) → Between minCoef maxCoef (at (coefsFrom ws k) j)
+pub coefs-in : (ws : List ℕ) (k j : ℕ) → Between minCoef maxCoef (at (coefsFrom ws k) j)
 unfolding coefsFrom
 coefs-in [] k j = zero-in
 coefs-in (w ∷ ws) zero zero = coef-in w

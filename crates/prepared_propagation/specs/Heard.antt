@@ -1,0 +1,20 @@
+-- What the sets of a workspace say of a row, of two boxes: they are those of the rows that hear of a variable only where the workspace is
+-- prepared, so nothing here asks for that.
+use Prim.Native.Nat.{ℕ}
+use lib.IntN.{ℤ}
+use lib.Signed.{_≤ℤ_}
+use mathlib.Core.List.{List}
+use mathlib.Core.Path.{_≡_}
+use Rattle.model.specs.Box.{lower, upper}
+use Rattle.row_set.specs.Bits.{bitAt}
+use Rattle.workspace.specs.Layout.{fallOf, riseOf}
+
+-- row r is not among those that hear a bound rise from old to new, or fall
+pub record Deaf (rise fall : List ℕ) (r : ℕ) (old new : ℤ) : Type 0 where
+  pub up : bitAt rise r ≡ 1 → new ≤ℤ old
+  pub down : bitAt fall r ≡ 1 → old ≤ℤ new
+
+-- both bounds of variable j
+pub record Missed (W : List ℕ) (r : ℕ) (P Q : List ℤ) (j : ℕ) : Type 0 where
+  pub low : Deaf (riseOf W j) (fallOf W j) r (lower P j) (lower Q j)
+  pub high : Deaf (riseOf W j) (fallOf W j) r (upper P j) (upper Q j)
