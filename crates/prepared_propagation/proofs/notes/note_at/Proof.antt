@@ -1,9 +1,17 @@
+-- `notes::note_at`: both bounds are noted, one after the other, and written. Assumes nothing.
+use Prim.Native.Nat.{_*_, _+_}
 use borrow.Author.Needs.{needs}
+use lib.IntN.{ℤ}
+use lib.ListN.{set}
+use mathlib.Core.Path.{_≡_, ap₂}
+use mir.Facts.{toZ-ofZ}
+use mir.Syntax.{w32}
+use mir.Val.{ofZ, toZ}
+use Rattle.model.specs.Box.{lower, upper, withBounds}
+use Rattle.prepared_propagation.specs.Heard.{Missed}
+use Rattle.prepared_propagation.proofs.HeardLaws.{deaf-read}
 use Rattle.prepared_propagation.proofs.notes.note_at.Statement.{statement}
 use Rattle.prepared_propagation.proofs.notes.note_at.Tie as tie
-use Rattle.prepared_propagation.proofs.notes.note_at.Reads as reads
-use Rattle.prepared_propagation.proofs.notes.note_at.Lts as lts
-use Rattle.prepared_propagation.proofs.notes.note_bound.Reads as note-bound-reads
 
 mul-low : tie.Need-mul-low
 mul-low c = search needs
@@ -26,29 +34,29 @@ mul-high-2 c = search needs
 shared-slice-copy-out-high : tie.Need-shared-slice-copy-out-high
 shared-slice-copy-out-high c = search needs
 
-mul-note-bound : tie.Need-mul-note-bound
-mul-note-bound c = search needs
+mul-old-low : tie.Need-mul-old-low
+mul-old-low c = search needs
 
-mul-note-bound-2 : tie.Need-mul-note-bound-2
-mul-note-bound-2 c = search needs
+mul-old-low-2 : tie.Need-mul-old-low-2
+mul-old-low-2 c = search needs
 
-slice-copy-out-note-bound : tie.Need-slice-copy-out-note-bound
-slice-copy-out-note-bound c = search needs
+slice-copy-out-old-low : tie.Need-slice-copy-out-old-low
+slice-copy-out-old-low c = search needs
+
+mul-old-high : tie.Need-mul-old-high
+mul-old-high c = search needs
+
+add-old-high : tie.Need-add-old-high
+add-old-high c = search needs
+
+mul-old-high-2 : tie.Need-mul-old-high-2
+mul-old-high-2 c = search needs
+
+slice-copy-out-old-high : tie.Need-slice-copy-out-old-high
+slice-copy-out-old-high c = search needs
 
 note-bound-requires : tie.Need-note-bound-requires
 note-bound-requires c κs = search needs
-
-mul-note-bound-3 : tie.Need-mul-note-bound-3
-mul-note-bound-3 c = search needs
-
-add-note-bound : tie.Need-add-note-bound
-add-note-bound c = search needs
-
-mul-note-bound-4 : tie.Need-mul-note-bound-4
-mul-note-bound-4 c = search needs
-
-slice-copy-out-note-bound-2 : tie.Need-slice-copy-out-note-bound-2
-slice-copy-out-note-bound-2 c = search needs
 
 note-bound-requires-2 : tie.Need-note-bound-requires-2
 note-bound-requires-2 c κs = search needs
@@ -80,8 +88,34 @@ same-length c = search needs
 same-length-2 : tie.Need-same-length-2
 same-length-2 c = search needs
 
+module _ (c : tie.After-slice-known3) where
+  abbrev first : tie.After-note-bound
+  first = c .before .before .before .before .before .before
+
+  abbrev s : tie.Start
+  s = first .before .before .before .before .before .before .before .before
+
+  low-is : toZ w32 (ofZ w32 (lower (s .args .new .now) (s .args .j))) ≡ lower (s .args .new .now) (s .args .j)
+  low-is = toZ-ofZ {w = w32} (record { sfits = first .before .before .before .before .before .low .given })
+
+  high-is : toZ w32 (ofZ w32 (upper (s .args .new .now) (s .args .j))) ≡ upper (s .args .new .now) (s .args .j)
+  high-is = toZ-ofZ {w = w32} (record { sfits = first .before .before .before .before .high .given })
+
+  old-low-is : toZ w32 (ofZ w32 (lower (s .args .old .now) (s .args .j))) ≡ lower (s .args .old .now) (s .args .j)
+  old-low-is = toZ-ofZ {w = w32} (record { sfits = first .before .before .before .old-low .given })
+
+  old-high-is : toZ w32 (ofZ w32 (upper (s .args .old .now) (s .args .j))) ≡ upper (s .args .old .now) (s .args .j)
+  old-high-is = toZ-ofZ {w = w32} (record { sfits = first .before .before .old-high .given })
+
 returns : tie.Need-returns
-returns c = ?
+unfolding withBounds
+returns c = (
+  ap₂ (λ (l u : ℤ). set (set (s c .args .old .now) (2 * s c .args .j) l) (2 * s c .args .j + 1) u) (low-is c) (high-is c),
+  λ r h e.
+      let two = c .before .before .note-bound2 .ensures r h e in
+      let one = first c .note-bound .ensures r h (two .0) in
+      (one .0, record { low = deaf-read (old-low-is c) (low-is c) (one .1); high = deaf-read (old-high-is c) (high-is c) (two .1) }),
+)
 
 pub note-at-spec : {M : Type 1} → statement M
 note-at-spec =
@@ -94,14 +128,14 @@ note-at-spec =
     add-high
     mul-high-2
     shared-slice-copy-out-high
-    mul-note-bound
-    mul-note-bound-2
-    slice-copy-out-note-bound
+    mul-old-low
+    mul-old-low-2
+    slice-copy-out-old-low
+    mul-old-high
+    add-old-high
+    mul-old-high-2
+    slice-copy-out-old-high
     note-bound-requires
-    mul-note-bound-3
-    add-note-bound
-    mul-note-bound-4
-    slice-copy-out-note-bound-2
     note-bound-requires-2
     mul-low-3
     mul-low-4

@@ -1,9 +1,20 @@
+-- `notes::note_bound`: the rows that hear the bound rise, or fall, are added (`deaf-rise`, `deaf-fall`). Assumes nothing.
 use borrow.Author.Needs.{needs}
+use mathlib.Core.Path.{_≡_}
+use mir.Facts.{toZ-ofZ}
+use mir.Syntax.{w32}
+use mir.Val.{ofZ, toZ}
+use Rattle.integer.proofs.Reading.{ge-read, lt-read}
+use Rattle.prepared_propagation.proofs.HeardLaws.{deaf-fall, deaf-rise, deaf-same}
 use Rattle.prepared_propagation.proofs.notes.note_bound.Statement.{statement}
 use Rattle.prepared_propagation.proofs.notes.note_bound.Tie as tie
-use Rattle.prepared_propagation.proofs.notes.note_bound.Reads as reads
-use Rattle.prepared_propagation.proofs.notes.note_bound.Lts as lts
-use Rattle.row_set.proofs.add.Reads as add-reads
+
+module _ (s : tie.Start) where
+  old-is : toZ w32 (ofZ w32 (s .args .old)) ≡ s .args .old
+  old-is = toZ-ofZ {w = w32} (s .fits .old)
+
+  new-is : toZ w32 (ofZ w32 (s .args .new)) ≡ s .args .new
+  new-is = toZ-ofZ {w = w32} (s .fits .new)
 
 mul-at : tie.Need-mul-at
 mul-at c = search needs
@@ -33,7 +44,11 @@ same-length : tie.Need-same-length
 same-length c = search needs
 
 returns : tie.Need-returns
-returns c = ?
+returns c r h e =
+    let t = c .before .before in
+    let f = t .before .before .before in
+    let s = f .before .before .before in
+    deaf-rise (s .args .ws .now) (s .args .j) r _ _ e (t .add .ensures r h) (lt-read (old-is s) (new-is s) (f .if1 .taken))
 
 add-add-2 : tie.Need-add-add-2
 add-add-2 c = search needs
@@ -60,10 +75,16 @@ same-length-2 : tie.Need-same-length-2
 same-length-2 c = search needs
 
 returns-2 : tie.Need-returns-2
-returns-2 c = ?
+returns-2 c r h e =
+    let t = c .before .before in
+    let f = t .before .before .before in
+    let s = f .before .before .before .before in
+    deaf-fall (s .args .ws .now) (s .args .j) r _ _ e (t .add2 .ensures r h) (lt-read (new-is s) (old-is s) (f .if2 .taken))
 
 returns-3 : tie.Need-returns-3
-returns-3 c = ?
+returns-3 c r h e =
+    let s = c .before .before .before .before in
+    (e, deaf-same (s .args .ws .now) (s .args .j) r (ge-read (old-is s) (new-is s) (c .before .if1 .left)) (ge-read (new-is s) (old-is s) (c .if2 .left)))
 
 pub note-bound-spec : {M : Type 1} → statement M
 note-bound-spec =
