@@ -72,7 +72,7 @@ noted-first ws W old new D = record {
 }
 
 module _ {ws W : List ℕ} {old₀ new : List ℤ} {D₀ : List ℕ} (v : Noting ws W old₀ new D₀) {old : List ℤ} {D : List ℕ} {j : ℕ}
-    (i : Noted ws W old₀ new D₀ old D j) (h : j < length ws) {old′ : List ℤ} {D′ : List ℕ}
+    (i : Noted ws W old₀ new D₀ old D j) (h : j < length ws) {old′ : List ℤ} (D′ : List ℕ)
     (e : old′ ≡ withBounds old j (lower new j) (upper new j)) (l : length old′ ≡ length old) (t : length D′ ≡ length D)
     (f : (r : ℕ) → r < 128 → bitAt D′ r ≡ 0 → (bitAt D r ≡ 0) × Missed W r old new j)
   where
@@ -135,7 +135,7 @@ pub noted-still : {ws W : List ℕ} {old₀ new : List ℤ} {D₀ : List ℕ} �
     → Noted ws W old₀ new D₀ old D j → j < length ws → (lower new j ≡ lower old j) × (upper new j ≡ upper old j)
     → Noted ws W old₀ new D₀ old D (j + (1 + getD ws j 0 % 128))
 noted-still {W = W} {new = new} v {old} {D} {j} i h w =
-    noted-next v i h (still old new j (w .0) (w .1)) refl refl (λ r p g. (g, missed-same W r (w .0) (w .1)))
+    noted-next v i h D (still old new j (w .0) (w .1)) refl refl (λ r p g. (g, missed-same W r (w .0) (w .1)))
 
 -- at the end
 pub noted-all : {ws W : List ℕ} {old₀ new : List ℤ} {D₀ : List ℕ} → Noting ws W old₀ new D₀ → {old : List ℤ} {D : List ℕ} {j : ℕ}

@@ -1,8 +1,12 @@
+-- `notes::differs_at` answers false only where both bounds are the same: numbers in range are the same where their bits are.
+-- Assumes nothing.
 use borrow.Author.Needs.{needs}
+use mathlib.Core.Bool.{true≢false}
+use mathlib.Core.Path.{sym}
+use mir.Syntax.{w32}
+use Rattle.integer.proofs.Reading.{eq-read}
 use Rattle.prepared_propagation.proofs.notes.differs_at.Statement.{statement}
 use Rattle.prepared_propagation.proofs.notes.differs_at.Tie as tie
-use Rattle.prepared_propagation.proofs.notes.differs_at.Reads as reads
-use Rattle.prepared_propagation.proofs.notes.differs_at.Lts as lts
 
 mul-if1 : tie.Need-mul-if1
 mul-if1 c = search needs
@@ -23,7 +27,7 @@ shared-slice-copy-out-if1-2 : tie.Need-shared-slice-copy-out-if1-2
 shared-slice-copy-out-if1-2 c = search needs
 
 returns : tie.Need-returns
-returns c = ?
+returns c = λ e. absurd (true≢false e)
 
 mul-if2 : tie.Need-mul-if2
 mul-if2 c = search needs
@@ -50,10 +54,15 @@ shared-slice-copy-out-if2-2 : tie.Need-shared-slice-copy-out-if2-2
 shared-slice-copy-out-if2-2 c = search needs
 
 returns-2 : tie.Need-returns-2
-returns-2 c = ?
+returns-2 c = λ e. absurd (true≢false e)
 
 returns-3 : tie.Need-returns-3
-returns-3 c = ?
+returns-3 c =
+    let first = c .before .before .before in
+    λ _. (
+      sym (eq-read w32 (record { sfits = first .before .before .if12 .given }) (record { sfits = first .before .if13 .given }) (first .if1 .left)),
+      sym (eq-read w32 (record { sfits = c .before .before .if22 .given }) (record { sfits = c .before .if23 .given }) (c .if2 .left)),
+    )
 
 pub differs-at-spec : {M : Type 1} → statement M
 differs-at-spec =
