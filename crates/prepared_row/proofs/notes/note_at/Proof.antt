@@ -8,10 +8,10 @@ use mir.Facts.{toZ-ofZ}
 use mir.Syntax.{w32}
 use mir.Val.{ofZ, toZ}
 use Rattle.model.specs.Box.{lower, upper, withBounds}
-use Rattle.prepared_propagation.specs.Heard.{Missed}
-use Rattle.prepared_propagation.proofs.HeardLaws.{deaf-read}
-use Rattle.prepared_propagation.proofs.notes.note_at.Statement.{statement}
-use Rattle.prepared_propagation.proofs.notes.note_at.Tie as tie
+use Rattle.prepared_row.specs.Heard.{Missed}
+use Rattle.prepared_row.proofs.HeardLaws.{deaf-read}
+use Rattle.prepared_row.proofs.notes.note_at.Statement.{statement}
+use Rattle.prepared_row.proofs.notes.note_at.Tie as tie
 
 mul-low : tie.Need-mul-low
 mul-low c = search needs

@@ -16,7 +16,7 @@ use Rattle.packed_row.specs.Words.{coefsFrom}
 use Rattle.packed_row.proofs.PackedLaws.{packed-steps, skip-next, skip-start, skipAt, step-at}
 use Rattle.row_set.specs.Bits.{bitAt}
 use Rattle.workspace.specs.Layout.{fallOf, riseOf}
-use Rattle.prepared_propagation.specs.Heard.{Deaf, Missed, Noting}
+use Rattle.prepared_row.specs.Heard.{Deaf, Missed, Noting}
 
 -- ---- one bound: a row that is still not in the set was not, and is not among those that hear
 

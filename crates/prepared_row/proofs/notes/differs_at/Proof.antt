@@ -5,8 +5,8 @@ use mathlib.Core.Bool.{true≢false}
 use mathlib.Core.Path.{sym}
 use mir.Syntax.{w32}
 use Rattle.integer.proofs.Reading.{eq-read}
-use Rattle.prepared_propagation.proofs.notes.differs_at.Statement.{statement}
-use Rattle.prepared_propagation.proofs.notes.differs_at.Tie as tie
+use Rattle.prepared_row.proofs.notes.differs_at.Statement.{statement}
+use Rattle.prepared_row.proofs.notes.differs_at.Tie as tie
 
 mul-if1 : tie.Need-mul-if1
 mul-if1 c = search needs

@@ -1,9 +1,7 @@
+-- `visit::done`: row r is taken out where it is a ≤ row (`remove`); an = row stays. Assumes nothing.
 use borrow.Author.Needs.{needs}
-use Rattle.prepared_propagation.proofs.visit.done.Statement.{statement}
-use Rattle.prepared_propagation.proofs.visit.done.Tie as tie
-use Rattle.prepared_propagation.proofs.visit.done.Reads as reads
-use Rattle.prepared_propagation.proofs.visit.done.Lts as lts
-use Rattle.row_set.proofs.remove.Reads as remove-reads
+use Rattle.prepared_row.proofs.visit.done.Statement.{statement}
+use Rattle.prepared_row.proofs.visit.done.Tie as tie
 
 remove-requires : tie.Need-remove-requires
 remove-requires c κs = search needs
@@ -12,7 +10,7 @@ same-length : tie.Need-same-length
 same-length c = search needs
 
 returns : tie.Need-returns
-returns c = ?
+returns c = (c .before .before .remove .ensures, λ e. absurd (c .before .before .before .before .if1 .taken e))
 
 returns-2 : tie.Need-returns-2
 returns-2 c = search needs

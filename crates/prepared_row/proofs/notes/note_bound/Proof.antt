@@ -5,9 +5,9 @@ use mir.Facts.{toZ-ofZ}
 use mir.Syntax.{w32}
 use mir.Val.{ofZ, toZ}
 use Rattle.integer.proofs.Reading.{ge-read, lt-read}
-use Rattle.prepared_propagation.proofs.HeardLaws.{deaf-fall, deaf-rise, deaf-same}
-use Rattle.prepared_propagation.proofs.notes.note_bound.Statement.{statement}
-use Rattle.prepared_propagation.proofs.notes.note_bound.Tie as tie
+use Rattle.prepared_row.proofs.HeardLaws.{deaf-fall, deaf-rise, deaf-same}
+use Rattle.prepared_row.proofs.notes.note_bound.Statement.{statement}
+use Rattle.prepared_row.proofs.notes.note_bound.Tie as tie
 
 module _ (s : tie.Start) where
   old-is : toZ w32 (ofZ w32 (s .args .old)) ≡ s .args .old

@@ -8,7 +8,7 @@ ghost use lib.ListN.{length};
 ghost use Rattle.model.specs.Box.{lower, upper, withBounds};
 ghost use Rattle.row_set.specs.Bits.{bitAt};
 ghost use Rattle.workspace.specs.Layout.{fallOf, riseOf, workspaceLen};
-ghost use Rattle.prepared_propagation.specs.Heard.{Deaf, Missed, Noting};
+ghost use Rattle.prepared_row.specs.Heard.{Deaf, Missed, Noting};
 
 // A bound of variable j went from `old` to `new`.
 fn note_bound(ws: &[u32], j: usize, old: i32, new: i32, dirty: &mut [u32])

@@ -1,7 +1,8 @@
 -- A row of a prepared model was propagated: which rows are calm then.
-use Prim.Native.Nat.{_<_, _≤_, ℕ}
-use lib.Dec.{T}
+use Prim.Native.Nat.{_%_, _<_, _≤_, ℕ}
+use lib.Dec.{T, eqb→eq}
 use lib.IntN.{ℤ}
+use lib.ListN.{length}
 use mathlib.Core.Bool.{Bool, false, not, true}
 use mathlib.Core.List.{List}
 use mathlib.Core.Path.{_∙_, _≡_, refl, sym}
@@ -11,15 +12,18 @@ use Rattle.integer.proofs.Tests.{false→T, true→T}
 use Rattle.model.specs.Box.{NonEmpty, emptyBox}
 use Rattle.model.specs.Rows.{Row, Rows, isEquality, rowAt}
 use Rattle.model.proofs.BoxLaws.{inside-refl, not-in-empty}
+use Rattle.marked_row.proofs.MarkedRowLaws.{visit-zero}
+use Rattle.packed_row.specs.Words.{rowOfWords}
 use Rattle.row.specs.Kinds.{propagateRowOf}
 use Rattle.row.specs.Outcome.{isChanged, isInfeasible, unchanged}
-use Rattle.row.proofs.KindLaws.{kinded-infeasible-box, kinded-stays, kinded-unchanged}
+use Rattle.row.proofs.KindLaws.{kinded-infeasible-box, kinded-stays, kinded-unchanged, kinded-valid}
 use Rattle.row_set.specs.Bits.{bitAt}
 use Rattle.row_set.specs.Readers.{Calm, Hearers, Unheard}
 use Rattle.row_set.proofs.RoomLaws.{calm-kept}
 use Rattle.sweep.proofs.StableLaws.{kinded-after}
 use Rattle.workspace.specs.Layout.{fallOf, riseOf}
-use Rattle.prepared_propagation.specs.Heard.{Missed}
+use Rattle.prepared_row.specs.Heard.{Missed, Noting}
+use Rattle.prepared_row.specs.Visit.{Visiting}
 
 -- where the sets are those of the rows that hear, a row that misses a variable's moves hears nothing of it
 pub unheard : {n m : ℕ} {A : Rows} (W : List ℕ) {P Q : List ℤ} {r j : ℕ} → Hearers n m A (riseOf W) (fallOf W) → r < m → j < n → Missed W r P Q j
@@ -67,3 +71,30 @@ module _ {n m : ℕ} {A : Rows} (W : List ℕ) {B : List ℤ} {D : List ℕ} (r 
         go : (b : Bool) → isEquality row ≡ b → Calm n m A Q D₂
         go true e = rw (kept (true→T (isEquality row) e)) noted-calm
         go false e = calm-removed {D = D₁} {D′ = D₂} r noted-calm (λ _. rw (same, q) (kinded-after row h p (false→T (isEquality row) e) f)) others
+
+-- ---- what the code asks
+
+pub nothing-in : {X : Type 0} {n : ℕ} {B : List ℤ} → 0 < n → B ≡ emptyBox n → NonEmpty n B → X
+nothing-in {n = n} h e p = absurd (not-in-empty n _ h p (rw e (inside-refl n (emptyBox n))))
+
+module _ {ws W : List ℕ} {r : ℕ} {B seen : List ℤ} {D : List ℕ} (v : Visiting ws W r B seen D) (side : ℕ) where
+  abbrev n : ℕ
+  n = length ws
+
+  abbrev row : Row
+  row = rowOfWords ws side
+
+  pub visit-noting : {Q : List ℤ} → Q ≡ propagateRowOf n row B .box → T (not (isInfeasible (propagateRowOf n row B .outcome))) → Noting ws W seen Q D
+  unfolding rowOfWords
+  visit-noting q f = record {
+    few = v .words .few;
+    len = v .len;
+    set = v .set;
+    oldLen = rw (v .known) (v .words .box .len);
+    newLen = rw q (kinded-valid row (v .words .box) .len);
+    elsewhere = λ k h e. rw (v .known, q) (visit-zero n row B f k h e);
+  }
+
+  pub kept-kind : {D₁ D₂ : List ℕ} → (side % 2 ≡ 1 → D₂ ≡ D₁) → T (isEquality row) → D₂ ≡ D₁
+  unfolding rowOfWords isEquality
+  kept-kind f t = f (eqb→eq (side % 2) 1 t)

@@ -14,7 +14,7 @@ ghost use Rattle.row.specs.Kinds.{propagateRowOf};
 ghost use Rattle.row_set.specs.Bits.{bitAt};
 ghost use Rattle.row_set.specs.Readers.{Calm, Hearers};
 ghost use Rattle.workspace.specs.Layout.{fallOf, riseOf};
-ghost use Rattle.prepared_propagation.specs.Visit.{Visiting};
+ghost use Rattle.prepared_row.specs.Visit.{Visiting};
 
 // A ≤ row that was propagated moves nothing when it is propagated again; an = row may.
 fn done(side: u32, r: usize, dirty: &mut [u32])

@@ -5,9 +5,9 @@ use lib.ListN.{getD, length}
 use mathlib.Core.Logic.{⊎-elim}
 use mathlib.Core.Path.{_∙_, _≡_, refl}
 use native.Mathlib.Omega.{arith}
-use Rattle.prepared_propagation.proofs.HeardLaws.{Noted, noted-all, noted-first, noted-next, noted-still}
-use Rattle.prepared_propagation.proofs.notes.note.Statement.{statement}
-use Rattle.prepared_propagation.proofs.notes.note.Tie as tie
+use Rattle.prepared_row.proofs.HeardLaws.{Noted, noted-all, noted-first, noted-next, noted-still}
+use Rattle.prepared_row.proofs.notes.note.Statement.{statement}
+use Rattle.prepared_row.proofs.notes.note.Tie as tie
 
 abbrev Inv-loop : tie.InvT-loop
 Inv-loop words ws old₀ new dirty₀ j₀ old dirty j = Noted words ws old₀ new dirty₀ old dirty j
