@@ -1,12 +1,13 @@
 -- A row of a prepared model was propagated: which rows are calm then.
-use Prim.Native.Nat.{_%_, _<_, _≤_, ℕ}
+use Prim.Native.Nat.{_*_, _+_, _-_, _%_, _<_, _≤_, ℕ}
 use lib.Dec.{T, eqb→eq}
 use lib.IntN.{ℤ}
-use lib.ListN.{length}
+use lib.ListN.{drop, getD, length, take}
 use mathlib.Core.Bool.{Bool, false, not, true}
 use mathlib.Core.List.{List}
-use mathlib.Core.Path.{_∙_, _≡_, refl, sym}
+use mathlib.Core.Path.{_∙_, _≡_, ap, refl, sym}
 use native.Mathlib.Decide.{ℕ-discrete}
+use native.Mathlib.Nat.{mul-le-mul-right, suc-mul}
 use native.Mathlib.Omega.{arith}
 use Rattle.integer.proofs.Tests.{false→T, true→T}
 use Rattle.model.specs.Box.{NonEmpty, emptyBox}
@@ -21,9 +22,10 @@ use Rattle.row_set.specs.Bits.{bitAt}
 use Rattle.row_set.specs.Readers.{Calm, Hearers, Unheard}
 use Rattle.row_set.proofs.RoomLaws.{calm-kept}
 use Rattle.sweep.proofs.StableLaws.{kinded-after}
-use Rattle.workspace.specs.Layout.{fallOf, riseOf}
+use Rattle.workspace.specs.Layout.{decode, fallOf, riseOf, rowIn, rowWords}
+use Rattle.workspace.proofs.DecodeLaws.{decode-row, length-words, row-readable}
 use Rattle.prepared_row.specs.Heard.{Missed, Noting}
-use Rattle.prepared_row.specs.Visit.{Visiting}
+use Rattle.prepared_row.specs.Visit.{Looking, Visiting}
 
 -- where the sets are those of the rows that hear, a row that misses a variable's moves hears nothing of it
 pub unheard : {n m : ℕ} {A : Rows} (W : List ℕ) {P Q : List ℤ} {r j : ℕ} → Hearers n m A (riseOf W) (fallOf W) → r < m → j < n → Missed W r P Q j
@@ -98,3 +100,39 @@ module _ {ws W : List ℕ} {r : ℕ} {B seen : List ℤ} {D : List ℕ} (v : Vis
   pub kept-kind : {D₁ D₂ : List ℕ} → (side % 2 ≡ 1 → D₂ ≡ D₁) → T (isEquality row) → D₂ ≡ D₁
   unfolding rowOfWords isEquality
   kept-kind f t = f (eqb→eq (side % 2) 1 t)
+
+-- ---- row r of a workspace, as a part of it
+
+module _ {n m : ℕ} {W : List ℕ} {B seen : List ℤ} {D : List ℕ} (v : Looking n m W B seen D) (r : ℕ) (h : r < m) where
+  abbrev part : List ℕ
+  part = take (1_408 + r * n + n - (1_408 + r * n)) (drop (1_408 + r * n) W)
+
+  room : 1_408 + m * n ≤ length W
+  room =
+      let a = mul-le-mul-right n (v .fewRows) in
+      let b : 120 * n ≤ 15_360 = omega (arith, v .few) in
+      omega (arith, v .len)
+
+  pub row-room : 1_408 + r * n + n ≤ 16_768
+  row-room = omega (arith, room, v .len, mul-le-mul-right n h, suc-mul r n)
+
+  part-is : part ≡ rowWords n W r
+  unfolding rowWords
+  part-is = let k : 1_408 + r * n + n - (1_408 + r * n) ≡ n = omega arith in ap (λ (i : ℕ). take i (drop (1_408 + r * n) W)) k
+
+  pub part-length : length part ≡ n
+  part-length = ap length part-is ∙ length-words n m W room r h
+
+  pub part-row : rowOfWords part (getD W (264 + r) 0) ≡ rowAt n (decode n m W) r
+  unfolding rowIn
+  part-row = ap (λ (ws : List ℕ). rowOfWords ws (getD W (264 + r) 0)) part-is ∙ sym (decode-row n m W room r h)
+
+  pub part-visiting : Visiting part W r B seen D
+  part-visiting = record {
+    words = rw part-is (row-readable n m W room r h (v .some) (v .few) (v .box));
+    nonEmpty = rw part-length (v .nonEmpty);
+    known = v .known;
+    len = v .len;
+    set = v .set;
+    row = omega (arith, v .fewRows);
+  }

@@ -1,10 +1,11 @@
 -- A row of a prepared model is propagated.
-use Prim.Native.Nat.{_<_, ℕ}
+use Prim.Native.Nat.{_<_, _≤_, ℕ}
 use lib.IntN.{ℤ}
 use lib.ListN.{length}
 use mathlib.Core.List.{List}
 use mathlib.Core.Path.{_≡_}
 use Rattle.model.specs.Box.{NonEmpty}
+use Rattle.model.specs.Valid.{ValidBox}
 use Rattle.packed_row.specs.Words.{Readable}
 use Rattle.workspace.specs.Layout.{workspaceLen}
 
@@ -16,3 +17,14 @@ pub record Visiting (ws W : List ℕ) (r : ℕ) (B seen : List ℤ) (D : List �
   pub len : length W ≡ workspaceLen
   pub set : length D ≡ 4
   pub row : r < 128
+
+-- the same of a workspace of n variables and m rows
+pub record Looking (n m : ℕ) (W : List ℕ) (B seen : List ℤ) (D : List ℕ) : Type 0 where
+  pub some : 0 < n
+  pub few : n ≤ 128
+  pub fewRows : m ≤ 120
+  pub len : length W ≡ workspaceLen
+  pub box : ValidBox n B
+  pub nonEmpty : NonEmpty n B
+  pub known : seen ≡ B
+  pub set : length D ≡ 4

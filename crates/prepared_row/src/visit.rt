@@ -13,8 +13,8 @@ ghost use Rattle.row.specs.Answers.{propagatedRowOf};
 ghost use Rattle.row.specs.Kinds.{propagateRowOf};
 ghost use Rattle.row_set.specs.Bits.{bitAt};
 ghost use Rattle.row_set.specs.Readers.{Calm, Hearers};
-ghost use Rattle.workspace.specs.Layout.{fallOf, riseOf};
-ghost use Rattle.prepared_row.specs.Visit.{Visiting};
+ghost use Rattle.workspace.specs.Layout.{decode, fallOf, riseOf};
+ghost use Rattle.prepared_row.specs.Visit.{Looking, Visiting};
 
 // A ≤ row that was propagated moves nothing when it is propagated again; an = row may.
 fn done(side: u32, r: usize, dirty: &mut [u32])
@@ -28,7 +28,7 @@ fn done(side: u32, r: usize, dirty: &mut [u32])
 }
 
 // Row r, whose words and side are given.
-pub fn visit(
+fn visit(
     words: &[u32],
     side: u32,
     ws: &[u32],
@@ -65,4 +65,29 @@ pub fn visit(
             return RowPropagation::Unchanged;
         }
     }
+}
+
+// Row r of the workspace.
+pub fn visit_at(
+    n: usize,
+    m: usize,
+    ws: &[u32],
+    r: usize,
+    bounds: &mut [i32],
+    seen: &mut [i32],
+    dirty: &mut [u32],
+) -> RowPropagation
+    requires { ⌜ Looking n m (now ws) (now bounds) (now seen) (now dirty) × (r < m) ⌝ }
+    ensures propagated { λ v.
+        ⌜ propagatedRowOf v (now (bounds .exit))
+        ≡ propagateRowOf n (rowAt n (decode n m (now (ws .entry))) r) (now (bounds .entry)) ⌝ }
+    ensures known { λ _. ⌜ (NonEmpty n (now (bounds .exit)) → now (seen .exit) ≡ now (bounds .exit)) ⌝ }
+    ensures calm { λ _.
+        let W = now (ws .entry) in
+        ⌜ (Hearers n m (decode n m W) (riseOf W) (fallOf W)
+        → Calm n m (decode n m W) (now (bounds .entry)) (now (dirty .entry))
+        → Calm n m (decode n m W) (now (bounds .exit)) (now (dirty .exit))) ⌝ }
+{
+    let start = 1_408 + r * n;
+    visit(&ws[start..start + n], ws[264 + r], ws, r, bounds, seen, dirty)
 }
