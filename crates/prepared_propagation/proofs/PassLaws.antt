@@ -10,14 +10,15 @@ use mathlib.Core.Path.{_∙_, _≡_, ap, refl, sym}
 use native.Mathlib.Decide.{ℕ-discrete}
 use native.Mathlib.Numerals.{add-one}
 use native.Mathlib.Omega.{arith}
-use mathlib.Core.Logic.{_⊎_, inl, inr}
+use mathlib.Core.Logic.{_⊎_, inl, inr, ⊎-elim}
 use Rattle.integer.proofs.Parts.{zarith, zify}
+use Rattle.marked_row.proofs.MarkedRowLaws.{left-by, tightened, unmoved}
 use Rattle.model.specs.Box.{NonEmpty, width}
 use Rattle.model.specs.Model.{modelOf}
 use Rattle.model.specs.Rows.{Row, Rows, rowAt}
 use Rattle.model.specs.Valid.{ValidBox, ValidModel}
 use Rattle.prepared_row.specs.Visit.{Looking}
-use Rattle.propagation.proofs.PropagationLoops.{PassIs, row-feasible}
+use Rattle.propagation.proofs.PropagationLoops.{PassIs, pass-begins, row-feasible, row-infeasible}
 use Rattle.row.specs.Answers.{propagatedRowOf}
 use Rattle.row.specs.Kinds.{propagateRowOf}
 use Rattle.row.specs.Outcome.{isInfeasible}
@@ -27,13 +28,13 @@ use Rattle.row.specs.declared.propagation.RowPropagation.the-variants.{Infeasib
 use Rattle.row.proofs.KindLaws.{kinded-moved, kinded-nonEmpty, kinded-shrinks, kinded-valid}
 use Rattle.row.proofs.MovedLaws.{moved-width}
 use Rattle.row_set.specs.Bits.{bitAt}
-use Rattle.row_set.specs.Readers.{Calm}
+use Rattle.row_set.specs.Readers.{Calm, Hearers}
 use Rattle.semantics.specs.Convergence.{LargestBudget}
 use Rattle.semantics.proofs.Convergence.{width-limit}
 use Rattle.semantics.proofs.PropagateLaws.{moved-at-most}
-use Rattle.workspace.specs.Layout.{decode}
+use Rattle.workspace.specs.Layout.{decode, fallOf, riseOf}
 use Rattle.workspace.proofs.DecodeLaws.{decode-valid}
-use Rattle.prepared_propagation.specs.Known.{PassMade}
+use Rattle.prepared_propagation.specs.Known.{Known, PassMade}
 
 -- calm rows are passed over
 pub pass-calm : {n m : ℕ} {A : Rows} (B : List ℤ) {before sum : ℕ} {P : List ℤ} (D : List ℕ) (r s : ℕ)
@@ -92,4 +93,70 @@ looking-on {n} v row {Q} q f seen′ D′ known l =
       nonEmpty = p;
       known = known p;
       set = l ∙ v .set;
+    }
+
+-- ---- the loop: rows 0 to r − 1 of the pass over B₀ came to the box B
+
+pub record Passing (n m : ℕ) (W : List ℕ) (B₀ seen₀ : List ℤ) (D₀ : List ℕ) (B seen : List ℤ) (D : List ℕ) (moved r : ℕ) : Type 0 where
+  pub le : r ≤ m
+  pub looking : Looking n m W B seen D
+  pub boxLen : length B ≡ length B₀
+  pub seenLen : length seen ≡ length seen₀
+  pub setLen : length D ≡ length D₀
+  pub lost : (pos moved +ℤ width n B) ≤ℤ width n B₀
+  pub told : Known n m W B₀ D₀ → PassIs n r (decode n m W) B₀ 0 false moved B × Calm n m (decode n m W) B D
+
+-- before the first row that is to be looked at
+pub passing-first : {n m : ℕ} {W : List ℕ} {B seen : List ℤ} {D : List ℕ} → Looking n m W B seen D → (s : ℕ) → s ≤ m
+    → ((i : ℕ) → 0 ≤ i → i < s → bitAt D i ≡ 0) → Passing n m W B seen D B seen D 0 s
+passing-first {n} {m} {W} {B} {D = D} v s k f = record {
+  le = k;
+  looking = v;
+  boxLen = refl;
+  seenLen = refl;
+  setLen = refl;
+  lost = simp zify (omega zarith);
+  told = λ t. (pass-calm B D 0 s (pass-begins n (decode n m W) B 0) (v .nonEmpty) (t .calm) (omega arith) k f, t .calm);
+}
+
+-- row r answered v and left Q
+module _ {n m : ℕ} {W : List ℕ} {B₀ seen₀ : List ℤ} {D₀ : List ℕ} {B seen : List ℤ} {D : List ℕ} {moved r : ℕ}
+    (i : Passing n m W B₀ seen₀ D₀ B seen D moved r) (h : r < m) (v : RowPropagation) (Q : List ℤ)
+    (e : propagatedRowOf v Q ≡ propagateRowOf n (rowAt n (decode n m W) r) B) where
+  -- it is infeasible
+  pub passing-ended : v ≡ Infeasible → Known n m W B₀ D₀ → PassMade n m (decode n m W) B₀ true moved Q
+  passing-ended t k = made-of (row-infeasible n r (decode n m W) B₀ 0 v Q (i .told k .0) e m h t)
+
+  -- it is not
+  module _ {k now : ℕ} (a : ((v ≡ Tightened k) × (now ≡ moved + k)) ⊎ ((v ≡ Unchanged) × (now ≡ moved))) where
+    feasible : T (not (isInfeasible (propagateRowOf n (rowAt n (decode n m W) r) B .outcome)))
+    feasible = ⊎-elim (λ w. tightened v Q e (w .0)) (λ w. unmoved v Q e (w .0) .0) a
+
+    counted : now ≡ moved + propagatedRowOf v Q .moved
+    unfolding propagatedRowOf
+    counted = ⊎-elim (λ w. w .1 ∙ rw (w .0)) (λ w. w .1 ∙ rw (w .0) (omega arith)) a
+
+    pub passing-lost : (pos now +ℤ width n Q) ≤ℤ width n B₀
+    passing-lost = lost-more n (rowAt n (decode n m W) r) B v e (left-by v Q e) feasible B₀ moved (i .lost) counted
+
+    pub passing-some : NonEmpty n Q
+    passing-some = rw (left-by v Q e) (kinded-nonEmpty (rowAt n (decode n m W) r) (i .looking .nonEmpty) feasible)
+
+    -- and s is the next row that is to be looked at
+    pub passing-next : (seen′ : List ℤ) (D′ : List ℕ) → (NonEmpty n Q → seen′ ≡ Q)
+        → (Hearers n m (decode n m W) (riseOf W) (fallOf W) → Calm n m (decode n m W) B D → Calm n m (decode n m W) Q D′)
+        → length Q ≡ length B → length seen′ ≡ length seen → length D′ ≡ length D
+        → (s : ℕ) → r + 1 ≤ s → s ≤ m → ((j : ℕ) → r + 1 ≤ j → j < s → bitAt D′ j ≡ 0)
+        → Passing n m W B₀ seen₀ D₀ Q seen′ D′ now s
+    passing-next seen′ D′ known calm l x d s o z f = record {
+      le = z;
+      looking = looking-on (i .looking) (rowAt n (decode n m W) r) (left-by v Q e) feasible seen′ D′ known d;
+      boxLen = l ∙ i .boxLen;
+      seenLen = x ∙ i .seenLen;
+      setLen = d ∙ i .setLen;
+      lost = passing-lost;
+      told = λ t.
+          let y = i .told t in
+          let c = calm (t .hearers) (y .1) in
+          (pass-calm B₀ D′ (r + 1) s (row-feasible n r (decode n m W) B₀ 0 v Q (y .0) e a) passing-some c o z f, c);
     }
