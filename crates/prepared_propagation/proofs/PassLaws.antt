@@ -76,7 +76,7 @@ pub sum-small : {n m : ℕ} (sum : ℕ) {W : List ℕ} {B seen : List ℤ} (Q : 
 unfolding LargestBudget
 sum-small {n} {m} sum {W} {B} Q v w p =
     let a = moved-at-most n sum B p w in
-    let b = width-limit (modelOf n m B (decode n m W)) (decode-valid n m W (v .some) (v .few) (v .fewRows) (v .box)) .0 in
+    let b = width-limit (modelOf n m B (decode n m W)) (decode-valid n m W (v .sized .some) (v .sized .few) (v .sized .fewRows) (v .sized .box)) .0 in
     omega zarith
 
 -- all is as before it
@@ -85,11 +85,7 @@ pub looking-on : {n m : ℕ} {W : List ℕ} {P seen : List ℤ} {D : List ℕ} �
 looking-on {n} v row {Q} q f seen′ D′ known l =
     let p : NonEmpty n Q = rw q (kinded-nonEmpty row (v .nonEmpty) f) in
     record {
-      some = v .some;
-      few = v .few;
-      fewRows = v .fewRows;
-      len = v .len;
-      box = rw q (kinded-valid row (v .box));
+      sized = record { some = v .sized .some; few = v .sized .few; fewRows = v .sized .fewRows; len = v .sized .len; box = rw q (kinded-valid row (v .sized .box)) };
       nonEmpty = p;
       known = known p;
       set = l ∙ v .set;

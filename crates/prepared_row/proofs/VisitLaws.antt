@@ -14,7 +14,7 @@ use Rattle.model.specs.Box.{NonEmpty, emptyBox}
 use Rattle.model.specs.Rows.{Row, Rows, isEquality, rowAt}
 use Rattle.model.proofs.BoxLaws.{inside-refl, not-in-empty}
 use Rattle.marked_row.proofs.MarkedRowLaws.{visit-zero}
-use Rattle.packed_row.specs.Words.{rowOfWords}
+use Rattle.packed_row.specs.Words.{Readable, rowOfWords}
 use Rattle.row.specs.Kinds.{propagateRowOf}
 use Rattle.row.specs.Outcome.{isChanged, isInfeasible, unchanged}
 use Rattle.row.proofs.KindLaws.{kinded-infeasible-box, kinded-stays, kinded-unchanged, kinded-valid}
@@ -25,7 +25,7 @@ use Rattle.sweep.proofs.StableLaws.{kinded-after}
 use Rattle.workspace.specs.Layout.{decode, fallOf, riseOf, rowIn, rowWords}
 use Rattle.workspace.proofs.DecodeLaws.{decode-row, length-words, row-readable}
 use Rattle.prepared_row.specs.Heard.{Missed, Noting}
-use Rattle.prepared_row.specs.Visit.{Looking, Visiting}
+use Rattle.prepared_row.specs.Visit.{Looking, Sized, Visiting}
 
 -- where the sets are those of the rows that hear, a row that misses a variable's moves hears nothing of it
 pub unheard : {n m : ℕ} {A : Rows} (W : List ℕ) {P Q : List ℤ} {r j : ℕ} → Hearers n m A (riseOf W) (fallOf W) → r < m → j < n → Missed W r P Q j
@@ -103,8 +103,8 @@ module _ {ws W : List ℕ} {r : ℕ} {B seen : List ℤ} {D : List ℕ} (v : Vis
 
 -- ---- row r of a workspace, as a part of it
 
-module _ {n m : ℕ} {W : List ℕ} {B seen : List ℤ} {D : List ℕ} (v : Looking n m W B seen D) (r : ℕ) (h : r < m) where
-  abbrev part : List ℕ
+module _ {n m : ℕ} {W : List ℕ} {B : List ℤ} (v : Sized n m W B) (r : ℕ) (h : r < m) where
+  abbrev pub part : List ℕ
   part = take (1_408 + r * n + n - (1_408 + r * n)) (drop (1_408 + r * n) W)
 
   room : 1_408 + m * n ≤ length W
@@ -127,12 +127,15 @@ module _ {n m : ℕ} {W : List ℕ} {B seen : List ℤ} {D : List ℕ} (v : Look
   unfolding rowIn
   part-row = ap (λ (ws : List ℕ). rowOfWords ws (getD W (264 + r) 0)) part-is ∙ sym (decode-row n m W room r h)
 
-  pub part-visiting : Visiting part W r B seen D
-  part-visiting = record {
-    words = rw part-is (row-readable n m W room r h (v .some) (v .few) (v .box));
-    nonEmpty = rw part-length (v .nonEmpty);
-    known = v .known;
-    len = v .len;
-    set = v .set;
-    row = omega (arith, v .fewRows);
-  }
+  pub part-readable : Readable part B
+  part-readable = rw part-is (row-readable n m W room r h (v .some) (v .few) (v .box))
+
+pub part-visiting : {n m : ℕ} {W : List ℕ} {B seen : List ℤ} {D : List ℕ} (v : Looking n m W B seen D) (r : ℕ) (h : r < m) → Visiting (part (v .sized) r h) W r B seen D
+part-visiting v r h = record {
+  words = part-readable (v .sized) r h;
+  nonEmpty = rw (part-length (v .sized) r h) (v .nonEmpty);
+  known = v .known;
+  len = v .sized .len;
+  set = v .set;
+  row = omega (arith, v .sized .fewRows);
+}

@@ -18,13 +18,17 @@ pub record Visiting (ws W : List ℕ) (r : ℕ) (B seen : List ℤ) (D : List �
   pub set : length D ≡ 4
   pub row : r < 128
 
--- the same of a workspace of n variables and m rows
-pub record Looking (n m : ℕ) (W : List ℕ) (B seen : List ℤ) (D : List ℕ) : Type 0 where
+-- a workspace of n variables and m rows, and a box of them
+pub record Sized (n m : ℕ) (W : List ℕ) (B : List ℤ) : Type 0 where
   pub some : 0 < n
   pub few : n ≤ 128
   pub fewRows : m ≤ 120
   pub len : length W ≡ workspaceLen
   pub box : ValidBox n B
+
+-- one that is not empty, which the rows know, and a set of rows to look at
+pub record Looking (n m : ℕ) (W : List ℕ) (B seen : List ℤ) (D : List ℕ) : Type 0 where
+  pub sized : Sized n m W B
   pub nonEmpty : NonEmpty n B
   pub known : seen ≡ B
   pub set : length D ≡ 4

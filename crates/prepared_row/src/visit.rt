@@ -1,6 +1,7 @@
 // A row of a prepared model is propagated, and the rows that hear of a bound that it moved are to be looked at.
 use crate::notes::note;
 use packed_row::propagate_row_packed;
+use packed_row::row_moves_packed;
 use row::propagation::RowPropagation;
 use row_set::remove;
 ghost use mathlib.Core.Path.{_≡_};
@@ -10,11 +11,11 @@ ghost use Rattle.model.specs.Box.{NonEmpty};
 ghost use Rattle.model.specs.Rows.{Rows, rowAt};
 ghost use Rattle.packed_row.specs.Words.{rowOfWords};
 ghost use Rattle.row.specs.Answers.{propagatedRowOf};
-ghost use Rattle.row.specs.Kinds.{propagateRowOf};
+ghost use Rattle.row.specs.Kinds.{propagateRowOf, rowMovesOf};
 ghost use Rattle.row_set.specs.Bits.{bitAt};
 ghost use Rattle.row_set.specs.Readers.{Calm, Hearers};
 ghost use Rattle.workspace.specs.Layout.{decode, fallOf, riseOf};
-ghost use Rattle.prepared_row.specs.Visit.{Looking, Visiting};
+ghost use Rattle.prepared_row.specs.Visit.{Looking, Sized, Visiting};
 
 // A ≤ row that was propagated moves nothing when it is propagated again; an = row may.
 fn done(side: u32, r: usize, dirty: &mut [u32])
@@ -90,4 +91,13 @@ pub fn visit_at(
 {
     let start = 1_408 + r * n;
     visit(&ws[start..start + n], ws[264 + r], ws, r, bounds, seen, dirty)
+}
+
+// Whether propagating row r of the workspace would change the box; nothing is written.
+pub fn moves_at(n: usize, m: usize, ws: &[u32], r: usize, bounds: &[i32]) -> bool
+    requires { ⌜ Sized n m (now ws) (now bounds) × (r < m) ⌝ }
+    ensures { λ b. ⌜ b ≡ rowMovesOf n (rowAt n (decode n m (now (ws .entry))) r) (now (bounds .entry)) ⌝ }
+{
+    let start = 1_408 + r * n;
+    row_moves_packed(&ws[start..start + n], ws[264 + r], bounds)
 }

@@ -24,7 +24,7 @@ abbrev μ-loop : tie.MeasureT-loop
 μ-loop n m ws bounds₀ seen₀ dirty₀ moved₀ r₀ bounds seen dirty moved r = m - r
 
 next-row-requires : tie.Need-next-row-requires Inv-loop μ-loop
-next-row-requires c κs = let v = c .before .before .before .pre in (omega arith, omega (arith, v .fewRows), v .set)
+next-row-requires c κs = let v = c .before .before .before .pre in (omega arith, omega (arith, v .sized .fewRows), v .set)
 
 loop-holds : tie.Need-loop-holds Inv-loop μ-loop
 loop-holds c = let t = c .next-row .ensures in passing-first (c .before .before .before .before .pre) _ (t .1) (t .2)
@@ -86,12 +86,12 @@ enum-told-2 : tie.Need-enum-told-2 Inv-loop μ-loop
 enum-told-2 c = search needs
 
 add-next-row : tie.Need-add-next-row Inv-loop μ-loop
-add-next-row c = let k = c .before .before .before .before .before .before in omega (arith, taken k, s k .pre .fewRows)
+add-next-row c = let k = c .before .before .before .before .before .before in omega (arith, taken k, s k .pre .sized .fewRows)
 
 next-row-requires-2 : tie.Need-next-row-requires-2 Inv-loop μ-loop
 next-row-requires-2 c κs =
     let k = c .before .before .before .before .before .before in
-    (omega (arith, taken k), omega (arith, s k .pre .fewRows), k .visit-at .kept .1 .1 .1 .1 .1 .1 .0 ∙ h k .loop .inv .looking .set)
+    (omega (arith, taken k), omega (arith, s k .pre .sized .fewRows), k .visit-at .kept .1 .1 .1 .1 .1 .1 .0 ∙ h k .loop .inv .looking .set)
 
 loop-less : tie.Need-loop-less Inv-loop μ-loop
 loop-less c =

@@ -12,16 +12,16 @@ use Rattle.prepared_row.proofs.visit.visit_at.Statement.{statement}
 use Rattle.prepared_row.proofs.visit.visit_at.Tie as tie
 
 mul-start : tie.Need-mul-start
-mul-start c = let s = c .before .before in omega (arith, row-room (s .pre .0) (s .args .r) (s .pre .1))
+mul-start c = let s = c .before .before in omega (arith, row-room (s .pre .0 .sized) (s .args .r) (s .pre .1))
 
 add-start : tie.Need-add-start
-add-start c = let s = c .before .before in omega (arith, row-room (s .pre .0) (s .args .r) (s .pre .1))
+add-start c = let s = c .before .before in omega (arith, row-room (s .pre .0 .sized) (s .args .r) (s .pre .1))
 
 add-visit : tie.Need-add-visit
-add-visit c = let s = c .before .before in omega (arith, row-room (s .pre .0) (s .args .r) (s .pre .1))
+add-visit c = let s = c .before .before in omega (arith, row-room (s .pre .0 .sized) (s .args .r) (s .pre .1))
 
 mul-visit : tie.Need-mul-visit
-mul-visit c = let s = c .before .before in omega (arith, row-room (s .pre .0) (s .args .r) (s .pre .1))
+mul-visit c = let s = c .before .before in omega (arith, row-room (s .pre .0 .sized) (s .args .r) (s .pre .1))
 
 sub-visit : tie.Need-sub-visit
 sub-visit c = search needs
@@ -30,7 +30,7 @@ part-visit-start : tie.Need-part-visit-start
 part-visit-start c = search needs
 
 part-visit-end : tie.Need-part-visit-end
-part-visit-end c = let s = c .before .before in omega (arith, row-room (s .pre .0) (s .args .r) (s .pre .1), s .pre .0 .len)
+part-visit-end c = let s = c .before .before in omega (arith, row-room (s .pre .0 .sized) (s .args .r) (s .pre .1), s .pre .0 .sized .len)
 
 add-visit-2 : tie.Need-add-visit-2
 add-visit-2 c = search needs
@@ -64,12 +64,12 @@ returns c =
     let m = s .args .m in
     let W = s .args .ws .now in
     let told = e .visit .ensures in
-    let long = part-length v r h in
-    let is = part-row v r h in (
+    let long = part-length (v .sized) r h in
+    let is = part-row (v .sized) r h in (
       told .0 ∙ ap₂ (λ (k : ℕ) (row : Row). propagateRowOf k row (s .args .bounds .now)) long is,
       (
         (λ p. told .1 .0 (rw long p)),
-        λ hearers calm. (rw long at (told .1 .1)) m (decode n m W) (omega (arith, v .fewRows)) (sym is) hearers calm,
+        λ hearers calm. (rw long at (told .1 .1)) m (decode n m W) (omega (arith, v .sized .fewRows)) (sym is) hearers calm,
       ),
     )
 
