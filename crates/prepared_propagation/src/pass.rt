@@ -4,6 +4,9 @@ use row::propagation::RowPropagation;
 use row_set::next_row;
 ghost use mathlib.Core.Bool.{false};
 ghost use mathlib.Core.Path.{_≡_};
+ghost use lib.IntN.{pos};
+ghost use lib.Signed.{_≤ℤ_};
+ghost use Rattle.model.specs.Box.{width};
 ghost use Rattle.prepared_row.specs.Visit.{Looking};
 ghost use Rattle.row_set.specs.Readers.{Calm};
 ghost use Rattle.workspace.specs.Layout.{decode};
@@ -35,6 +38,7 @@ pub fn one_pass(
     ensures left { λ p.
         ⌜ (p .ended ≡ false → PassLeft n m (now (ws .entry)) (now (bounds .entry)) (p .moved) (now (bounds .exit))
         (now (seen .exit)) (now (dirty .exit))) ⌝ }
+    ensures few { λ p. ⌜ pos (p .moved) ≤ℤ width n (now (bounds .entry)) ⌝ }
 {
     let mut moved: u32 = 0;
     let mut r = next_row(m, dirty, 0);

@@ -12,6 +12,7 @@ use Rattle.model.specs.Rows.{rowAt}
 use Rattle.row.specs.Answers.{propagatedRowOf}
 use Rattle.row.specs.Kinds.{propagateRowOf}
 use Rattle.row.specs.declared.propagation.RowPropagation.the-variants.{Tightened, Unchanged}
+use Rattle.semantics.proofs.PropagateLaws.{moved-at-most}
 use Rattle.workspace.specs.Layout.{decode}
 use Rattle.prepared_propagation.proofs.PassLaws.{Passing, made-of, passing-ended, passing-first, passing-lost, passing-next, passing-some, sum-small}
 use Rattle.prepared_propagation.proofs.pass.one_pass.Statement.{statement}
@@ -68,7 +69,7 @@ returns c =
       passing-ended i (taken k) _ (Q k) (heard k) (c .enum-told .given .1),
       (
         (λ t. k .visit-at .ensures .1 .1 (t .hearers) (i .told t .1)),
-        λ e. absurd (true≢false e),
+        ((λ e. absurd (true≢false e)), moved-at-most _ _ _ (i .looking .nonEmpty) (i .lost)),
       ),
     )
 
@@ -138,7 +139,7 @@ returns-2 c =
     let s = h .before .before .before .before .before in
     let e : h .loop .r ≡ s .args .m = omega (arith, i .le) in (
       (λ t. made-of (rw e at (i .told t .0))),
-      ((λ t. i .told t .1), λ _. record { looking = i .looking; width = i .lost }),
+      ((λ t. i .told t .1), ((λ _. record { looking = i .looking; width = i .lost }), moved-at-most _ _ _ (i .looking .nonEmpty) (i .lost))),
     )
 
 pub one-pass-spec : {M : Type 1} → statement M
