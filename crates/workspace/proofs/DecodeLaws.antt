@@ -11,13 +11,13 @@ use native.Mathlib.Omega.{arith}
 use native.Mathlib.Decide.{decLt}
 use Rattle.integer.proofs.Parts.{zarith, zify}
 use Rattle.model.specs.Box.{NonEmpty, at}
-use Rattle.model.specs.Limits.{maxCoef, maxRhs, minCoef, minRhs}
+use Rattle.model.specs.Limits.{maxBound, maxCoef, maxRhs, minBound, minCoef, minRhs}
 use Rattle.model.specs.Model.{modelOf}
 use Rattle.model.specs.Rows.{Row, Rows, rowAt, rowOf}
 use Rattle.model.specs.Valid.{Between, ValidBox, ValidModel}
 use Rattle.packed_row.specs.Words.{Readable, coefsFrom, rhsOf, rowOfWords}
 use Rattle.packed_row.proofs.PackedLaws.{coefs-in, length-coefs, rhs-in}
-use Rattle.workspace.specs.Layout.{decode, listTo, rowIn, rowWords, sideWord}
+use Rattle.workspace.specs.Layout.{boundOf, boxIn, decode, listTo, rowIn, rowWords, sideWord}
 use Rattle.workspace.specs.Prepared.{Ours}
 
 -- ---- lists by their places
@@ -103,3 +103,17 @@ module _ (n m : ℕ) (W : List ℕ) where
 
     pub row-readable : {B : List ℤ} → 0 < n → n ≤ 128 → ValidBox n B → Readable (rowWords n W r) B
     row-readable some few v = record { some = rw length-words some; few = rw length-words few; box = rw length-words v }
+
+-- ---- the box
+
+pub bound-in : (w : ℕ) → Between minBound maxBound (boundOf w)
+unfolding boundOf
+bound-in w = let h : w % 65_536 < 65_536 = omega arith in record { above = simp zify (omega zarith); below = simp zify (omega zarith) }
+
+pub box-at : (n : ℕ) (W : List ℕ) (i : ℕ) → i < 2 * n → at (boxIn n W) i ≡ boundOf (getD W (8 + i) 0)
+unfolding boxIn
+box-at n W i h = listTo-at (2 * n) _ (pos 0) i h
+
+pub length-box : (n : ℕ) (W : List ℕ) → length (boxIn n W) ≡ 2 * n
+unfolding boxIn
+length-box n W = length-listTo (2 * n) _

@@ -7,8 +7,10 @@
 --  1,408 the rows, one after the other, n numbers each (`packed_row`)
 -- 16,768 the end
 use Prim.Native.Nat.{_*_, _+_, _/_, _%_, suc, zero, ℕ}
+use lib.Dec.{eqb, leb, ltb}
 use lib.IntN.{_-ℤ_, pos, ℤ}
-use lib.ListN.{drop, getD, take}
+use lib.ListN.{drop, getD, length, take}
+use mathlib.Core.Bool.{Bool, _&&_}
 use mathlib.Core.List.{List, [], _∷_}
 use Rattle.model.specs.Box.{at}
 use Rattle.model.specs.Rows.{Row, Rows}
@@ -26,6 +28,11 @@ variablesOf W = getD W 1 0
 
 abbrev pub rowsIn : List ℕ → ℕ
 rowsIn W = getD W 2 0
+
+-- its length and head are ours
+unfoldable pub isOurs : List ℕ → Bool
+isOurs W =
+    eqb (length W) workspaceLen && eqb (getD W 0 0) ourMark && ltb 0 (variablesOf W) && leb (variablesOf W) 128 && leb (rowsIn W) 120
 
 -- the rows to look at
 unfoldable pub dirtyOf : List ℕ → List ℕ
