@@ -3,10 +3,12 @@ use Prim.Native.Nat.{_<_, _≤_, ℕ}
 use borrow.Author.Needs.{needs}
 use lib.Dec.{eqb, eqb→eq, leb, leb→le, ltb, ltb→lt, not-T}
 use mathlib.Core.Bool.{false, true}
-use mathlib.Core.Path.{_≡_, refl}
+use lib.ListN.{getD, length}
+use mathlib.Core.List.{List}
+use mathlib.Core.Path.{_≡_}
 use native.Mathlib.Omega.{arith}
 use Rattle.integer.proofs.Tests.{T→false, T→true, eqb-test, leb-test, ltb-test}
-use Rattle.workspace.specs.Layout.{isOurs}
+use Rattle.workspace.specs.Layout.{isOurs, ourMark, workspaceLen}
 use Rattle.workspace.proofs.is_ours.Statement.{statement}
 use Rattle.workspace.proofs.is_ours.Tie as tie
 
@@ -42,25 +44,43 @@ returns-2 c = rw (eq-yes (c .before .before .if1 .left), eq-no (c .if2 .taken))
 shared-slice-read-if3 : tie.Need-shared-slice-read-if3
 shared-slice-read-if3 c = search needs
 
+-- where the first two tests passed
+module _ (e : tie.Else2) where
+  abbrev W : List ℕ
+  W = e .before .before .before .args .ws .now
+
+  length-is : eqb (length W) workspaceLen ≡ true
+  length-is = eq-yes (e .before .before .if1 .left)
+
+  mark-is : eqb (getD W 0 0) ourMark ≡ true
+  mark-is = eq-yes (e .if2 .left)
+
 returns-3 : tie.Need-returns-3
 unfolding isOurs
 returns-3 c =
     let e = c .before .before in
-    rw (eq-yes (e .before .before .if1 .left), eq-yes (e .if2 .left), lt-no 0 _ (omega (arith, c .if3 .taken)))
+    rw (length-is e, mark-is e, lt-no 0 (getD (W e) 1 0) (omega (arith, c .if3 .taken)))
 
 shared-slice-read-if4 : tie.Need-shared-slice-read-if4
 shared-slice-read-if4 c = search needs
 
 returns-4 : tie.Need-returns-4
 unfolding isOurs
-returns-4 c = ?
+returns-4 c =
+    let t = c .before .before in
+    let e = t .before .before in
+    rw (length-is e, mark-is e, lt-yes 0 (getD (W e) 1 0) (omega (arith, t .if3 .left)), le-no (getD (W e) 1 0) 128 (c .if4 .taken))
 
 shared-slice-read-result : tie.Need-shared-slice-read-result
 shared-slice-read-result c = search needs
 
 returns-5 : tie.Need-returns-5
 unfolding isOurs
-returns-5 c = ?
+returns-5 c =
+    let u = c .before in
+    let t = u .before .before in
+    let e = t .before .before in
+    rw (length-is e, mark-is e, lt-yes 0 (getD (W e) 1 0) (omega (arith, t .if3 .left)), le-yes (getD (W e) 1 0) 128 (omega (arith, u .if4 .left)))
 
 pub is-ours-spec : {M : Type 1} → statement M
 is-ours-spec =
