@@ -90,7 +90,15 @@ pub fn visit_at(
         → Calm n m (decode n m W) (now (bounds .exit)) (now (dirty .exit))) ⌝ }
 {
     let start = 1_408 + r * n;
-    visit(&ws[start..start + n], ws[264 + r], ws, r, bounds, seen, dirty)
+    visit(
+        &ws[start..start + n],
+        ws[264 + r],
+        ws,
+        r,
+        bounds,
+        seen,
+        dirty,
+    )
 }
 
 // Whether propagating row r of the workspace would change the box; nothing is written.

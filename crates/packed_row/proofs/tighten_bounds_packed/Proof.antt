@@ -135,9 +135,10 @@ tighten-bounds-at-requires : tie.Need-tighten-bounds-at-requires Inv-loop μ-loo
 tighten-bounds-at-requires c κs =
     let f = c .before in
     let h = head f in
-    let k = within f in
-    (rw (a-is f, b-is h, least-is h, l-is h k, u-is h k) (implies-at (A h) (s h .args .b) (s h .args .least) (B h) (v h) (j h)),
-    omega (arith, s h .pre .0 .boxLen, h .loop .inv .1))
+    let k = within f in (
+      rw (a-is f, b-is h, least-is h, l-is h k, u-is h k) (implies-at (A h) (s h .args .b) (s h .args .least) (B h) (v h) (j h)),
+      omega (arith, s h .pre .0 .boxLen, h .loop .inv .1),
+    )
 
 add-moved : tie.Need-add-moved Inv-loop μ-loop
 add-moved c =
