@@ -41,10 +41,12 @@ pub mod ffi;
 mod model;
 pub mod plan;
 mod refusal;
+mod shared;
 
 pub use answer::{Counts, Outcome, Probe, Propagation, Rest, Rounds, RowPropagation, Side};
 pub use model::{Call, Model, Row, RowKind, book_size};
 pub use refusal::Refusal;
+pub use shared::Rows;
 
 /// The version of this wrapper, which is that of the C header and of the library: `"0.1.0"`.
 pub const VERSION: &str = env!("CARGO_PKG_VERSION");
