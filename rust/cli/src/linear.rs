@@ -230,7 +230,7 @@ mod tests {
         assert_eq!(model.coefs(), [3, 2, -10, -5, 0, 1, 0, 1, 0, -1]);
         assert_eq!(model.rhs(), [4, -10, 3, 2, -1]);
         assert_eq!(names.rows, ["most", "least", "equal", "range", "range"]);
-        assert_eq!(origins.map(|origin| origin.row), [0, 1, 3, 4, 4]);
+        assert_eq!(origins.iter().map(|origin| origin.row).collect::<Vec<_>>(), [0, 1, 3, 4, 4]);
     }
 
     #[test]

@@ -118,6 +118,9 @@ impl Problem {
 
     /// The bytes of the file. It is read back and compared: a number or a name that the format cannot hold is an error.
     pub fn bytes(&self, format: Format) -> Result<Vec<u8>, Failure> {
+        if format == Format::Lp && self.linear().rows.iter().any(is_range) {
+            return self.without_ranges().bytes(format);
+        }
         let ways: &[c_int] = if format == Format::Mps { &[ffi::MPS_FILE, ffi::MPS_DECK] } else { &[0] };
         let part = files::beside(&std::env::temp_dir().join(format!("astrolabe.{}", format.extension())));
         let mut result = Err(Failure::Unreadable("nothing was written".to_string()));
@@ -151,6 +154,29 @@ impl Problem {
             None => Ok(bytes),
             Some(what) => Err(Failure::Unreadable(format!("the format {} does not hold {what}", format.extension()))),
         }
+    }
+
+    /// Each range as two rows, with the same numbers: LP has no ranges (GLPK would add a column for each).
+    fn without_ranges(&self) -> Self {
+        let mut problem = self.clone();
+        let linear = self.linear();
+        for (row, line) in linear.rows.iter().enumerate().filter(|(_, line)| is_range(line)) {
+            let more = problem.add_row(&unused_name(&linear, &line.name));
+            let mut columns = vec![0]; // GLPK counts from 1
+            columns.extend(line.entries.iter().map(|&(j, _)| place(j)));
+            let mut values = vec![0.0];
+            values.extend(line.entries.iter().map(|&(_, value)| value));
+            let _guard = listen();
+            // SAFETY: the problem is ours and has both rows and the columns; the two lists have one number more than the
+            // count.
+            unsafe {
+                ffi::glp_set_row_bnds(problem.prob, place(row), ffi::UP, 0.0, line.upper);
+                let count = line.entries.len() as c_int;
+                ffi::glp_set_mat_row(problem.prob, place(more), count, columns.as_ptr(), values.as_ptr());
+                ffi::glp_set_row_bnds(problem.prob, place(more), ffi::LO, line.lower, 0.0);
+            }
+        }
+        problem
     }
 
     /// A model that came from a book: no objective, the names numbered.
@@ -299,6 +325,10 @@ impl Problem {
             }
         }
     }
+}
+
+fn is_range(line: &Line) -> bool {
+    line.lower.is_finite() && line.upper.is_finite() && line.lower != line.upper
 }
 
 /// GLPK's largest number stands for no bound.
