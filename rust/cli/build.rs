@@ -24,15 +24,27 @@ fn links(folder: &Path) -> bool {
     let program = folder.join("glpk_there.c");
     let text = "#include <glpk.h>\nint main(void) { return glp_version() == 0; }\n";
     std::fs::write(&program, text).is_ok()
-        && cc(&[program.as_os_str(), "-o".as_ref(), folder.join("glpk_there").as_os_str(), "-lglpk".as_ref()])
+        && cc(&[
+            program.as_os_str(),
+            "-o".as_ref(),
+            folder.join("glpk_there").as_os_str(),
+            "-lglpk".as_ref(),
+        ])
 }
 
 fn compiles(folder: &Path) -> bool {
-    cc(&["-O2".as_ref(), "-c".as_ref(), "src/glpk/options.c".as_ref(), "-o".as_ref(), folder.join("options.o").as_os_str()])
+    cc(&[
+        "-O2".as_ref(),
+        "-c".as_ref(),
+        "src/glpk/options.c".as_ref(),
+        "-o".as_ref(),
+        folder.join("options.o").as_os_str(),
+    ])
 }
 
 fn cc(words: &[&std::ffi::OsStr]) -> bool {
     let compiler = env::var_os("CC").unwrap_or("cc".into());
-    let run = Command::new(compiler).args(words).stdout(Stdio::null()).stderr(Stdio::null()).status();
+    let run =
+        Command::new(compiler).args(words).stdout(Stdio::null()).stderr(Stdio::null()).status();
     run.is_ok_and(|status| status.success())
 }

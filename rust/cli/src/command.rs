@@ -32,7 +32,11 @@ pub fn run_all<T: Sync>(
         |index, report| {
             worst = worst.max(report.status);
             let line = report.line(&files[index].0, options.json);
-            if aside || (report.status > 1 && !options.json) { eprintln!("{line}") } else { print_line(&line) }
+            if aside || (report.status > 1 && !options.json) {
+                eprintln!("{line}")
+            } else {
+                print_line(&line)
+            }
         },
     );
     worst

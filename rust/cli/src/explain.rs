@@ -50,7 +50,9 @@ fn clamped(numbers: &[i64]) -> Vec<i32> {
 impl Numbers {
     /// The numbers of a book whose layout was accepted.
     pub fn of_book(book: &[u8], n: usize, m: usize) -> Self {
-        let words = book.chunks_exact(4).map(|word| i32::from_le_bytes(word.try_into().expect("four bytes")));
+        let words = book
+            .chunks_exact(4)
+            .map(|word| i32::from_le_bytes(word.try_into().expect("four bytes")));
         let mut words = words.map(i64::from);
         let bounds = words.by_ref().take(2 * n).collect();
         let mut numbers = Numbers { bounds, ..Numbers::default() };
@@ -63,7 +65,8 @@ impl Numbers {
 
     /// The library's model, or its refusal as a sentence.
     pub fn model(&self, kinds: Vec<RowKind>, names: &Names) -> Result<Model, Failure> {
-        let [bounds, coefs, rhs] = [&self.bounds, &self.coefs, &self.rhs].map(|numbers| clamped(numbers));
+        let [bounds, coefs, rhs] =
+            [&self.bounds, &self.coefs, &self.rhs].map(|numbers| clamped(numbers));
         Model::with_kinds(bounds, coefs, rhs, kinds).map_err(|refusal| self.explain(refusal, names))
     }
 
@@ -82,7 +85,9 @@ impl Numbers {
 
     fn size(&self) -> String {
         let (n, m) = (self.bounds.len() / 2, self.rhs.len());
-        format!("{n} variables and {m} rows, at most {MAX_VARIABLES} and {MAX_ROWS} (a range is two rows)")
+        format!(
+            "{n} variables and {m} rows, at most {MAX_VARIABLES} and {MAX_ROWS} (a range is two rows)"
+        )
     }
 
     fn bound(&self, names: &Names) -> Option<String> {
@@ -95,7 +100,10 @@ impl Numbers {
     fn crossed(&self, names: &Names) -> Option<String> {
         let (index, pair) = self.pair(|l, u| l > u)?;
         let [lower, upper] = pair.map(grouped);
-        Some(format!("variable {} has the lower bound {lower} above the upper {upper}", names.columns[index]))
+        Some(format!(
+            "variable {} has the lower bound {lower} above the upper {upper}",
+            names.columns[index]
+        ))
     }
 
     fn wide(&self, names: &Names) -> Option<String> {
@@ -115,7 +123,9 @@ impl Numbers {
         let n = self.bounds.len() / 2;
         let (row, column) = (&names.rows[index / n], &names.columns[index % n]);
         let value = grouped(self.coefs[index]);
-        Some(format!("row {row} has the coefficient {value} of {column}, at most 1,000,000 up or down"))
+        Some(format!(
+            "row {row} has the coefficient {value} of {column}, at most 1,000,000 up or down"
+        ))
     }
 
     fn right_hand_side(&self, names: &Names) -> Option<String> {
@@ -151,7 +161,8 @@ mod tests {
     fn the_number_at_fault_is_named() {
         let names = Names::numbered(2, 1);
         let said = |bounds: [i64; 4], coefs: [i64; 2], rhs: i64| {
-            let numbers = Numbers { bounds: bounds.to_vec(), coefs: coefs.to_vec(), rhs: vec![rhs] };
+            let numbers =
+                Numbers { bounds: bounds.to_vec(), coefs: coefs.to_vec(), rhs: vec![rhs] };
             numbers.model(vec![RowKind::AtMost], &names).unwrap_err().to_string()
         };
         let fine = [0, 1, 0, 1];
@@ -161,7 +172,8 @@ mod tests {
         assert_eq!(said([2, 1, 0, 1], [1, 1], 1), crossed);
         let wide = "refused 23: variable x1 is 5,000 wide, at most 4,096";
         assert_eq!(said([0, 1, 0, 5_000], [1, 1], 1), wide);
-        let coefficient = "refused 8: row r0 has the coefficient -2,000,000 of x1, at most 1,000,000 up or down";
+        let coefficient =
+            "refused 8: row r0 has the coefficient -2,000,000 of x1, at most 1,000,000 up or down";
         assert_eq!(said(fine, [1, -2_000_000], 1), coefficient);
         let beyond = "refused 9: row r0 has the right-hand side 10,000,000,000, at most 1,000,000,000 up or down";
         assert_eq!(said(fine, [1, 1], 10_000_000_000), beyond);

@@ -66,7 +66,8 @@ pub fn keep(path: &Path, bytes: &[u8]) -> Result<(), Failure> {
     match fs::read(path) {
         Ok(there) if there == bytes => Ok(()),
         Ok(_) => {
-            let sentence = format!("{} is there already with other contents; it was left", path.display());
+            let sentence =
+                format!("{} is there already with other contents; it was left", path.display());
             Err(Failure::Unreadable(sentence))
         }
         Err(_) => write(path, bytes),
@@ -76,9 +77,10 @@ pub fn keep(path: &Path, bytes: &[u8]) -> Result<(), Failure> {
 /// Whether the file can be opened; said in the system's words where it cannot.
 #[cfg(glpk)]
 pub fn there(path: &Path) -> Result<(), Failure> {
-    let opened = File::open(path).and_then(|file| file.metadata()).and_then(|about| match about.is_dir() {
-        true => Err(io::Error::other("it is a folder")),
-        false => Ok(()),
-    });
+    let opened =
+        File::open(path).and_then(|file| file.metadata()).and_then(|about| match about.is_dir() {
+            true => Err(io::Error::other("it is a folder")),
+            false => Ok(()),
+        });
     opened.map_err(|error| Failure::Unreadable(format!("cannot read {}: {error}", path.display())))
 }

@@ -87,15 +87,19 @@ fn scaled(values: &[f64]) -> Result<(i64, Vec<i64>), f64> {
 fn column_bounds(column: &Column) -> Result<[i64; 2], Failure> {
     let name = &column.name;
     if !column.integer {
-        return Err(Failure::refused(format!("column {name} is continuous; every column must be integer")));
+        return Err(Failure::refused(format!(
+            "column {name} is continuous; every column must be integer"
+        )));
     }
     for (bound, which) in [(column.lower, "lower"), (column.upper, "upper")] {
         if bound.is_infinite() {
-            let sentence = format!("column {name} has no {which} bound; a variable is at most 4,096 wide");
+            let sentence =
+                format!("column {name} has no {which} bound; a variable is at most 4,096 wide");
             return Err(Failure::refused(sentence));
         }
         if times(&[bound], 1).is_err() {
-            let sentence = format!("column {name} has the {which} bound {bound}, which is no whole number");
+            let sentence =
+                format!("column {name} has the {which} bound {bound}, which is no whole number");
             return Err(Failure::refused(sentence));
         }
     }
@@ -127,7 +131,9 @@ impl Rows {
         values.push(bound);
         let (power, whole) = scaled(&values).map_err(|value| {
             let name = &line.name;
-            let sentence = format!("row {name} has {value}, which no power of ten up to 1,000,000,000 makes whole");
+            let sentence = format!(
+                "row {name} has {value}, which no power of ten up to 1,000,000,000 makes whole"
+            );
             Failure::refused(sentence)
         })?;
         let sign = if side == Side::AtLeast { -1 } else { 1 };
@@ -150,7 +156,8 @@ impl Rows {
 /// The model that a file states, or why it is none.
 pub fn place(linear: &Linear) -> Result<Placed, Failure> {
     let n = linear.columns.len();
-    let names = Names { columns: linear.columns.iter().map(|c| c.name.clone()).collect(), rows: vec![] };
+    let names =
+        Names { columns: linear.columns.iter().map(|c| c.name.clone()).collect(), rows: vec![] };
     let mut rows = Rows { n, numbers: Numbers::default(), names, kinds: vec![], origins: vec![] };
     for column in &linear.columns {
         rows.numbers.bounds.extend(column_bounds(column)?);
@@ -177,10 +184,20 @@ pub struct Written {
 
 /// What becomes of each row of the file: nothing where it stays as it was, else the rows that take its place (none where it
 /// was removed).
-pub fn rewritten(raw: &Model, reduced: &Model, origins: &[Origin], rows: usize) -> Vec<Option<Vec<Written>>> {
+pub fn rewritten(
+    raw: &Model,
+    reduced: &Model,
+    origins: &[Origin],
+    rows: usize,
+) -> Vec<Option<Vec<Written>>> {
     let mut result = vec![None; rows];
     let changed = |index: usize| raw.rows().nth(index) != reduced.rows().nth(index);
-    for row in origins.iter().enumerate().filter(|(index, _)| changed(*index)).map(|(_, origin)| origin.row) {
+    for row in origins
+        .iter()
+        .enumerate()
+        .filter(|(index, _)| changed(*index))
+        .map(|(_, origin)| origin.row)
+    {
         result[row] = Some(vec![]);
     }
     for (origin, row) in origins.iter().zip(reduced.rows()) {
@@ -250,7 +267,10 @@ mod tests {
         model.columns[0].integer = false;
         assert!(sentence(&model).starts_with("refused: column x is continuous"));
         let many = linear(vec![line("r", -NO, 1.0, &[]); 121]);
-        assert_eq!(sentence(&many), "refused 3: 2 variables and 121 rows, at most 128 and 120 (a range is two rows)");
+        assert_eq!(
+            sentence(&many),
+            "refused 3: 2 variables and 121 rows, at most 128 and 120 (a range is two rows)"
+        );
     }
 
     #[test]
@@ -266,6 +286,9 @@ mod tests {
         reduced.tighten_coefficient(2, 0).unwrap();
         reduced.remove_redundant_row(1).unwrap();
         let least = Written { side: Side::AtLeast, coefs: vec![-1, -2], bound: -2 };
-        assert_eq!(rewritten(&model, &reduced, &origins, 3), [None, Some(vec![]), Some(vec![least])]);
+        assert_eq!(
+            rewritten(&model, &reduced, &origins, 3),
+            [None, Some(vec![]), Some(vec![least])]
+        );
     }
 }

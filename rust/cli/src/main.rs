@@ -47,16 +47,21 @@ fn start() -> Result<u8, Failure> {
             Ok(failure::DONE)
         }
         Some("--version") => {
-            let with = if cfg!(glpk) { "with GLPK" } else { "without GLPK: no MPS, no LP, no solve" };
+            let with =
+                if cfg!(glpk) { "with GLPK" } else { "without GLPK: no MPS, no LP, no solve" };
             print_line(&format!("astrolabe {} ({with})", astrolabe::VERSION));
             Ok(failure::DONE)
         }
         Some(name) => {
             let command = COMMANDS.iter().find(|command| command.name == name);
-            let command = command.ok_or_else(|| Failure::Unreadable(format!("no subcommand {name}\n{}", help())))?;
+            let command = command
+                .ok_or_else(|| Failure::Unreadable(format!("no subcommand {name}\n{}", help())))?;
             let options = options::parse(words, command.options)?;
             if options.help {
-                print_line(&format!("usage: astrolabe {}\n\n{}\n\n{}", command.usage, command.about, NOTES));
+                print_line(&format!(
+                    "usage: astrolabe {}\n\n{}\n\n{}",
+                    command.usage, command.about, NOTES
+                ));
                 return Ok(failure::DONE);
             }
             (command.run)(&options)
@@ -75,6 +80,11 @@ A file is written beside its place and renamed. A raw file is never changed.
 This command is outside the proofs; the library that it calls is proved. The manual: man astrolabe.";
 
 fn help() -> String {
-    let lines = COMMANDS.map(|command| format!("  {:10}{}\n            astrolabe {}\n", command.name, command.about, command.usage));
-    format!("astrolabe: presolve for 0-1 and small-integer linear models\n\n{}\n{NOTES}", lines.concat())
+    let lines = COMMANDS.map(|command| {
+        format!("  {:10}{}\n            astrolabe {}\n", command.name, command.about, command.usage)
+    });
+    format!(
+        "astrolabe: presolve for 0-1 and small-integer linear models\n\n{}\n{NOTES}",
+        lines.concat()
+    )
 }

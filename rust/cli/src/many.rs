@@ -84,7 +84,11 @@ fn bar(done: usize, all: usize, seconds: f64) -> String {
     let filled = 20 * done / all.max(1);
     let rate = done as f64 / seconds.max(0.001);
     let left = (all - done) as f64 / rate.max(0.001);
-    format!("[{}{}] {done}/{all} files, {rate:.1}/s, {left:.0} s left", "#".repeat(filled), ".".repeat(20 - filled))
+    format!(
+        "[{}{}] {done}/{all} files, {rate:.1}/s, {left:.0} s left",
+        "#".repeat(filled),
+        ".".repeat(20 - filled)
+    )
 }
 
 #[cfg(test)]

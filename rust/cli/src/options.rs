@@ -31,7 +31,9 @@ pub fn parse(words: impl Iterator<Item = OsString>, known: &[&str]) -> Result<Op
             only_files = true;
         } else {
             let (name, value) = match text.split_once('=') {
-                Some((name, value)) if text.starts_with("--") => (name.to_string(), Some(OsString::from(value))),
+                Some((name, value)) if text.starts_with("--") => {
+                    (name.to_string(), Some(OsString::from(value)))
+                }
                 _ => (text, None),
             };
             option(&mut options, &name, value, &mut words, known)?;
@@ -49,7 +51,9 @@ fn option(
 ) -> Result<(), Failure> {
     let usual = ["--json", "--help", "-h"];
     if !known.contains(&name) && !usual.contains(&name) {
-        return Err(Failure::Unreadable(format!("no option {name} here; --help lists those there are")));
+        return Err(Failure::Unreadable(format!(
+            "no option {name} here; --help lists those there are"
+        )));
     }
     let mut value = || {
         let missing = || Failure::Unreadable(format!("{name} wants a word after it"));
@@ -92,7 +96,8 @@ mod tests {
 
     #[test]
     fn wrong_words_are_told() {
-        let told = ["--rounds 3", "-o", "--jobs many", "--from=xls"].map(|text| words(text).unwrap_err().to_string());
+        let told = ["--rounds 3", "-o", "--jobs many", "--from=xls"]
+            .map(|text| words(text).unwrap_err().to_string());
         assert_eq!(told[0], "no option --rounds here; --help lists those there are");
         assert_eq!(told[1], "-o wants a word after it");
         assert_eq!(told[2], "--jobs wants a number, not many");

@@ -39,7 +39,8 @@ fn in_folder(folder: &Path) -> Result<Vec<PathBuf>, Failure> {
     for entry in std::fs::read_dir(folder).map_err(failed)? {
         paths.push(entry.map_err(failed)?.path());
     }
-    paths.retain(|path| path.is_file() && Format::by_extension(path).is_some() && !is_reduced(path));
+    paths
+        .retain(|path| path.is_file() && Format::by_extension(path).is_some() && !is_reduced(path));
     paths.sort();
     Ok(paths)
 }
@@ -53,13 +54,19 @@ fn is_reduced(path: &Path) -> bool {
 pub fn tasks(options: &Options) -> Result<Vec<Task>, Failure> {
     let inputs = inputs(options)?;
     let many = inputs.len() > 1 || options.inputs.iter().any(|path| path.is_dir());
-    let task = |input: &PathBuf| if many { into_folder(input, options) } else { alone(input, options) };
+    let task =
+        |input: &PathBuf| if many { into_folder(input, options) } else { alone(input, options) };
     let tasks = inputs.iter().map(task).collect::<Result<Vec<_>, _>>()?;
     let mut seen = HashSet::new();
     for task in &tasks {
         let output = task.output.display();
-        if tasks.iter().any(|other| !files::is_stream(&task.output) && files::same(&other.input, &task.output)) {
-            return Err(Failure::Unreadable(format!("{output} is read, and would be written over")));
+        if tasks
+            .iter()
+            .any(|other| !files::is_stream(&task.output) && files::same(&other.input, &task.output))
+        {
+            return Err(Failure::Unreadable(format!(
+                "{output} is read, and would be written over"
+            )));
         }
         if many && !seen.insert(task.output.clone()) {
             return Err(Failure::Unreadable(format!("two files would be written to {output}")));

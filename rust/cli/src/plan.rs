@@ -20,7 +20,8 @@ pub const COMMAND: Command = Command {
     options: &["--calls", "--from", "--jobs", "-j"],
     run: |options| {
         let calls = options.calls.as_deref().map(calls).transpose()?;
-        let inputs: Vec<(PathBuf, PathBuf)> = inputs(options)?.into_iter().map(|path| (path.clone(), path)).collect();
+        let inputs: Vec<(PathBuf, PathBuf)> =
+            inputs(options)?.into_iter().map(|path| (path.clone(), path)).collect();
         Ok(run_all(&inputs, options, false, |path| {
             let format = Format::of(path, options.from)?;
             plan_of(&Source::read(path, format)?.model, calls.as_deref())
@@ -33,7 +34,10 @@ fn calls(path: &Path) -> Result<Vec<Call>, Failure> {
     let bytes = files::read(path)?;
     let text = String::from_utf8_lossy(&bytes);
     let lines = text.lines().map(|line| line.split('#').next().unwrap_or("")).enumerate();
-    lines.filter(|(_, line)| !line.trim().is_empty()).map(|(at, line)| call(path, at + 1, line)).collect()
+    lines
+        .filter(|(_, line)| !line.trim().is_empty())
+        .map(|(at, line)| call(path, at + 1, line))
+        .collect()
 }
 
 fn call(path: &Path, at: usize, line: &str) -> Result<Call, Failure> {
@@ -43,7 +47,9 @@ fn call(path: &Path, at: usize, line: &str) -> Result<Call, Failure> {
         Ok(&[kind, row, variable, budget]) => Ok(Call { kind, row, variable, budget }),
         _ => {
             let path = path.display();
-            Err(Failure::Unreadable(format!("cannot read {path}: line {at} is not kind, row, variable, budget")))
+            Err(Failure::Unreadable(format!(
+                "cannot read {path}: line {at} is not kind, row, variable, budget"
+            )))
         }
     }
 }
@@ -51,7 +57,8 @@ fn call(path: &Path, at: usize, line: &str) -> Result<Call, Failure> {
 /// The lengths that n and m fix, by the trailer of a book of this size.
 fn lengths(model: &Model) -> Result<Lengths, Failure> {
     let (n, m) = (model.n(), model.m());
-    let book = Model::new(vec![0; 2 * n], vec![0; m * n], vec![0; m]).and_then(|blank| blank.to_book());
+    let book =
+        Model::new(vec![0; 2 * n], vec![0; m * n], vec![0; m]).and_then(|blank| blank.to_book());
     let book = book.map_err(refused)?;
     plan::lengths(&book[book.len() - 16..]).map_err(refused)
 }
@@ -70,10 +77,13 @@ fn plan_of(model: &Model, calls: Option<&[Call]>) -> Result<Report, Failure> {
         ("clique_rhs", l.clique_rhs),
         ("book", l.book),
     ];
-    let listed = elements.map(|(name, length)| format!("{name} {}", grouped(length as i64))).join(", ");
+    let listed =
+        elements.map(|(name, length)| format!("{name} {}", grouped(length as i64))).join(", ");
     let (total, budget) = (grouped(width.width.into()), grouped(width.budget.into()));
-    let mut text =
-        format!("{} variables, {} rows; total width {total}, budget never spent {budget}; elements: {listed}", l.n, l.m);
+    let mut text = format!(
+        "{} variables, {} rows; total width {total}, budget never spent {budget}; elements: {listed}",
+        l.n, l.m
+    );
     let mut fields = vec![
         ("result", Json::text("planned")),
         ("n", Json::count(l.n)),
@@ -85,7 +95,8 @@ fn plan_of(model: &Model, calls: Option<&[Call]>) -> Result<Report, Failure> {
     if let Some(calls) = calls {
         let passes = plan::passes(model.bounds(), calls).map_err(refused)?.passes;
         text += &format!("; {} calls make at most {passes} passes", calls.len());
-        fields.extend([("calls", Json::count(calls.len())), ("passes", Json::Whole(passes as i64))]);
+        fields
+            .extend([("calls", Json::count(calls.len())), ("passes", Json::Whole(passes as i64))]);
     }
     Ok(Report::done(text, fields))
 }

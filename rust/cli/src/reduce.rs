@@ -18,9 +18,13 @@ pub const COMMAND: Command = Command {
     options: &["-o", "--output", "--from", "--to", "--rounds", "--jobs", "-j"],
     run: |options| {
         let tasks = tasks(options)?;
-        if let (Some(folder), true) = (&options.output, tasks.len() > 1 || tasks[..].iter().any(|task| task.kept.is_some())) {
+        if let (Some(folder), true) =
+            (&options.output, tasks.len() > 1 || tasks[..].iter().any(|task| task.kept.is_some()))
+        {
             let made = std::fs::create_dir_all(folder);
-            made.map_err(|error| Failure::Unreadable(format!("cannot make {}: {error}", folder.display())))?;
+            made.map_err(|error| {
+                Failure::Unreadable(format!("cannot make {}: {error}", folder.display()))
+            })?;
         }
         let inputs: Vec<_> = tasks.iter().map(|task| (task.input.clone(), task.clone())).collect();
         let aside = tasks.iter().any(|task| files::is_stream(&task.output));
@@ -55,7 +59,10 @@ fn differing<T: PartialEq>(one: &[T], other: &[T]) -> usize {
 
 fn removed_rows(raw: &Model, reduced: &Model) -> usize {
     let zero = |coefs: &[i32]| coefs.iter().all(|&a| a == 0);
-    raw.rows().zip(reduced.rows()).filter(|(raw, now)| raw != now && zero(now.coefs) && now.rhs == 0).count()
+    raw.rows()
+        .zip(reduced.rows())
+        .filter(|(raw, now)| raw != now && zero(now.coefs) && now.rhs == 0)
+        .count()
 }
 
 fn report(raw: &Model, reduced: &Model, rounds: Rounds, task: &Task) -> Report {
@@ -69,14 +76,19 @@ fn report(raw: &Model, reduced: &Model, rounds: Rounds, task: &Task) -> Report {
         ("coefficients", differing(raw.coefs(), reduced.coefs())),
         ("implications", reduced.table().iter().filter(|&&byte| byte == 1).count()),
     ];
-    let [bounds, removed, coefficients, implications] = counts.map(|(_, count)| grouped(count as i64));
+    let [bounds, removed, coefficients, implications] =
+        counts.map(|(_, count)| grouped(count as i64));
     let text = format!(
         "{} variables, {} rows; {rounds} rounds{}: {bounds} bounds and {coefficients} coefficients changed, \
          {removed} rows removed, {implications} implications -> {}",
         raw.n(),
         raw.m(),
         if more { ", and more would change something" } else { "" },
-        if files::is_stream(&task.output) { "standard output".to_string() } else { task.output.display().to_string() },
+        if files::is_stream(&task.output) {
+            "standard output".to_string()
+        } else {
+            task.output.display().to_string()
+        },
     );
     let mut fields = vec![
         ("result", Json::text("reduced")),

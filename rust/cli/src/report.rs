@@ -21,7 +21,8 @@ impl Report {
     pub fn of(result: Result<Report, Failure>) -> Self {
         result.unwrap_or_else(|failure| {
             let check = failure.check().map_or(Json::Null, |number| Json::Whole(number.into()));
-            let word = if failure.status() == crate::failure::REFUSED { "refused" } else { "unreadable" };
+            let word =
+                if failure.status() == crate::failure::REFUSED { "refused" } else { "unreadable" };
             let fields = vec![
                 ("result", Json::text(word)),
                 ("check", check),
@@ -37,7 +38,8 @@ impl Report {
         if !json {
             return format!("{name}: {}", self.text);
         }
-        let mut fields = vec![("file", Json::text(name)), ("status", Json::Whole(self.status.into()))];
+        let mut fields =
+            vec![("file", Json::text(name)), ("status", Json::Whole(self.status.into()))];
         fields.extend(self.fields.clone());
         Json::Object(fields).to_string()
     }

@@ -25,7 +25,8 @@ fn run(options: &crate::options::Options) -> Result<u8, Failure> {
     if options.output.is_some() && options.inputs.len() != 1 {
         return Err(Failure::Unreadable("solve takes one model with -o SOLUTION".to_string()));
     }
-    let inputs: Vec<_> = crate::places::inputs(options)?.into_iter().map(|path| (path.clone(), path)).collect();
+    let inputs: Vec<_> =
+        crate::places::inputs(options)?.into_iter().map(|path| (path.clone(), path)).collect();
     Ok(run_all(&inputs, options, false, |path| with_glpk::solve(path, options)))
 }
 
@@ -64,7 +65,9 @@ mod with_glpk {
         let values = searches.each_ref().map(|search| value(search, raw, &linear));
         match values {
             [Ok(None), Ok(None), Ok(None)] => Ok(none(&searches)),
-            [Ok(Some(first)), Ok(Some(second)), Ok(Some(third))] if near(first, second) && near(first, third) => {
+            [Ok(Some(first)), Ok(Some(second)), Ok(Some(third))]
+                if near(first, second) && near(first, third) =>
+            {
                 write_solution(&searches[2], &linear, options)?;
                 Ok(report(&searches, first, &linear))
             }
@@ -105,7 +108,8 @@ mod with_glpk {
 
     fn write_solution(search: &Search, linear: &Linear, options: &Options) -> Result<(), Failure> {
         let (Some(path), Some(point)) = (&options.output, &search.point) else { return Ok(()) };
-        let lines = linear.columns.iter().zip(point).map(|(column, x)| format!("{} {x}\n", column.name));
+        let lines =
+            linear.columns.iter().zip(point).map(|(column, x)| format!("{} {x}\n", column.name));
         files::write(path, lines.collect::<String>().as_bytes())
     }
 
@@ -124,16 +128,20 @@ mod with_glpk {
     }
 
     fn none(searches: &[Search]) -> Report {
-        let fields = vec![("result", Json::text("none")), ("searches", Json::List(fields(searches)))];
+        let fields =
+            vec![("result", Json::text("none")), ("searches", Json::List(fields(searches)))];
         Report { status: NONE, text: "none: no integer point".to_string(), fields }
     }
 
     fn report(searches: &[Search; 3], optimum: f64, linear: &Linear) -> Report {
         let direction = if linear.maximize { "maximum" } else { "minimum" };
-        let mut text = format!("{direction} {optimum}, the same three times, each point checked against the raw model\n");
+        let mut text = format!(
+            "{direction} {optimum}, the same three times, each point checked against the raw model\n"
+        );
         let _ = write!(text, "  {:24}{:>14}{:>12}{:>10}", "", "relaxation", "nodes", "seconds");
         for (way, search) in WAYS.iter().zip(searches) {
-            let relaxation = search.relaxation.map_or("none".to_string(), |value| format!("{value:.2}"));
+            let relaxation =
+                search.relaxation.map_or("none".to_string(), |value| format!("{value:.2}"));
             let (nodes, seconds) = (grouped(search.nodes.into()), search.time.as_secs_f64());
             let _ = write!(text, "\n  {way:24}{relaxation:>14}{nodes:>12}{seconds:>10.3}");
         }

@@ -32,7 +32,8 @@ impl Source {
         let trailer = &book[book.len().saturating_sub(16)..];
         let (n, m) = book_size(trailer).unwrap_or((0, 0));
         let names = Names::numbered(n, m);
-        let model = Model::from_book(book).map_err(|refusal| of_book_refused(book, refusal, &names))?;
+        let model =
+            Model::from_book(book).map_err(|refusal| of_book_refused(book, refusal, &names))?;
         Ok(Source {
             model,
             names,
@@ -65,7 +66,9 @@ impl Source {
     /// The file of the reduced model (or of the model itself) in a format.
     pub fn bytes(&self, reduced: &Model, format: Format) -> Result<Vec<u8>, Failure> {
         match format {
-            Format::Book => reduced.to_book().map_err(|refusal| self.not_in_a_book(refusal, reduced)),
+            Format::Book => {
+                reduced.to_book().map_err(|refusal| self.not_in_a_book(refusal, reduced))
+            }
             #[cfg(glpk)]
             Format::Mps | Format::Lp => self.problem_of(reduced).bytes(format),
             #[cfg(not(glpk))]
@@ -87,7 +90,10 @@ impl Source {
         match (refusal, equality) {
             (Refusal::EqualityRow, Some(row)) => {
                 let name = &self.names.rows[row];
-                Failure::by_check(refusal, format!("row {name} is an = row, and a book of the first edition holds none"))
+                Failure::by_check(
+                    refusal,
+                    format!("row {name} is an = row, and a book of the first edition holds none"),
+                )
             }
             _ => crate::explain::refused(refusal),
         }
@@ -98,13 +104,17 @@ impl Source {
 fn of_book_refused(book: &[u8], refusal: Refusal, names: &Names) -> Failure {
     let length = grouped_length(book);
     match refusal {
-        Refusal::BookTooShort => Failure::by_check(refusal, format!("{length}, and the trailer alone has 16")),
-        Refusal::BookLengthMismatch => {
-            Failure::by_check(refusal, format!("{length}, and its trailer says another number: is it a book, and whole?"))
+        Refusal::BookTooShort => {
+            Failure::by_check(refusal, format!("{length}, and the trailer alone has 16"))
         }
-        Refusal::SizeOutOfRange => {
-            Failure::by_check(refusal, "the book's variables are not 1 to 128, or its rows over 120".to_string())
-        }
+        Refusal::BookLengthMismatch => Failure::by_check(
+            refusal,
+            format!("{length}, and its trailer says another number: is it a book, and whole?"),
+        ),
+        Refusal::SizeOutOfRange => Failure::by_check(
+            refusal,
+            "the book's variables are not 1 to 128, or its rows over 120".to_string(),
+        ),
         _ => Numbers::of_book(book, names.columns.len(), names.rows.len()).explain(refusal, names),
     }
 }

@@ -11,7 +11,8 @@ struct Folder(PathBuf);
 
 impl Folder {
     fn new(name: &str) -> Self {
-        let path = std::env::temp_dir().join(format!("astrolabe-test-{}-{name}", std::process::id()));
+        let path =
+            std::env::temp_dir().join(format!("astrolabe-test-{}-{name}", std::process::id()));
         let _ = fs::remove_dir_all(&path);
         fs::create_dir_all(&path).unwrap();
         Folder(path)
@@ -118,7 +119,10 @@ fn none_writes_nothing_and_is_status_1() {
     let folder = Folder::new("none");
     folder.put("a.book", &none());
     let (status, told, _) = folder.run("reduce a.book -o b.book");
-    assert_eq!((status, told.as_str()), (1, "a.book: none: no integer point, found in round 1; nothing is written\n"));
+    assert_eq!(
+        (status, told.as_str()),
+        (1, "a.book: none: no integer point, found in round 1; nothing is written\n")
+    );
     assert_eq!(folder.names("."), ["a.book"]);
 }
 
@@ -134,15 +138,24 @@ fn a_refusal_is_a_sentence_with_its_number() {
         (&wide(), "refused 23: variable x1 is 5,000 wide, at most 4,096"),
         (b"short", "refused 1: the book has 5 bytes, and the trailer alone has 16"),
         (b"", "refused 1: the book has 0 bytes, and the trailer alone has 16"),
-        (&trailing, "refused 2: the book has 48 bytes, and its trailer says another number: is it a book, and whole?"),
-        (&small()[4..], "refused 2: the book has 40 bytes, and its trailer says another number: is it a book, and whole?"),
+        (
+            &trailing,
+            "refused 2: the book has 48 bytes, and its trailer says another number: is it a book, and whole?",
+        ),
+        (
+            &small()[4..],
+            "refused 2: the book has 40 bytes, and its trailer says another number: is it a book, and whole?",
+        ),
         (&layout, "refused 4: an offset or the length is not what n and m give"),
     ];
     for (book, sentence) in cases {
         folder.put("a.book", book);
         let (status, _, told) = folder.run("reduce a.book -o b.book");
         assert_eq!((status, told), (2, format!("a.book: {sentence}\n")));
-        assert_eq!((folder.names("."), folder.get("a.book")), (vec!["a.book".to_string()], book.to_vec()));
+        assert_eq!(
+            (folder.names("."), folder.get("a.book")),
+            (vec!["a.book".to_string()], book.to_vec())
+        );
     }
     folder.put("a.book", &wide());
     let (status, json, _) = folder.run("reduce a.book --json");
@@ -187,26 +200,71 @@ fn a_folder_is_done_with_jobs_and_the_worst_status_is_told() {
     }
     let (status, told, error) = folder.run("reduce in -o out --jobs 3");
     assert_eq!((status, told.lines().count(), error.as_str()), (0, 20, ""));
-    assert!(told.lines().enumerate().all(|(number, line)| line.starts_with(&format!("in/{number:02}.book: "))));
+    assert!(
+        told.lines()
+            .enumerate()
+            .all(|(number, line)| line.starts_with(&format!("in/{number:02}.book: ")))
+    );
     assert_eq!(folder.names("out").len(), 40);
-    assert_eq!((folder.get("out/07.book"), folder.get("out/07.reduced.book")), (small(), small_reduced()));
+    assert_eq!(
+        (folder.get("out/07.book"), folder.get("out/07.reduced.book")),
+        (small(), small_reduced())
+    );
 
     folder.put("in/03.book", &none());
     assert_eq!(folder.run("reduce in --jobs 2").0, 1);
     folder.put("in/05.book", &wide());
     assert_eq!(folder.run("reduce in --jobs 2").0, 2);
     // The copy of the raw file that was kept is not written over by another file of its name.
-    let (status, _, error) = folder.run("reduce in/05.book in/03.book in/07.book in/08.book -o out");
+    let (status, _, error) =
+        folder.run("reduce in/05.book in/03.book in/07.book in/08.book -o out");
     assert_eq!(status, 2);
     assert!(error.contains("in/05.book: refused 23"));
     folder.put("in/07.book", &small_reduced());
     let (status, _, error) = folder.run("reduce in/07.book in/08.book -o out");
     assert_eq!(status, 3);
-    assert!(error.contains("out/07.book is there already with other contents; it was left"), "{error}");
-    assert_eq!((folder.get("out/07.book"), folder.get("out/07.reduced.book")), (small(), small_reduced()));
+    assert!(
+        error.contains("out/07.book is there already with other contents; it was left"),
+        "{error}"
+    );
+    assert_eq!(
+        (folder.get("out/07.book"), folder.get("out/07.reduced.book")),
+        (small(), small_reduced())
+    );
     // Two files of one name cannot go to one place.
     let (status, _, error) = folder.run("reduce in/08.book out/08.book -o elsewhere");
-    assert!(status == 3 && error.contains("two files would be written to elsewhere/08.reduced.book"), "{error}");
+    assert!(
+        status == 3 && error.contains("two files would be written to elsewhere/08.reduced.book"),
+        "{error}"
+    );
+}
+
+#[test]
+fn a_crash_leaves_nothing_half_written() {
+    let folder = Folder::new("crash");
+    fs::create_dir(folder.0.join("in")).unwrap();
+    for number in 0..300 {
+        folder.put(&format!("in/{number:03}.book"), &small());
+    }
+    let mut child = Command::new(env!("CARGO_BIN_EXE_astrolabe"))
+        .args(["reduce", "in", "-o", "out", "--jobs", "2"])
+        .current_dir(&folder.0)
+        .stdout(Stdio::null())
+        .spawn()
+        .unwrap();
+    while !folder.0.join("out/010.reduced.book").exists() {
+        std::thread::sleep(std::time::Duration::from_millis(1));
+    }
+    child.kill().unwrap(); // SIGKILL: nothing can be tidied up
+    child.wait().unwrap();
+    for name in folder.names("out").iter().filter(|name| !name.starts_with('.')) {
+        let whole = if name.ends_with(".reduced.book") { small_reduced() } else { small() };
+        assert_eq!(folder.get(&format!("out/{name}")), whole, "{name}");
+    }
+    // Done again, it ends as if nothing had happened.
+    assert_eq!(folder.run("reduce in -o out --jobs 2").0, 0);
+    assert_eq!(folder.names("in").len(), 300);
+    assert_eq!(folder.names("out").iter().filter(|name| !name.starts_with('.')).count(), 600);
 }
 
 #[test]
@@ -225,7 +283,9 @@ fn help_and_version_are_told() {
     let folder = Folder::new("help");
     for words in ["--help", "reduce --help", "solve -h", "--version"] {
         let (status, told, _) = folder.run(words);
-        assert!(status == 0 && told.starts_with(if words == "--version" { "astrolabe 0" } else { "" }));
+        assert!(
+            status == 0 && told.starts_with(if words == "--version" { "astrolabe 0" } else { "" })
+        );
     }
     assert!(folder.run("--help").1.contains("outside the proofs"));
 }
@@ -293,21 +353,28 @@ mod with_glpk {
     fn a_book_becomes_a_file_of_the_field_and_back() {
         let folder = Folder::new("book");
         folder.put("a.book", &small());
-        for words in ["convert a.book -o b.mps", "convert b.mps -o c.book", "convert a.book -o d.lp", "convert d.lp -o e.book"] {
+        for words in [
+            "convert a.book -o b.mps",
+            "convert b.mps -o c.book",
+            "convert a.book -o d.lp",
+            "convert d.lp -o e.book",
+        ] {
             let (status, _, error) = folder.run(words);
             assert_eq!(status, 0, "{words}: {error}");
         }
         assert_eq!((folder.get("c.book"), folder.get("e.book")), (small(), small()));
         folder.put("n.lp", &example("notice.lp"));
         let (status, _, error) = folder.run("convert n.lp -o n.book");
-        let sentence = "refused 17: row tons is an = row, and a book of the first edition holds none";
+        let sentence =
+            "refused 17: row tons is an = row, and a book of the first edition holds none";
         assert!(status == 2 && error.contains(sentence), "{error}");
     }
 
     #[test]
     fn streams_take_their_format_by_name() {
         let folder = Folder::new("lpstream");
-        let (status, told, _) = folder.run_with("reduce - --from lp --to mps -o -", &example("notice.lp"));
+        let (status, told, _) =
+            folder.run_with("reduce - --from lp --to mps -o -", &example("notice.lp"));
         assert!(status == 0 && told.contains("ROWS"), "{told}");
     }
 
@@ -315,16 +382,38 @@ mod with_glpk {
     fn what_01_leaves_out_is_named() {
         let folder = Folder::new("leftout");
         let model = |objective: &str, row: &str, bounds: &str, integers: &str| {
-            format!("Minimize\n {objective}\nSubject To\n r1: {row}\nBounds\n {bounds}\nGenerals\n {integers}\nEnd\n")
+            format!(
+                "Minimize\n {objective}\nSubject To\n r1: {row}\nBounds\n {bounds}\nGenerals\n {integers}\nEnd\n"
+            )
         };
         let cases = [
             (model("x", "x + y <= 4", "x <= 3", "x"), 2, "refused: column y is continuous"),
             (model("x", "x + y <= 4", "x <= 3", "x y"), 2, "refused: column y has no upper bound"),
-            (model("x", "x + y <= 4", "x <= 3\n y <= 5000", "x y"), 2, "refused 23: variable y is 5,000 wide"),
-            (model("x", "x + y <= 4", "x <= 2.5\n y <= 3", "x y"), 2, "refused: column x has the upper bound 2.5"),
-            (model("x", "0.12345678901 x + y <= 4", "x <= 3\n y <= 3", "x y"), 2, "refused: row r1 has 0.12345678901"),
-            (model("x", "2000000 x + y <= 4", "x <= 3\n y <= 3", "x y"), 2, "refused 8: row r1 has the coefficient 2,000,000 of x"),
-            (model("x", "x + y <= 2e9", "x <= 3\n y <= 3", "x y"), 2, "refused 9: row r1 has the right-hand side 2,000,000,000"),
+            (
+                model("x", "x + y <= 4", "x <= 3\n y <= 5000", "x y"),
+                2,
+                "refused 23: variable y is 5,000 wide",
+            ),
+            (
+                model("x", "x + y <= 4", "x <= 2.5\n y <= 3", "x y"),
+                2,
+                "refused: column x has the upper bound 2.5",
+            ),
+            (
+                model("x", "0.12345678901 x + y <= 4", "x <= 3\n y <= 3", "x y"),
+                2,
+                "refused: row r1 has 0.12345678901",
+            ),
+            (
+                model("x", "2000000 x + y <= 4", "x <= 3\n y <= 3", "x y"),
+                2,
+                "refused 8: row r1 has the coefficient 2,000,000 of x",
+            ),
+            (
+                model("x", "x + y <= 2e9", "x <= 3\n y <= 3", "x y"),
+                2,
+                "refused 9: row r1 has the right-hand side 2,000,000,000",
+            ),
             (model("x", "x + + y <= 4", "x <= 3", "x"), 3, "cannot read a.lp: a.lp:4: "),
             ("nonsense".to_string(), 3, "cannot read a.lp: "),
         ];

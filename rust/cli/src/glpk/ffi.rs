@@ -35,8 +35,18 @@ unsafe extern "C" {
     pub fn glp_delete_prob(p: *mut Prob);
     pub fn glp_copy_prob(to: *mut Prob, from: *mut Prob, names: c_int);
     pub fn glp_set_prob_name(p: *mut Prob, name: *const c_char);
-    pub fn glp_read_mps(p: *mut Prob, format: c_int, parm: *const c_void, path: *const c_char) -> c_int;
-    pub fn glp_write_mps(p: *mut Prob, format: c_int, parm: *const c_void, path: *const c_char) -> c_int;
+    pub fn glp_read_mps(
+        p: *mut Prob,
+        format: c_int,
+        parm: *const c_void,
+        path: *const c_char,
+    ) -> c_int;
+    pub fn glp_write_mps(
+        p: *mut Prob,
+        format: c_int,
+        parm: *const c_void,
+        path: *const c_char,
+    ) -> c_int;
     pub fn glp_read_lp(p: *mut Prob, parm: *const c_void, path: *const c_char) -> c_int;
     pub fn glp_write_lp(p: *mut Prob, parm: *const c_void, path: *const c_char) -> c_int;
     pub fn glp_get_num_rows(p: *mut Prob) -> c_int;
@@ -59,15 +69,31 @@ unsafe extern "C" {
     pub fn glp_set_col_kind(p: *mut Prob, j: c_int, kind: c_int);
     pub fn glp_get_obj_dir(p: *mut Prob) -> c_int;
     pub fn glp_get_obj_coef(p: *mut Prob, j: c_int) -> c_double;
-    pub fn glp_get_mat_row(p: *mut Prob, i: c_int, columns: *mut c_int, values: *mut c_double) -> c_int;
-    pub fn glp_set_mat_row(p: *mut Prob, i: c_int, count: c_int, columns: *const c_int, values: *const c_double);
+    pub fn glp_get_mat_row(
+        p: *mut Prob,
+        i: c_int,
+        columns: *mut c_int,
+        values: *mut c_double,
+    ) -> c_int;
+    pub fn glp_set_mat_row(
+        p: *mut Prob,
+        i: c_int,
+        count: c_int,
+        columns: *const c_int,
+        values: *const c_double,
+    );
     pub fn glp_get_status(p: *mut Prob) -> c_int;
     pub fn glp_get_obj_val(p: *mut Prob) -> c_double;
     pub fn glp_mip_status(p: *mut Prob) -> c_int;
     pub fn glp_mip_col_val(p: *mut Prob, j: c_int) -> c_double;
     pub fn glp_ios_reason(tree: *mut Tree) -> c_int;
     pub fn glp_ios_get_prob(tree: *mut Tree) -> *mut Prob;
-    pub fn glp_ios_tree_size(tree: *mut Tree, active: *mut c_int, all: *mut c_int, total: *mut c_int);
+    pub fn glp_ios_tree_size(
+        tree: *mut Tree,
+        active: *mut c_int,
+        all: *mut c_int,
+        total: *mut c_int,
+    );
     pub fn astrolabe_cli_simplex(p: *mut Prob) -> c_int;
     pub fn astrolabe_cli_intopt(p: *mut Prob, at_node: AtNode, info: *mut c_void) -> c_int;
 }

@@ -43,7 +43,10 @@ fn listen() -> MutexGuard<'static, ()> {
 fn complaint() -> String {
     let said = SAID.take();
     let lines: Vec<&str> = said.lines().map(str::trim).filter(|line| !line.is_empty()).collect();
-    let named = lines.iter().rev().find(|line| line.split(':').nth(1).is_some_and(|at| at.parse::<u32>().is_ok()));
+    let named = lines
+        .iter()
+        .rev()
+        .find(|line| line.split(':').nth(1).is_some_and(|at| at.parse::<u32>().is_ok()));
     named.or(lines.last()).map_or("GLPK does not say why".to_string(), |line| line.to_string())
 }
 
@@ -94,7 +97,8 @@ impl Problem {
 
     /// Reads a file. MPS is tried as fixed, then as free.
     pub fn read(path: &Path, format: Format) -> Result<Self, Failure> {
-        let ways: &[c_int] = if format == Format::Mps { &[ffi::MPS_DECK, ffi::MPS_FILE] } else { &[0] };
+        let ways: &[c_int] =
+            if format == Format::Mps { &[ffi::MPS_DECK, ffi::MPS_FILE] } else { &[0] };
         let name = c_path(path)?;
         let mut said = String::new();
         for &way in ways {
@@ -121,8 +125,10 @@ impl Problem {
         if format == Format::Lp && self.linear().rows.iter().any(is_range) {
             return self.without_ranges().bytes(format);
         }
-        let ways: &[c_int] = if format == Format::Mps { &[ffi::MPS_FILE, ffi::MPS_DECK] } else { &[0] };
-        let part = files::beside(&std::env::temp_dir().join(format!("astrolabe.{}", format.extension())));
+        let ways: &[c_int] =
+            if format == Format::Mps { &[ffi::MPS_FILE, ffi::MPS_DECK] } else { &[0] };
+        let part =
+            files::beside(&std::env::temp_dir().join(format!("astrolabe.{}", format.extension())));
         let mut result = Err(Failure::Unreadable("nothing was written".to_string()));
         for &way in ways {
             result = self.bytes_by(format, way, &part);
@@ -146,13 +152,20 @@ impl Problem {
         };
         drop(guard);
         if failed != 0 {
-            return Err(Failure::Unreadable(format!("GLPK cannot write {}: {}", format.extension(), complaint())));
+            return Err(Failure::Unreadable(format!(
+                "GLPK cannot write {}: {}",
+                format.extension(),
+                complaint()
+            )));
         }
         let bytes = files::read(part)?;
         let (meant, got) = (self.linear(), Problem::read(part, format)?.linear());
         match difference(&meant, &got) {
             None => Ok(bytes),
-            Some(what) => Err(Failure::Unreadable(format!("the format {} does not hold {what}", format.extension()))),
+            Some(what) => Err(Failure::Unreadable(format!(
+                "the format {} does not hold {what}",
+                format.extension()
+            ))),
         }
     }
 
@@ -172,7 +185,13 @@ impl Problem {
             unsafe {
                 ffi::glp_set_row_bnds(problem.prob, place(row), ffi::UP, 0.0, line.upper);
                 let count = line.entries.len() as c_int;
-                ffi::glp_set_mat_row(problem.prob, place(more), count, columns.as_ptr(), values.as_ptr());
+                ffi::glp_set_mat_row(
+                    problem.prob,
+                    place(more),
+                    count,
+                    columns.as_ptr(),
+                    values.as_ptr(),
+                );
                 ffi::glp_set_row_bnds(problem.prob, place(more), ffi::LO, line.lower, 0.0);
             }
         }
@@ -257,7 +276,9 @@ impl Problem {
         }
         let linear = self.linear();
         let mut removed = vec![0]; // GLPK counts from 1
-        for (row, list) in rewritten(raw, reduced, origins, linear.rows.len()).into_iter().enumerate() {
+        for (row, list) in
+            rewritten(raw, reduced, origins, linear.rows.len()).into_iter().enumerate()
+        {
             match list.as_deref() {
                 None => {}
                 Some([]) => removed.push(place(row)),
@@ -274,7 +295,9 @@ impl Problem {
         if removed.len() > 1 {
             let _guard = listen();
             // SAFETY: the problem is ours and has these rows, each once.
-            unsafe { ffi::glp_del_rows(problem.prob, removed.len() as c_int - 1, removed.as_ptr()) };
+            unsafe {
+                ffi::glp_del_rows(problem.prob, removed.len() as c_int - 1, removed.as_ptr())
+            };
         }
         problem
     }
@@ -312,15 +335,26 @@ impl Problem {
     unsafe fn line(&self, i: c_int, n: usize) -> Line {
         let (mut columns, mut values) = (vec![0; n + 1], vec![0.0; n + 1]);
         unsafe {
-            let count = ffi::glp_get_mat_row(self.prob, i, columns.as_mut_ptr(), values.as_mut_ptr()) as usize;
+            let count =
+                ffi::glp_get_mat_row(self.prob, i, columns.as_mut_ptr(), values.as_mut_ptr())
+                    as usize;
             let entries = columns[1..=count].iter().zip(&values[1..=count]);
-            let mut entries: Vec<(usize, f64)> = entries.map(|(&j, &value)| (j as usize - 1, value)).collect();
+            let mut entries: Vec<(usize, f64)> =
+                entries.map(|(&j, &value)| (j as usize - 1, value)).collect();
             entries.sort_by_key(|entry| entry.0);
             let free = ffi::glp_get_row_type(self.prob, i) == ffi::FR;
             Line {
                 name: name_or(ffi::glp_get_row_name(self.prob, i), "R", i),
-                lower: if free { f64::NEG_INFINITY } else { endless(ffi::glp_get_row_lb(self.prob, i)) },
-                upper: if free { f64::INFINITY } else { endless(ffi::glp_get_row_ub(self.prob, i)) },
+                lower: if free {
+                    f64::NEG_INFINITY
+                } else {
+                    endless(ffi::glp_get_row_lb(self.prob, i))
+                },
+                upper: if free {
+                    f64::INFINITY
+                } else {
+                    endless(ffi::glp_get_row_ub(self.prob, i))
+                },
                 entries,
             }
         }

@@ -41,8 +41,15 @@ impl Problem {
         let mut problem = self.clone();
         let n = self.linear().columns.len();
         let last_row = place(problem.add_row("astrolabe_node"));
-        let mut state =
-            AtNode { rows, bounds: vec![0; 2 * n], last_row, nodes: 0, propagated: 0, infeasible: 0, refused: None };
+        let mut state = AtNode {
+            rows,
+            bounds: vec![0; 2 * n],
+            last_row,
+            nodes: 0,
+            propagated: 0,
+            infeasible: 0,
+            refused: None,
+        };
         let guard = listen();
         let start = Instant::now();
         // SAFETY: the problem is ours and has the row; the callback gets the state, which outlives the call, and GLPK
@@ -53,7 +60,11 @@ impl Problem {
             let solved = failed == 0 && ffi::glp_get_status(problem.prob) == ffi::OPT;
             let relaxation = solved.then(|| ffi::glp_get_obj_val(problem.prob));
             let info: *mut AtNode = &mut state;
-            let failed = if solved { ffi::astrolabe_cli_intopt(problem.prob, at_node, info.cast()) } else { failed };
+            let failed = if solved {
+                ffi::astrolabe_cli_intopt(problem.prob, at_node, info.cast())
+            } else {
+                failed
+            };
             (failed, relaxation)
         };
         let time = start.elapsed();
@@ -74,7 +85,9 @@ impl Problem {
         // SAFETY: the problem is ours and has n columns.
         unsafe {
             let found = ffi::glp_mip_status(self.prob) == ffi::OPT;
-            found.then(|| (0..n).map(|j| ffi::glp_mip_col_val(self.prob, place(j)).round()).collect())
+            found.then(|| {
+                (0..n).map(|j| ffi::glp_mip_col_val(self.prob, place(j)).round()).collect()
+            })
         }
     }
 }
@@ -102,7 +115,10 @@ impl AtNode<'_> {
         for (j, pair) in self.bounds.chunks_exact_mut(2).enumerate() {
             // Whole: the root's bounds are, and GLPK branches between whole numbers.
             pair.copy_from_slice(&unsafe {
-                [ffi::glp_get_col_lb(prob, place(j)) as i32, ffi::glp_get_col_ub(prob, place(j)) as i32]
+                [
+                    ffi::glp_get_col_lb(prob, place(j)) as i32,
+                    ffi::glp_get_col_ub(prob, place(j)) as i32,
+                ]
             });
         }
         let before = self.bounds.clone();
