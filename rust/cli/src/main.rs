@@ -3,6 +3,9 @@
 //! This command is outside the proofs. It reads files, calls the library, and writes what the library left; it adds no
 //! arithmetic of its own that could change a model.
 
+// What only MPS, LP and solve need is there all the same, and tested, where the command is built without GLPK.
+#![cfg_attr(not(glpk), allow(dead_code))]
+
 mod command;
 mod convert;
 mod explain;
@@ -12,7 +15,6 @@ mod format;
 #[cfg(glpk)]
 mod glpk;
 mod json;
-#[cfg(any(glpk, test))]
 mod linear;
 mod many;
 mod options;

@@ -243,7 +243,7 @@ fn a_folder_is_done_with_jobs_and_the_worst_status_is_told() {
 fn a_crash_leaves_nothing_half_written() {
     let folder = Folder::new("crash");
     fs::create_dir(folder.0.join("in")).unwrap();
-    for number in 0..300 {
+    for number in 0..100 {
         folder.put(&format!("in/{number:03}.book"), &small());
     }
     let mut child = Command::new(env!("CARGO_BIN_EXE_astrolabe"))
@@ -263,8 +263,8 @@ fn a_crash_leaves_nothing_half_written() {
     }
     // Done again, it ends as if nothing had happened.
     assert_eq!(folder.run("reduce in -o out --jobs 2").0, 0);
-    assert_eq!(folder.names("in").len(), 300);
-    assert_eq!(folder.names("out").iter().filter(|name| !name.starts_with('.')).count(), 600);
+    assert_eq!(folder.names("in").len(), 100);
+    assert_eq!(folder.names("out").iter().filter(|name| !name.starts_with('.')).count(), 200);
 }
 
 #[test]

@@ -67,6 +67,7 @@ unsafe extern "C" {
     pub fn glp_set_col_bnds(p: *mut Prob, j: c_int, kind: c_int, lower: c_double, upper: c_double);
     pub fn glp_get_col_kind(p: *mut Prob, j: c_int) -> c_int;
     pub fn glp_set_col_kind(p: *mut Prob, j: c_int, kind: c_int);
+    pub fn glp_get_obj_name(p: *mut Prob) -> *const c_char;
     pub fn glp_get_obj_dir(p: *mut Prob) -> c_int;
     pub fn glp_get_obj_coef(p: *mut Prob, j: c_int) -> c_double;
     pub fn glp_get_mat_row(

@@ -123,8 +123,15 @@ impl Problem {
     /// The bytes of the file. It is read back and compared: a number or a name that the format cannot hold is an error.
     pub fn bytes(&self, format: Format) -> Result<Vec<u8>, Failure> {
         if format == Format::Lp && self.linear().rows.iter().any(is_range) {
-            return self.without_ranges().bytes(format);
+            return self.without_ranges().bytes_of(format);
         }
+        if format == Format::Mps {
+            return self.with_named_objective().bytes_of(format);
+        }
+        self.bytes_of(format)
+    }
+
+    fn bytes_of(&self, format: Format) -> Result<Vec<u8>, Failure> {
         let ways: &[c_int] =
             if format == Format::Mps { &[ffi::MPS_FILE, ffi::MPS_DECK] } else { &[0] };
         let part =
@@ -195,6 +202,44 @@ impl Problem {
                 ffi::glp_set_row_bnds(problem.prob, place(more), ffi::LO, line.lower, 0.0);
             }
         }
+        problem
+    }
+
+    /// The objective as a row that says nothing but its name, as GLPK has it of an MPS file: else its name would be lost in one.
+    /// A problem that has such a row keeps it.
+    fn with_named_objective(&self) -> Self {
+        let mut problem = self.clone();
+        let linear = self.linear();
+        let says_nothing = |line: &Line| line.lower.is_infinite() && line.upper.is_infinite();
+        let guard = listen();
+        // SAFETY: the problem is ours; the name is null or a string that ends with 0.
+        let name = unsafe { name_or(ffi::glp_get_obj_name(self.prob), "R", 0) };
+        drop(guard);
+        if linear.rows.iter().any(|line| says_nothing(line) || line.name == name) {
+            return problem;
+        }
+        let row = problem.add_row(&name);
+        let (mut columns, mut values) = (vec![0], vec![0.0]); // GLPK counts from 1
+        for (j, &value) in
+            linear.objective[1..].iter().enumerate().filter(|(_, value)| **value != 0.0)
+        {
+            columns.push(place(j));
+            values.push(value);
+        }
+        let _guard = listen();
+        // SAFETY: the problem is ours and has the row, which is free, and the columns; the two lists have one number more
+        // than the count.
+        unsafe {
+            let count = columns.len() as c_int - 1;
+            ffi::glp_set_mat_row(
+                problem.prob,
+                place(row),
+                count,
+                columns.as_ptr(),
+                values.as_ptr(),
+            );
+        }
+        drop(_guard);
         problem
     }
 

@@ -1,7 +1,7 @@
 #!/usr/bin/env python3
 """Enumerates small books and compares: what a user does by hand to believe that a reduced book is the raw one.
 
-    python3 python/enumerate_books.py [COUNT]
+    PYTHONPATH=PREFIX/lib/python3/dist-packages python3 examples/enumerate_books.py [COUNT]
 
 For each of COUNT small models (2,000 if no number is given), all points of its box before; then the book is written, read,
 reduced, written and read again, and all points of it after. The two lists must be the same, "infeasible" must be said only
