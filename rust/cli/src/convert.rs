@@ -1,10 +1,10 @@
 //! `astrolabe convert`: the model as it is, in another format. An objective is carried along where the format has one.
 
 use crate::command::{Command, run_all};
+use crate::explain::counted;
 use crate::failure::Failure;
 use crate::files;
 use crate::json::Json;
-use crate::options::Options;
 use crate::places::{Task, tasks};
 use crate::report::Report;
 use crate::source::Source;
@@ -21,15 +21,16 @@ pub const COMMAND: Command = Command {
         let tasks = tasks(options)?;
         let inputs: Vec<_> = tasks.iter().map(|task| (task.input.clone(), task.clone())).collect();
         let aside = files::is_stream(&tasks[0].output);
-        Ok(run_all(&inputs, options, aside, |task| convert(task, options)))
+        Ok(run_all(&inputs, options, aside, convert))
     },
 };
 
-fn convert(task: &Task, _: &Options) -> Result<Report, Failure> {
+fn convert(task: &Task) -> Result<Report, Failure> {
     let source = Source::read(&task.input, task.from)?;
     files::write(&task.output, &source.bytes(&source.model, task.to)?)?;
     let (n, m) = (source.model.n(), source.model.m());
-    let text = format!("{n} variables, {m} rows -> {}", task.output.display());
+    let (variables, rows) = (counted(n, "variable"), counted(m, "row"));
+    let text = format!("{variables}, {rows} -> {}", files::shown_output(&task.output));
     let fields = vec![
         ("result", Json::text("converted")),
         ("output", Json::text(task.output.display().to_string())),

@@ -41,6 +41,12 @@ pub fn grouped(number: i64) -> String {
     text
 }
 
+/// "1 row", "5,000 rows".
+pub fn counted(count: usize, noun: &str) -> String {
+    let plural = if count == 1 { "" } else { "s" };
+    format!("{} {noun}{plural}", grouped(count as i64))
+}
+
 /// A number as the library takes it. One that 32 bits do not hold is far outside every limit, and so is what it becomes.
 fn clamped(numbers: &[i64]) -> Vec<i32> {
     let clamp = |&number: &i64| number.clamp(i32::MIN.into(), i32::MAX.into()) as i32;
@@ -85,8 +91,9 @@ impl Numbers {
 
     fn size(&self) -> String {
         let (n, m) = (self.bounds.len() / 2, self.rhs.len());
+        let (variables, rows) = (counted(n, "variable"), counted(m, "row"));
         format!(
-            "{n} variables and {m} rows, at most {MAX_VARIABLES} and {MAX_ROWS} (a range is two rows)"
+            "{variables} and {rows}, at most {MAX_VARIABLES} and {MAX_ROWS} (a range is two rows)"
         )
     }
 
@@ -155,6 +162,10 @@ mod tests {
     fn numbers_are_grouped() {
         let texts = [0, 999, 1_000, -32_768, 1_234_567].map(grouped);
         assert_eq!(texts, ["0", "999", "1,000", "-32,768", "1,234,567"]);
+        assert_eq!(
+            [0, 1, 1_000].map(|count| counted(count, "row")),
+            ["0 rows", "1 row", "1,000 rows"]
+        );
     }
 
     #[test]

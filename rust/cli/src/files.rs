@@ -16,6 +16,11 @@ pub fn shown(path: &Path) -> String {
     if is_stream(path) { "standard input".to_string() } else { path.display().to_string() }
 }
 
+/// The same of a path that is written.
+pub fn shown_output(path: &Path) -> String {
+    if is_stream(path) { "standard output".to_string() } else { path.display().to_string() }
+}
+
 pub fn read(path: &Path) -> Result<Vec<u8>, Failure> {
     let mut bytes = Vec::new();
     let done = match is_stream(path) {
@@ -33,7 +38,9 @@ pub fn write(path: &Path, bytes: &[u8]) -> Result<(), Failure> {
     } else {
         write_and_rename(path, bytes)
     };
-    done.map_err(|error| Failure::Unreadable(format!("cannot write {}: {error}", path.display())))
+    done.map_err(|error| {
+        Failure::Unreadable(format!("cannot write {}: {error}", shown_output(path)))
+    })
 }
 
 /// A path beside the given one that no other file of this process has.

@@ -1,7 +1,7 @@
 //! `astrolabe plan`: what a model and a list of calls will take, told before they are run.
 
 use crate::command::{Command, run_all};
-use crate::explain::{grouped, refused};
+use crate::explain::{counted, grouped, refused};
 use crate::failure::Failure;
 use crate::files;
 use crate::format::Format;
@@ -81,8 +81,9 @@ fn plan_of(model: &Model, calls: Option<&[Call]>) -> Result<Report, Failure> {
         elements.map(|(name, length)| format!("{name} {}", grouped(length as i64))).join(", ");
     let (total, budget) = (grouped(width.width.into()), grouped(width.budget.into()));
     let mut text = format!(
-        "{} variables, {} rows; total width {total}, budget never spent {budget}; elements: {listed}",
-        l.n, l.m
+        "{}, {}; total width {total}, budget never spent {budget}; elements: {listed}",
+        counted(l.n, "variable"),
+        counted(l.m, "row")
     );
     let mut fields = vec![
         ("result", Json::text("planned")),
@@ -94,7 +95,11 @@ fn plan_of(model: &Model, calls: Option<&[Call]>) -> Result<Report, Failure> {
     fields.extend(elements.map(|(name, length)| (name, Json::count(length))));
     if let Some(calls) = calls {
         let passes = plan::passes(model.bounds(), calls).map_err(refused)?.passes;
-        text += &format!("; {} calls make at most {passes} passes", calls.len());
+        text += &format!(
+            "; {} make at most {} passes",
+            counted(calls.len(), "call"),
+            grouped(passes as i64)
+        );
         fields
             .extend([("calls", Json::count(calls.len())), ("passes", Json::Whole(passes as i64))]);
     }

@@ -1,7 +1,7 @@
 //! `astrolabe reduce`: the rounds of the library on each file, and the reduced file beside the raw one.
 
 use crate::command::{Command, run_all};
-use crate::explain::{grouped, refused};
+use crate::explain::{counted, refused};
 use crate::failure::{Failure, NONE};
 use crate::files;
 use crate::json::Json;
@@ -35,13 +35,17 @@ pub const COMMAND: Command = Command {
 /// As many rounds as the program `reduce` makes, if no other number is asked for. (With C-20 there is no limit.)
 const ROUNDS: u32 = 8;
 
+pub fn make_rounds(model: &mut Model, options: &Options) -> Result<Rounds, Failure> {
+    model.rounds(options.rounds.unwrap_or(ROUNDS)).map_err(refused)
+}
+
 fn reduce(task: &Task, options: &Options) -> Result<Report, Failure> {
     let source = Source::read(&task.input, task.from)?;
     let mut reduced = source.model.clone();
-    let rounds = reduced.rounds(options.rounds.unwrap_or(ROUNDS)).map_err(refused)?;
+    let rounds = make_rounds(&mut reduced, options)?;
     if let Rounds::Infeasible { rounds } = rounds {
         let text = format!("none: no integer point, found in round {rounds}; nothing is written");
-        let fields = vec![("result", Json::text("none")), ("rounds", Json::Whole(rounds.into()))];
+        let fields = vec![("result", Json::text("none")), ("rounds", Json::count(rounds as usize))];
         return Ok(Report { status: NONE, text, fields });
     }
     let bytes = source.bytes(&reduced, task.to)?;
@@ -76,26 +80,26 @@ fn report(raw: &Model, reduced: &Model, rounds: Rounds, task: &Task) -> Report {
         ("coefficients", differing(raw.coefs(), reduced.coefs())),
         ("implications", reduced.table().iter().filter(|&&byte| byte == 1).count()),
     ];
-    let [bounds, removed, coefficients, implications] =
-        counts.map(|(_, count)| grouped(count as i64));
+    let [bounds, removed, coefficients, implications] = [
+        counted(counts[0].1, "bound"),
+        counted(counts[1].1, "row"),
+        counted(counts[2].1, "coefficient"),
+        counted(counts[3].1, "implication"),
+    ];
     let text = format!(
-        "{} variables, {} rows; {rounds} rounds{}: {bounds} bounds and {coefficients} coefficients changed, \
-         {removed} rows removed, {implications} implications -> {}",
-        raw.n(),
-        raw.m(),
+        "{}, {}; {}{}: {bounds} and {coefficients} changed, {removed} removed, {implications} -> {}",
+        counted(raw.n(), "variable"),
+        counted(raw.m(), "row"),
+        counted(rounds as usize, "round"),
         if more { ", and more would change something" } else { "" },
-        if files::is_stream(&task.output) {
-            "standard output".to_string()
-        } else {
-            task.output.display().to_string()
-        },
+        files::shown_output(&task.output),
     );
     let mut fields = vec![
         ("result", Json::text("reduced")),
         ("output", Json::text(task.output.display().to_string())),
         ("n", Json::count(raw.n())),
         ("m", Json::count(raw.m())),
-        ("rounds", Json::Whole(rounds.into())),
+        ("rounds", Json::count(rounds as usize)),
         ("limit_reached", Json::Truth(more)),
     ];
     fields.extend(counts.map(|(name, count)| (name, Json::count(count))));

@@ -32,7 +32,7 @@ fn run(options: &crate::options::Options) -> Result<u8, Failure> {
 
 #[cfg(glpk)]
 mod with_glpk {
-    use crate::explain::{grouped, refused};
+    use crate::explain::grouped;
     use crate::failure::{DONE, Failure, NONE};
     use crate::files;
     use crate::format::Format;
@@ -40,6 +40,7 @@ mod with_glpk {
     use crate::json::Json;
     use crate::linear::Linear;
     use crate::options::Options;
+    use crate::reduce::make_rounds;
     use crate::report::Report;
     use crate::source::Source;
     use astrolabe::{Model, RowKind};
@@ -52,7 +53,7 @@ mod with_glpk {
         let source = Source::read(path, Format::of(path, options.from)?)?;
         let raw = &source.model;
         let mut reduced = raw.clone();
-        reduced.rounds(options.rounds.unwrap_or(8)).map_err(refused)?;
+        make_rounds(&mut reduced, options)?;
         if reduced.is_empty_box() {
             let search = source.problem_of(raw).search(None)?;
             let agreed = search.point.is_none();

@@ -120,7 +120,7 @@ fn of_book_refused(book: &[u8], refusal: Refusal, names: &Names) -> Failure {
 }
 
 fn grouped_length(book: &[u8]) -> String {
-    format!("the book has {} bytes", crate::explain::grouped(book.len() as i64))
+    format!("the book has {}", crate::explain::counted(book.len(), "byte"))
 }
 
 #[cfg(not(glpk))]

@@ -88,7 +88,7 @@ fn a_book_is_reduced_and_the_raw_one_stays() {
     let folder = Folder::new("reduce");
     folder.put("a.book", &small());
     let (status, told, _) = folder.run("reduce a.book -o b.book");
-    let line = "a.book: 2 variables, 1 rows; 2 rounds: 0 bounds and 2 coefficients changed, 0 rows removed, \
+    let line = "a.book: 2 variables, 1 row; 2 rounds: 0 bounds and 2 coefficients changed, 0 rows removed, \
                 2 implications -> b.book\n";
     assert_eq!((status, told.as_str()), (0, line));
     assert_eq!((folder.get("a.book"), folder.get("b.book")), (small(), small_reduced()));
@@ -273,7 +273,7 @@ fn a_plan_tells_lengths_and_passes() {
     folder.put("a.book", &small());
     folder.put("calls", b"2 0 0 8 # propagate\n3,0,1,1000\n\n1 0 0 0\n");
     let (status, told, _) = folder.run("plan a.book --calls calls");
-    let line = "a.book: 2 variables, 1 rows; total width 2, budget never spent 3; elements: bounds 4, coefs 2, rhs 1, \
+    let line = "a.book: 2 variables, 1 row; total width 2, budget never spent 3; elements: bounds 4, coefs 2, rhs 1, \
                 kinds 1, table 16, ties 2, clique_coefs 8, clique_rhs 4, book 44; 3 calls make at most 9 passes\n";
     assert_eq!((status, told.as_str()), (0, line));
 }
