@@ -30,6 +30,13 @@ pub fn inputs(options: &Options) -> Result<Vec<PathBuf>, Failure> {
             false => all.push(path.clone()),
         }
     }
+    if all.is_empty() {
+        let folders = options.inputs.iter().map(|path| path.display().to_string());
+        let named = folders.collect::<Vec<_>>().join(", ");
+        return Err(Failure::Unreadable(format!(
+            "no file in {named} has the extension of a format"
+        )));
+    }
     Ok(all)
 }
 

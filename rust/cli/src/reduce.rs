@@ -19,7 +19,7 @@ pub const COMMAND: Command = Command {
     run: |options| {
         let tasks = tasks(options)?;
         if let (Some(folder), true) =
-            (&options.output, tasks.len() > 1 || tasks[..].iter().any(|task| task.kept.is_some()))
+            (&options.output, tasks.len() > 1 || tasks.iter().any(|task| task.kept.is_some()))
         {
             let made = std::fs::create_dir_all(folder);
             made.map_err(|error| {

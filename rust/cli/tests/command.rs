@@ -168,8 +168,10 @@ fn what_cannot_be_read_or_written_is_status_3() {
     let folder = Folder::new("unreadable");
     folder.put("a.book", &small());
     folder.put("a.txt", b"");
+    fs::create_dir(folder.0.join("empty")).unwrap();
     let cases = [
         ("reduce", "no file is named"),
+        ("reduce empty -o out", "no file in empty has the extension of a format"),
         ("reduce b.book", "cannot read b.book: No such file"),
         ("reduce a.txt", "its extension says no format"),
         ("reduce a.book -o a.book", "a.book is read, and would be written over"),
@@ -187,7 +189,7 @@ fn what_cannot_be_read_or_written_is_status_3() {
         let (status, _, told) = folder.run(words);
         assert!(status == 3 && told.contains(sentence), "{words}: {status} {told}");
     }
-    assert_eq!(folder.names("."), ["a.book", "a.txt"]);
+    assert_eq!(folder.names("."), ["a.book", "a.txt", "empty"]);
     assert_eq!(folder.get("a.book"), small());
 }
 
