@@ -15,8 +15,11 @@ pub const COMMAND: Command = Command {
     about: "write a model in another format, unchanged",
     options: &["-o", "--output", "--from", "--to"],
     run: |options| {
-        if options.output.is_none() || options.inputs.len() != 1 || options.inputs[0].is_dir() {
-            return Err(Failure::Unreadable("convert takes one file and -o OUT".to_string()));
+        let one = options.inputs.len() == 1 && !options.inputs[0].is_dir();
+        if !one || options.output.as_ref().is_none_or(|path| path.is_dir()) {
+            return Err(Failure::Unreadable(
+                "convert takes one file and -o OUT, a file".to_string(),
+            ));
         }
         let tasks = tasks(options)?;
         let inputs: Vec<_> = tasks.iter().map(|task| (task.input.clone(), task.clone())).collect();

@@ -78,7 +78,7 @@ impl Numbers {
 
     pub fn explain(&self, refusal: Refusal, names: &Names) -> Failure {
         let found = match refusal {
-            Refusal::SizeOutOfRange => Some(self.size()),
+            Refusal::SizeOutOfRange => Some(size(self.bounds.len() / 2, self.rhs.len())),
             Refusal::BoundOutOfRange => self.bound(names),
             Refusal::BoundsCrossed => self.crossed(names),
             Refusal::VariableTooWide => self.wide(names),
@@ -87,14 +87,6 @@ impl Numbers {
             _ => None,
         };
         Failure::by_check(refusal, found.unwrap_or_else(|| reason(refusal)))
-    }
-
-    fn size(&self) -> String {
-        let (n, m) = (self.bounds.len() / 2, self.rhs.len());
-        let (variables, rows) = (counted(n, "variable"), counted(m, "row"));
-        format!(
-            "{variables} and {rows}, at most {MAX_VARIABLES} and {MAX_ROWS} (a range is two rows)"
-        )
     }
 
     fn bound(&self, names: &Names) -> Option<String> {
@@ -141,6 +133,12 @@ impl Numbers {
         let row = &names.rows[index];
         Some(format!("row {row} has the right-hand side {value}, at most 1,000,000,000 up or down"))
     }
+}
+
+/// What is said of too many, or no, variables, or too many rows.
+pub fn size(n: usize, m: usize) -> String {
+    let (variables, rows) = (counted(n, "variable"), counted(m, "row"));
+    format!("{variables} and {rows}, at most {MAX_VARIABLES} and {MAX_ROWS} (a range is two rows)")
 }
 
 /// The wrapper's own words, without the number that it puts before them.

@@ -21,14 +21,21 @@ pub fn shown_output(path: &Path) -> String {
     if is_stream(path) { "standard output".to_string() } else { path.display().to_string() }
 }
 
+/// No file of any format here is as long: a book of the largest model has 62,960 bytes.
+const LONGEST: u64 = 64 << 20;
+
 pub fn read(path: &Path) -> Result<Vec<u8>, Failure> {
-    let mut bytes = Vec::new();
-    let done = match is_stream(path) {
-        true => io::stdin().lock().read_to_end(&mut bytes).map(|_| ()),
-        false => fs::read(path).map(|read| bytes = read),
+    let failed = |error| Failure::Unreadable(format!("cannot read {}: {error}", shown(path)));
+    let source: Box<dyn Read> = match is_stream(path) {
+        true => Box::new(io::stdin().lock()),
+        false => Box::new(File::open(path).map_err(failed)?),
     };
-    done.map_err(|error| Failure::Unreadable(format!("cannot read {}: {error}", shown(path))))?;
-    Ok(bytes)
+    let mut bytes = Vec::new();
+    source.take(LONGEST + 1).read_to_end(&mut bytes).map_err(failed)?;
+    match bytes.len() as u64 > LONGEST {
+        true => Err(failed(io::Error::other("it is over 64 MiB, which no model here is"))),
+        false => Ok(bytes),
+    }
 }
 
 pub fn write(path: &Path, bytes: &[u8]) -> Result<(), Failure> {
@@ -52,6 +59,10 @@ pub fn beside(path: &Path) -> PathBuf {
 }
 
 fn write_and_rename(path: &Path, bytes: &[u8]) -> io::Result<()> {
+    // A device or a pipe is written as it is: a rename would put a file in its place.
+    if fs::metadata(path).is_ok_and(|about| !about.is_file() && !about.is_dir()) {
+        return File::options().write(true).open(path)?.write_all(bytes);
+    }
     let part = beside(path);
     let done = File::create_new(&part)
         .and_then(|mut file| file.write_all(bytes).and_then(|()| file.sync_all()))

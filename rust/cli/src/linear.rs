@@ -2,9 +2,9 @@
 //!
 //! Nothing is rounded. What the library has no place for is refused with a sentence that names the row or the column.
 
-use crate::explain::{Names, Numbers, grouped};
+use crate::explain::{Names, Numbers, grouped, size};
 use crate::failure::Failure;
-use astrolabe::{Model, RowKind};
+use astrolabe::{MAX_ROWS, MAX_VARIABLES, Model, Refusal, RowKind};
 
 #[derive(Clone, Debug, PartialEq)]
 pub struct Column {
@@ -156,6 +156,11 @@ impl Rows {
 /// The model that a file states, or why it is none.
 pub fn place(linear: &Linear) -> Result<Placed, Failure> {
     let n = linear.columns.len();
+    // Before a buffer is made, since a file may be of any size.
+    let m = linear.rows.iter().map(|line| sides(line).len()).sum();
+    if n > MAX_VARIABLES || m > MAX_ROWS {
+        return Err(Failure::by_check(Refusal::SizeOutOfRange, size(n, m)));
+    }
     let names =
         Names { columns: linear.columns.iter().map(|c| c.name.clone()).collect(), rows: vec![] };
     let mut rows = Rows { n, numbers: Numbers::default(), names, kinds: vec![], origins: vec![] };

@@ -60,7 +60,8 @@ fn is_reduced(path: &Path) -> bool {
 /// What is to be done: one file to one, or many into a folder.
 pub fn tasks(options: &Options) -> Result<Vec<Task>, Failure> {
     let inputs = inputs(options)?;
-    let many = inputs.len() > 1 || options.inputs.iter().any(|path| path.is_dir());
+    let folders = options.inputs.iter().chain(&options.output).any(|path| path.is_dir());
+    let many = inputs.len() > 1 || folders;
     let task =
         |input: &PathBuf| if many { into_folder(input, options) } else { alone(input, options) };
     let tasks = inputs.iter().map(task).collect::<Result<Vec<_>, _>>()?;

@@ -115,6 +115,20 @@ fn streams_are_read_and_written() {
 }
 
 #[test]
+fn a_device_stays_a_device_and_a_folder_gets_the_file() {
+    let folder = Folder::new("device");
+    folder.put("a.book", &small());
+    let (status, _, error) = folder.run("reduce a.book -o /dev/null --to book");
+    assert_eq!((status, error.as_str()), (0, ""));
+    assert!(!fs::metadata("/dev/null").unwrap().is_file());
+    fs::create_dir(folder.0.join("out")).unwrap();
+    assert_eq!(folder.run("reduce a.book -o out").0, 0);
+    assert_eq!(folder.names("out"), ["a.book", "a.reduced.book"]);
+    let (status, _, error) = folder.run("reduce /dev/zero --from book -o b.book");
+    assert!(status == 3 && error.contains("over 64 MiB"), "{error}");
+}
+
+#[test]
 fn none_writes_nothing_and_is_status_1() {
     let folder = Folder::new("none");
     folder.put("a.book", &none());
@@ -388,7 +402,13 @@ mod with_glpk {
                 "Minimize\n {objective}\nSubject To\n r1: {row}\nBounds\n {bounds}\nGenerals\n {integers}\nEnd\n"
             )
         };
+        let long = (0..3_000).map(|j| format!("x{j}")).collect::<Vec<_>>().join(" +\n");
         let cases = [
+            (
+                model("x0", &format!("{long} <= 4"), "x0 <= 3", "x0"),
+                2,
+                "refused 3: 3,000 variables and 1 row, at most 128 and 120",
+            ),
             (model("x", "x + y <= 4", "x <= 3", "x"), 2, "refused: column y is continuous"),
             (model("x", "x + y <= 4", "x <= 3", "x y"), 2, "refused: column y has no upper bound"),
             (
