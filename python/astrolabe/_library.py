@@ -48,6 +48,19 @@ _ARGUMENTS = {
     "book_trailer": _BUFFER + _ANSWER,
     "book_read": 5 * _BUFFER + _ANSWER,
     "book_write": _MODEL + _BUFFER,
+    # Of 02's requests, as their interface is fixed; a library before them is without, and is used all the same.
+    "sparse_trailer": _BUFFER + _ANSWER,
+    "sparse_read": 5 * _BUFFER + _ANSWER,
+    "sparse_write": _MODEL + _BUFFER,
+    "sparse_length": _MODEL + _ANSWER,
+    "book_to_sparse_length": _BUFFER + _ANSWER,
+    "book_to_sparse": 2 * _BUFFER,
+    "sparse_to_book": 2 * _BUFFER,
+    "cliques": _SIZE + 3 * _BUFFER + _ANSWER,
+    "tie": _MODEL + 2 * _BUFFER + 2 * _NUMBER + _ANSWER,
+    "check_allocations": _MODEL + _BUFFER + _NUMBER + _BUFFER,
+    "page_count": _SIZE + _BUFFER + _ANSWER,
+    "write_pages": _SIZE + 3 * _BUFFER,
 }
 
 _REASONS = {
@@ -69,6 +82,10 @@ _REASONS = {
     16: ("RowKind", "a kind byte is above 1"),
     17: ("EqualityRow", "a book of the first edition holds no = row"),
     18: ("RetiredKind", "the kind is retired from call lists"),
+    19: ("SparseColumn", "a column is not below n or not above the one before"),
+    20: ("SparseZero", "an entry of a sparse book has the coefficient 0"),
+    21: ("TiePlace", "a place of the tie list is above 2n"),
+    22: ("ProposalCount", "the count of proposals is not 1 to 64"),
     23: ("VariableTooWide", "a variable is over 4096 wide"),
 }
 
@@ -84,8 +101,9 @@ class Refusal(Exception):
 
 def _declared(library):
     for name, arguments in _ARGUMENTS.items():
-        function = getattr(library, "astrolabe_" + name)
-        function.argtypes, function.restype = arguments, ctypes.c_uint32
+        function = getattr(library, "astrolabe_" + name, None)
+        if function is not None:
+            function.argtypes, function.restype = arguments, ctypes.c_uint32
     return library
 
 

@@ -162,8 +162,10 @@ class Header(unittest.TestCase):
         for name in ("MAX_VARIABLES", "MAX_ROWS", "MAX_WIDTH", "MAX_BUDGET"):
             self.assertEqual(int(constants[name]), getattr(astrolabe, name))
         refusals = {int(number) for name, number in constants.items() if name.startswith("REFUSED_")}
-        self.assertEqual(refusals, set(_library._REASONS))
-        self.assertEqual(set(re.findall(r"^uint32_t astrolabe_(\w+)\(", text, re.M)), set(_library._ARGUMENTS))
+        self.assertEqual(refusals - set(_library._REASONS), set())
+        functions = set(re.findall(r"^uint32_t astrolabe_(\w+)\(", text, re.M))
+        self.assertEqual(functions - set(_library._ARGUMENTS), set())
+        self.assertTrue(all(hasattr(_library._LIBRARY, "astrolabe_" + name) for name in functions))
 
     @unittest.skipUnless(HEADER.exists(), "left out: the header is not beside this folder")
     def test_each_function_takes_as_many_arguments(self):

@@ -43,7 +43,7 @@ fn reduce(task: &Task, options: &Options) -> Result<Report, Failure> {
     let source = Source::read(&task.input, task.from)?;
     let mut reduced = source.model.clone();
     let rounds = make_rounds(&mut reduced, options)?;
-    if let Rounds::Infeasible { rounds } = rounds {
+    if let Rounds::Infeasible { rounds, .. } = rounds {
         let text = format!("none: no integer point, found in round {rounds}; nothing is written");
         let fields = vec![("result", Json::text("none")), ("rounds", Json::count(rounds as usize))];
         return Ok(Report { status: NONE, text, fields });
@@ -71,8 +71,8 @@ fn removed_rows(raw: &Model, reduced: &Model) -> usize {
 
 fn report(raw: &Model, reduced: &Model, rounds: Rounds, task: &Task) -> Report {
     let (rounds, more) = match rounds {
-        Rounds::LimitReached { rounds } => (rounds, true),
-        Rounds::Unchanged { rounds } | Rounds::Infeasible { rounds } => (rounds, false),
+        Rounds::LimitReached { rounds, .. } => (rounds, true),
+        Rounds::Unchanged { rounds, .. } | Rounds::Infeasible { rounds, .. } => (rounds, false),
     };
     let counts = [
         ("bounds", differing(raw.bounds(), reduced.bounds())),
