@@ -35,8 +35,9 @@ pub const COMMAND: Command = Command {
 /// As many rounds as the program `reduce` makes, if no other number is asked for. (With C-20 there is no limit.)
 const ROUNDS: u32 = 8;
 
+#[allow(clippy::useless_conversion)] // the limit has 64 bits with C-20
 pub fn make_rounds(model: &mut Model, options: &Options) -> Result<Rounds, Failure> {
-    model.rounds(options.rounds.unwrap_or(ROUNDS)).map_err(refused)
+    model.rounds(options.rounds.unwrap_or(ROUNDS).into()).map_err(refused)
 }
 
 fn reduce(task: &Task, options: &Options) -> Result<Report, Failure> {
