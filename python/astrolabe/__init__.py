@@ -35,6 +35,7 @@ __all__ = ["Call", "Counts", "Model", "Probe", "Propagation", "Refusal", "Rest",
 __all__ += ["MAX_BUDGET", "MAX_ROWS", "MAX_VARIABLES", "MAX_WIDTH", "VERSION", "book_size", "plan"]
 
 MAX_VARIABLES, MAX_ROWS, MAX_WIDTH, MAX_BUDGET = 128, 120, 4_096, 8_388_481
+NO_LIMIT = 2**64 - 1
 AT_MOST, EQUAL = 0, 1
 
 
@@ -80,9 +81,10 @@ class Counts(NamedTuple):
 
 
 class Rounds(NamedTuple):
-    """`ending` is infeasible, unchanged or limit_reached."""
+    """`ending` is infeasible, unchanged or limit_reached; `spent` says whether a probe's side was spent in the last round."""
     ending: str
     rounds: int
+    spent: bool
 
 
 class Row(NamedTuple):
@@ -274,17 +276,17 @@ class Model:
         places = call("run", *self._model(), *self._table.pair, *Call.lent(calls).pair)
         return Counts(*places[:4])
 
-    def rounds(self, limit):
+    def rounds(self, limit=NO_LIMIT):
         """Makes the rounds of the program `reduce`, at most `limit` of them.
 
         >>> model = Model([0, 1, 0, 1], [3, 2], [4])  # 3x + 2y <= 4
         >>> model.rounds(8), list(model.coefs), list(model.rhs)  # x + y <= 1
-        (Rounds(ending='unchanged', rounds=2), [1, 1], [1])
+        (Rounds(ending='unchanged', rounds=2, spent=False), [1, 1], [1])
         """
-        if not 0 <= limit < 2**32:
-            raise ValueError("a limit is 0 to 4,294,967,295")
-        case, rounds, *_ = call("rounds", *self._model(), *self._table.pair, limit)
-        return Rounds(("infeasible", "unchanged", "limit_reached")[case], rounds)
+        if not 0 <= limit <= NO_LIMIT:
+            raise ValueError("a limit is a number of 64 bits")
+        case, rounds, spent, *_ = call("rounds", *self._model(), *self._table.pair, limit)
+        return Rounds(("infeasible", "unchanged", "limit_reached")[case], rounds, spent == 1)
 
 
 def _bytes_of(kinds):

@@ -11,7 +11,7 @@ pub struct Options {
     pub output: Option<PathBuf>,
     pub from: Option<Format>,
     pub to: Option<Format>,
-    pub rounds: Option<u32>,
+    pub rounds: Option<u64>,
     pub calls: Option<PathBuf>,
     pub jobs: usize,
     pub json: bool,

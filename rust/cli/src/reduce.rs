@@ -9,7 +9,7 @@ use crate::options::Options;
 use crate::places::{Task, tasks};
 use crate::report::Report;
 use crate::source::Source;
-use astrolabe::{Model, Rounds};
+use astrolabe::{Model, NO_LIMIT, Rounds};
 
 pub const COMMAND: Command = Command {
     name: "reduce",
@@ -32,12 +32,9 @@ pub const COMMAND: Command = Command {
     },
 };
 
-/// As many rounds as the program `reduce` makes, if no other number is asked for. (With C-20 there is no limit.)
-const ROUNDS: u32 = 8;
-
-#[allow(clippy::useless_conversion)] // the limit has 64 bits with C-20
+/// The rounds of the program `reduce`, with no limit if none is asked for.
 pub fn make_rounds(model: &mut Model, options: &Options) -> Result<Rounds, Failure> {
-    model.rounds(options.rounds.unwrap_or(ROUNDS).into()).map_err(refused)
+    model.rounds(options.rounds.unwrap_or(NO_LIMIT)).map_err(refused)
 }
 
 fn reduce(task: &Task, options: &Options) -> Result<Report, Failure> {
