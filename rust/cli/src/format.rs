@@ -6,16 +6,18 @@ use std::path::Path;
 
 #[derive(Clone, Copy, Debug, PartialEq, Eq)]
 pub enum Format {
-    /// A book of the first edition. (A sparse book, C-18, is one more line here and in `source.rs`.)
+    /// A book of the first edition.
     Book,
+    /// A sparse book, with = rows too.
+    Sparse,
     /// MPS, fixed or free.
     Mps,
     /// CPLEX LP.
     Lp,
 }
 
-const NAMES: [(&str, Format); 3] =
-    [("book", Format::Book), ("mps", Format::Mps), ("lp", Format::Lp)];
+const NAMES: [(&str, Format); 4] =
+    [("book", Format::Book), ("sparse", Format::Sparse), ("mps", Format::Mps), ("lp", Format::Lp)];
 
 impl Format {
     pub fn extension(self) -> &'static str {

@@ -73,7 +73,7 @@ fn start() -> Result<u8, Failure> {
 
 const NOTES: &str = "\
 IN is a file, a folder, or - for standard input; OUT a file, for many files a folder, or - for standard output.
-F is book, mps or lp; without it the extension decides. mps and lp need a build with GLPK.
+F is book, sparse, mps or lp; without it the extension decides. mps and lp need a build with GLPK.
 --rounds N   at most N rounds          --jobs N   N files at a time
 --json       one object a line         --help     this
 

@@ -101,6 +101,6 @@ mod tests {
         assert_eq!(told[0], "no option --rounds here; --help lists those there are");
         assert_eq!(told[1], "-o wants a word after it");
         assert_eq!(told[2], "--jobs wants a number, not many");
-        assert_eq!(told[3], "xls is no format; there are book, mps, lp");
+        assert_eq!(told[3], "xls is no format; there are book, sparse, mps, lp");
     }
 }

@@ -24,22 +24,33 @@ impl Source {
     pub fn read(path: &Path, format: Format) -> Result<Self, Failure> {
         match format {
             Format::Book => Source::of_book(&files::read(path)?),
+            Format::Sparse => Source::of_sparse_book(&files::read(path)?),
             Format::Mps | Format::Lp => Source::of_problem(path, format),
         }
     }
 
     pub fn of_book(book: &[u8]) -> Result<Self, Failure> {
-        let trailer = &book[book.len().saturating_sub(16)..];
-        let (n, m) = book_size(trailer).unwrap_or((0, 0));
+        let (n, m) = book_size(last_bytes(book)).unwrap_or((0, 0));
         let names = Names::numbered(n, m);
         let model =
             Model::from_book(book).map_err(|refusal| of_book_refused(book, refusal, &names))?;
-        Ok(Source {
+        Ok(Source::numbered(model))
+    }
+
+    fn of_sparse_book(book: &[u8]) -> Result<Self, Failure> {
+        let model = Model::from_sparse_book(book).map_err(|refusal| of_any_book(book, refusal))?;
+        Ok(Source::numbered(model))
+    }
+
+    /// A model from a book, which has no names.
+    fn numbered(model: Model) -> Self {
+        let names = Names::numbered(model.n(), model.m());
+        Source {
             model,
             names,
             #[cfg(glpk)]
             problem: None,
-        })
+        }
     }
 
     #[cfg(glpk)]
@@ -66,6 +77,7 @@ impl Source {
     /// The file of the reduced model (or of the model itself) in a format.
     pub fn bytes(&self, reduced: &Model, format: Format) -> Result<Vec<u8>, Failure> {
         match format {
+            Format::Sparse => reduced.to_sparse_book().map_err(crate::explain::refused),
             Format::Book => {
                 reduced.to_book().map_err(|refusal| self.not_in_a_book(refusal, reduced))
             }
@@ -92,7 +104,9 @@ impl Source {
                 let name = &self.names.rows[row];
                 Failure::by_check(
                     refusal,
-                    format!("row {name} is an = row, and a book of the first edition holds none"),
+                    format!(
+                        "row {name} is an = row, and a book of the first edition holds none; a sparse one does"
+                    ),
                 )
             }
             _ => crate::explain::refused(refusal),
@@ -102,21 +116,31 @@ impl Source {
 
 /// The layout was accepted where a number is at fault, so the numbers can be read.
 fn of_book_refused(book: &[u8], refusal: Refusal, names: &Names) -> Failure {
-    let length = grouped_length(book);
-    match refusal {
-        Refusal::BookTooShort => {
-            Failure::by_check(refusal, format!("{length}, and the trailer alone has 16"))
-        }
-        Refusal::BookLengthMismatch => Failure::by_check(
-            refusal,
-            format!("{length}, and its trailer says another number: is it a book, and whole?"),
-        ),
-        Refusal::SizeOutOfRange => Failure::by_check(
-            refusal,
-            "the book's variables are not 1 to 128, or its rows over 120".to_string(),
-        ),
+    let refused = of_any_book(book, refusal);
+    match refusal.check() {
+        1..=4 => refused,
         _ => Numbers::of_book(book, names.columns.len(), names.rows.len()).explain(refusal, names),
     }
+}
+
+/// What can be said of a book of either edition without its numbers.
+fn of_any_book(book: &[u8], refusal: Refusal) -> Failure {
+    let length = grouped_length(book);
+    let sentence = match refusal {
+        Refusal::BookTooShort => format!("{length}, and the trailer alone has 16"),
+        Refusal::BookLengthMismatch => {
+            format!("{length}, and its trailer says another number: is it a book, and whole?")
+        }
+        Refusal::SizeOutOfRange => {
+            "the book's variables are not 1 to 128, or its rows over 120".to_string()
+        }
+        _ => return crate::explain::refused(refusal),
+    };
+    Failure::by_check(refusal, sentence)
+}
+
+fn last_bytes(book: &[u8]) -> &[u8] {
+    &book[book.len().saturating_sub(16)..]
 }
 
 fn grouped_length(book: &[u8]) -> String {

@@ -129,6 +129,22 @@ fn a_device_stays_a_device_and_a_folder_gets_the_file() {
 }
 
 #[test]
+fn a_book_becomes_sparse_and_is_itself_again() {
+    let folder = Folder::new("sparse");
+    folder.put("a.book", &small());
+    for words in
+        ["convert a.book -o a.sparse", "convert a.sparse -o b.book", "reduce a.sparse -o c.book"]
+    {
+        let (status, _, error) = folder.run(words);
+        assert_eq!(status, 0, "{words}: {error}");
+    }
+    assert_eq!((folder.get("b.book"), folder.get("c.book")), (small(), small_reduced()));
+    assert_eq!(folder.get("a.sparse"), astrolabe::book_to_sparse(&small()).unwrap());
+    let (status, _, error) = folder.run("reduce a.book --from sparse -o d.book");
+    assert!(status == 2 && error.contains("refused "), "{error}");
+}
+
+#[test]
 fn none_writes_nothing_and_is_status_1() {
     let folder = Folder::new("none");
     folder.put("a.book", &none());
@@ -381,9 +397,10 @@ mod with_glpk {
         assert_eq!((folder.get("c.book"), folder.get("e.book")), (small(), small()));
         folder.put("n.lp", &example("notice.lp"));
         let (status, _, error) = folder.run("convert n.lp -o n.book");
-        let sentence =
-            "refused 17: row tons is an = row, and a book of the first edition holds none";
+        let sentence = "refused 17: row tons is an = row, and a book of the first edition holds none; a sparse one does";
         assert!(status == 2 && error.contains(sentence), "{error}");
+        assert_eq!(folder.run("convert n.lp -o n.sparse").0, 0);
+        assert!(folder.run("solve n.sparse").1.contains("the same three times"));
     }
 
     #[test]
