@@ -6,6 +6,7 @@
 // What only MPS, LP and solve need is there all the same, and tested, where the command is built without GLPK.
 #![cfg_attr(not(glpk), allow(dead_code))]
 
+mod check;
 mod command;
 mod convert;
 mod explain;
@@ -29,7 +30,8 @@ use command::{Command, print_line};
 use failure::Failure;
 use std::process::ExitCode;
 
-const COMMANDS: [Command; 4] = [reduce::COMMAND, plan::COMMAND, convert::COMMAND, solve::COMMAND];
+const COMMANDS: [Command; 5] =
+    [reduce::COMMAND, check::COMMAND, plan::COMMAND, convert::COMMAND, solve::COMMAND];
 
 fn main() -> ExitCode {
     let status = start().unwrap_or_else(|failure| {

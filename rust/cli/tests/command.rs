@@ -145,6 +145,36 @@ fn a_book_becomes_sparse_and_is_itself_again() {
 }
 
 #[test]
+fn proposals_are_held_against_the_model() {
+    let folder = Folder::new("check");
+    folder.put("a.book", &small()); // 3 x0 + 2 x1 ≤ 4
+    folder.put("a.csv", b"1,0\n0, 2\n\n1,1\n");
+    let (status, told, _) = folder.run("check a.book a.csv");
+    let lines = "a.csv:1: inside\na.csv:2: outside: x1 is 2, from 0 to 1\n\
+                 a.csv:4: breaks row r0: its sum is 5, at most 4\n";
+    assert_eq!((status, told.as_str()), (1, lines));
+    folder.put("b.csv", b"x1,x0\n0,1\n".as_slice());
+    assert_eq!(
+        folder.run("check a.book b.csv"),
+        (0, "b.csv:2: inside\n".to_string(), String::new())
+    );
+    let many = "1,0\n".repeat(200);
+    folder.put("m.csv", many.as_bytes());
+    assert_eq!(folder.run("check a.book m.csv --json").1.matches("\"inside\"").count(), 200);
+    for (text, sentence) in [
+        ("x0,y\n1,1\n", "the model has no variable y"),
+        ("x0,x0\n1,1\n", "the variable x0 has two columns"),
+        ("x0\n1\n", "there is no column for the variable x1"),
+        ("1\n", "1 numbers, and the model has 2 variables"),
+        ("1,0\n1,99999999999\n", "a.csv:2: 99999999999 is no whole number of 32 bits"),
+    ] {
+        folder.put("a.csv", text.as_bytes());
+        let (status, _, error) = folder.run("check a.book a.csv");
+        assert!(status == 3 && error.contains(sentence), "{text}: {error}");
+    }
+}
+
+#[test]
 fn none_writes_nothing_and_is_status_1() {
     let folder = Folder::new("none");
     folder.put("a.book", &none());
