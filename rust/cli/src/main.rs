@@ -12,6 +12,7 @@ mod convert;
 mod explain;
 mod failure;
 mod files;
+mod floor;
 mod format;
 #[cfg(glpk)]
 mod glpk;
@@ -30,8 +31,14 @@ use command::{Command, print_line};
 use failure::Failure;
 use std::process::ExitCode;
 
-const COMMANDS: [Command; 5] =
-    [reduce::COMMAND, check::COMMAND, plan::COMMAND, convert::COMMAND, solve::COMMAND];
+const COMMANDS: [Command; 6] = [
+    reduce::COMMAND,
+    check::COMMAND,
+    floor::COMMAND,
+    plan::COMMAND,
+    convert::COMMAND,
+    solve::COMMAND,
+];
 
 fn main() -> ExitCode {
     let status = start().unwrap_or_else(|failure| {

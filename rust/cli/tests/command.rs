@@ -175,6 +175,22 @@ fn proposals_are_held_against_the_model() {
 }
 
 #[test]
+fn pages_for_the_floor() {
+    let folder = Folder::new("floor");
+    folder.put("a.book", &small());
+    let (status, pages, told) = folder.run("floor a.book");
+    assert_eq!((status, told.as_str()), (0, "a.book: 1 page -> standard output\n"));
+    let lines: Vec<&str> = pages.lines().map(str::trim_end).collect();
+    assert_eq!((lines.len(), lines[1]), (60, "     0       0       1 -1")); // x0 is 1: x1 is 0
+    assert_eq!(folder.run("floor a.book -o a.pages").0, 0);
+    assert_eq!(folder.get("a.pages"), pages.as_bytes());
+    assert_eq!(folder.run("floor a.book -o a.book").0, 3);
+    folder.put("n.book", &none());
+    assert_eq!(folder.run("floor n.book -o n.pages").0, 1);
+    assert_eq!(folder.names("."), ["a.book", "a.pages", "n.book"]);
+}
+
+#[test]
 fn none_writes_nothing_and_is_status_1() {
     let folder = Folder::new("none");
     folder.put("a.book", &none());
