@@ -1,5 +1,5 @@
-//! `astrolabe solve`: GLPK's branch and cut on the raw model, on the reduced one, and on the reduced one with propagation at
-//! every node, side by side. The optimum must be the same three times.
+//! `astrolabe solve`: GLPK's branch and cut on the raw model, on the reduced one, on that with clique rows, and on the
+//! reduced one with propagation at every node, side by side. The optimum must be the same four times.
 
 use crate::command::Command;
 #[cfg(glpk)]
@@ -32,7 +32,7 @@ fn run(options: &crate::options::Options) -> Result<u8, Failure> {
 
 #[cfg(glpk)]
 mod with_glpk {
-    use crate::explain::grouped;
+    use crate::explain::{grouped, refused};
     use crate::failure::{DONE, Failure, NONE};
     use crate::files;
     use crate::format::Format;
@@ -47,7 +47,8 @@ mod with_glpk {
     use std::fmt::Write;
     use std::path::Path;
 
-    const WAYS: [&str; 3] = ["raw", "reduced at the root", "reduced at every node"];
+    const WAYS: [&str; 4] =
+        ["raw", "reduced at the root", "with clique rows", "reduced at every node"];
 
     pub fn solve(path: &Path, options: &Options) -> Result<Report, Failure> {
         let source = Source::read(path, Format::of(path, options.from)?)?;
@@ -60,16 +61,21 @@ mod with_glpk {
             return if agreed { Ok(none(&[search])) } else { Err(disagreement(path)) };
         }
         let (before, after) = (source.problem_of(raw), source.problem_of(&reduced));
-        let searches =
-            [before.search(None)?, after.search(None)?, after.search(Some(reduced.shared_rows()))?];
+        let cliques = reduced.cliques().map_err(refused)?;
+        let searches = [
+            before.search(None)?,
+            after.search(None)?,
+            after.with_cliques(&cliques).search(None)?,
+            after.search(Some(reduced.shared_rows()))?,
+        ];
         let linear = before.linear();
         let values = searches.each_ref().map(|search| value(search, raw, &linear));
         match values {
-            [Ok(None), Ok(None), Ok(None)] => Ok(none(&searches)),
-            [Ok(Some(first)), Ok(Some(second)), Ok(Some(third))]
-                if near(first, second) && near(first, third) =>
+            [Ok(None), Ok(None), Ok(None), Ok(None)] => Ok(none(&searches)),
+            [Ok(Some(first)), Ok(Some(second)), Ok(Some(third)), Ok(Some(fourth))]
+                if [second, third, fourth].iter().all(|&other| near(first, other)) =>
             {
-                write_solution(&searches[2], &linear, options)?;
+                write_solution(&searches[3], &linear, options)?;
                 Ok(report(&searches, first, &linear))
             }
             _ => Err(disagreement(path)),
@@ -134,10 +140,10 @@ mod with_glpk {
         Report { status: NONE, text: "none: no integer point".to_string(), fields }
     }
 
-    fn report(searches: &[Search; 3], optimum: f64, linear: &Linear) -> Report {
+    fn report(searches: &[Search; 4], optimum: f64, linear: &Linear) -> Report {
         let direction = if linear.maximize { "maximum" } else { "minimum" };
         let mut text = format!(
-            "{direction} {optimum}, the same three times, each point checked against the raw model\n"
+            "{direction} {optimum}, the same four times, each point checked against the raw model\n"
         );
         let _ = write!(text, "  {:24}{:>14}{:>12}{:>10}", "", "relaxation", "nodes", "seconds");
         for (way, search) in WAYS.iter().zip(searches) {

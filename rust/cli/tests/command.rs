@@ -446,7 +446,7 @@ mod with_glpk {
         let sentence = "refused 17: row tons is an = row, and a book of the first edition holds none; a sparse one does";
         assert!(status == 2 && error.contains(sentence), "{error}");
         assert_eq!(folder.run("convert n.lp -o n.sparse").0, 0);
-        assert!(folder.run("solve n.sparse").1.contains("the same three times"));
+        assert!(folder.run("solve n.sparse").1.contains("the same four times"));
     }
 
     #[test]
@@ -523,7 +523,7 @@ mod with_glpk {
             folder.put("a.mps", &fs::read(mps.join(format!("{name}.mps"))).unwrap());
             let (status, told, error) = folder.run("solve a.mps -o a.sol");
             println!("{name}: {told}");
-            let words = [&format!("minimum {optimum}, the same three times"), raw, reduced];
+            let words = [&format!("minimum {optimum}, the same four times"), raw, reduced];
             assert!(status == 0 && words.iter().all(|word| told.contains(*word)), "{told} {error}");
             assert!(!folder.get("a.sol").is_empty());
         }

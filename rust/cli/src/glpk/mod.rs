@@ -7,7 +7,7 @@ use crate::failure::Failure;
 use crate::files;
 use crate::format::Format;
 use crate::linear::{Column, Line, Linear, Origin, Side, Written, rewritten};
-use astrolabe::{Model, RowKind};
+use astrolabe::{Clique, Model, RowKind};
 use std::cell::RefCell;
 use std::collections::BTreeMap;
 use std::ffi::{CStr, CString, c_char, c_int, c_void};
@@ -343,6 +343,17 @@ impl Problem {
             unsafe {
                 ffi::glp_del_rows(problem.prob, removed.len() as c_int - 1, removed.as_ptr())
             };
+        }
+        problem
+    }
+
+    /// The problem with clique rows added, which every integer point meets.
+    pub fn with_cliques(&self, cliques: &[Clique]) -> Self {
+        let mut problem = self.clone();
+        for (number, clique) in cliques.iter().enumerate() {
+            let row = problem.add_row(&format!("clique{number}"));
+            let (coefs, bound) = (clique.coefs.clone(), clique.rhs);
+            problem.set_row(row, &Written { side: Side::AtMost, coefs, bound });
         }
         problem
     }
