@@ -30,8 +30,10 @@ from typing import NamedTuple
 from . import plan
 from ._library import TRAILER_LEN, VERSION, Lent, Refusal, call, call_without_answer
 from .calls import Call
+from .ties import Ties
 
-__all__ = ["Call", "Counts", "Model", "Probe", "Propagation", "Refusal", "Rest", "Rounds", "Row", "RowPropagation", "Side"]
+__all__ = ["Call", "Clique", "Counts", "Model", "Probe", "Propagation", "Refusal", "Rest", "Rounds", "Row", "RowPropagation", "Side"]
+__all__ += ["Ties", "Verdict", "book_to_sparse", "sparse_size", "sparse_to_book"]
 __all__ += ["MAX_BUDGET", "MAX_ROWS", "MAX_VARIABLES", "MAX_WIDTH", "VERSION", "book_size", "plan"]
 
 MAX_VARIABLES, MAX_ROWS, MAX_WIDTH, MAX_BUDGET = 128, 120, 4_096, 8_388_481
@@ -87,6 +89,19 @@ class Rounds(NamedTuple):
     spent: bool
 
 
+class Clique(NamedTuple):
+    """A row that says that at most one of some literals is true."""
+    coefs: list
+    rhs: int
+
+
+class Verdict(NamedTuple):
+    """What a proposal gets: inside; or outside at the lowest variable; or the lowest row that it breaks."""
+    inside: bool
+    variable: int | None = None
+    row: int | None = None
+
+
 class Row(NamedTuple):
     """`kind` is 0 for a <= row and 1 for an = row."""
     coefs: list
@@ -103,6 +118,36 @@ def book_size(trailer):
     """
     places = call("book_trailer", *Lent(trailer, "B", written=False).pair)
     return places[0], places[1]
+
+
+def sparse_size(trailer):
+    """n and m of a sparse book, from the 16 bytes of its trailer."""
+    places = call("sparse_trailer", *Lent(trailer, "B", written=False).pair)
+    return places[0], places[1]
+
+
+def book_to_sparse(book):
+    """Turns a book of the first edition into a sparse one; sparse_to_book gives back the same bytes."""
+    lent = Lent(book, "B", written=False)
+    sparse = bytearray(call("book_to_sparse_length", *lent.pair)[0])
+    call_without_answer("book_to_sparse", *lent.pair, *Lent(sparse, "B").pair)
+    return bytes(sparse)
+
+
+def sparse_to_book(sparse):
+    """Turns a sparse book whose rows are all <= rows into one of the first edition."""
+    n, m = _size_or_none(sparse_size, sparse)
+    book = bytearray(8 * n + m * (4 + 4 * n) + TRAILER_LEN)
+    call_without_answer("sparse_to_book", *Lent(sparse, "B", written=False).pair, *Lent(book, "B").pair)
+    return bytes(book)
+
+
+def _size_or_none(size, book):
+    """n and m of the book's trailer; 0 and 0 where it is refused: then the book's own checks, which come first, say why."""
+    try:
+        return size(bytes(memoryview(book)[-TRAILER_LEN:]))
+    except Refusal:
+        return 0, 0
 
 
 class Model:
@@ -134,19 +179,31 @@ class Model:
         ... except Refusal as refusal: print(refusal.check, refusal.name)
         1 BookTooShort
         """
+        return cls._read("book_read", book_size, book)
+
+    @classmethod
+    def from_sparse_book(cls, book):
+        """Reads a sparse book, = rows too."""
+        return cls._read("sparse_read", sparse_size, book)
+
+    @classmethod
+    def _read(cls, name, size, book):
         lent = Lent(book, "B", written=False)
-        try:
-            n, m = book_size(bytes(memoryview(book)[-TRAILER_LEN:]))
-        except Refusal:
-            n, m = 0, 0  # reading into empty buffers then says by which check of the book's own order
+        n, m = _size_or_none(size, book)
         buffers = [Lent([0] * count, "i") for count in (2 * n, m * n, m)] + [Lent(bytearray(m), "B")]
-        call("book_read", *lent.pair, *(number for buffer in buffers for number in buffer.pair))
+        call(name, *lent.pair, *(number for buffer in buffers for number in buffer.pair))
         return cls(*(buffer.owner for buffer in buffers))
 
     def to_book(self):
         """The bytes of the model's book; a model with an = row has none of the first edition."""
         book = bytearray(8 * self.n + self.m * (4 + 4 * self.n) + TRAILER_LEN)
         call_without_answer("book_write", *self._model(), *Lent(book, "B").pair)
+        return bytes(book)
+
+    def to_sparse_book(self):
+        """The bytes of the model's sparse book, = rows too."""
+        book = bytearray(call("sparse_length", *self._model())[0])
+        call_without_answer("sparse_write", *self._model(), *Lent(book, "B").pair)
         return bytes(book)
 
     def _model(self):
@@ -275,6 +332,36 @@ class Model:
         """
         places = call("run", *self._model(), *self._table.pair, *Call.lent(calls).pair)
         return Counts(*places[:4])
+
+    def cliques(self):
+        """The clique rows of the implication table; every integer point meets them."""
+        coefs, rhs = Lent([0] * (2 * self.n * self.n), "i"), Lent([0] * (2 * self.n), "i")
+        number = call("cliques", self.n, *self._table.pair, *coefs.pair, *rhs.pair)[0]
+        flat = list(coefs.owner)
+        return [Clique(flat[i * self.n:(i + 1) * self.n], rhs.owner[i]) for i in range(number)]
+
+    def tie(self, ties, k, j):
+        """Puts variable j away, where the table says that it is k or 1 - k: 'tied', and `ties` says so; else 'unchanged'."""
+        places = Lent(ties.places, "H")
+        return (None, "tied", "unchanged")[call("tie", *self._model(), *self._table.pair, *places.pair, k, j)[0]]
+
+    def check_allocations(self, proposals):
+        """Holds up to 64 proposals, each a number for each variable, against the model."""
+        flat = Lent([number for proposal in proposals for number in proposal], "i", written=False)
+        told = Lent([0] * (2 * len(proposals)), "I")
+        call_without_answer("check_allocations", *self._model(), *flat.pair, len(proposals), *told.pair)
+        pairs = zip(told.owner[::2], told.owner[1::2])
+        return [(Verdict(True), Verdict(False, variable=i), Verdict(False, row=i))[case] for case, i in pairs]
+
+    def page_count(self):
+        """The number of pages for the floor."""
+        return call("page_count", self.n, *self._table.pair)[0]
+
+    def pages(self):
+        """The bounds and what each variable implies at 1, as pages of 60 lines of ASCII text."""
+        pages = bytearray(4_860 * self.page_count())
+        call_without_answer("write_pages", self.n, *self._bounds.pair, *self._table.pair, *Lent(pages, "B").pair)
+        return bytes(pages)
 
     def rounds(self, limit=NO_LIMIT):
         """Makes the rounds of the program `reduce`, at most `limit` of them.

@@ -113,7 +113,7 @@ _LIBRARY = _declared(_load())
 class Lent:
     """A buffer of numbers of one size, lent as it is: the caller's memory is what the library reads and writes.
 
-    `code` is array's: i for 32 bits with a sign, I without, B for bytes. A list, a tuple or a range is put into an array
+    `code` is array's: i for 32 bits with a sign, I without, H for 16, B for bytes. A list, a tuple or a range is put into an array
     first. Whatever has the buffer protocol (array, bytearray, memoryview, numpy) is taken without copying, if its numbers
     have that size and stand one after another. What cannot be written (bytes) is taken only where `written` is false.
     """
@@ -133,7 +133,7 @@ class Lent:
 
     @staticmethod
     def _formats(code):
-        return {"i": ("i", "l"), "I": ("I", "L"), "B": ("B", "b", "?", "c")}[code]
+        return {"i": ("i", "l"), "I": ("I", "L"), "H": ("H",), "B": ("B", "b", "?", "c")}[code]
 
     def _kept(self, view):
         """What ctypes passes as the pointer. It keeps the memory alive as long as it is an argument itself."""

@@ -7,7 +7,7 @@ from array import array
 from pathlib import Path
 
 import astrolabe
-from astrolabe import Call, Model, Refusal, _library, calls, plan
+from astrolabe import Call, Model, Refusal, Ties, _library, calls, plan, ties
 
 try:
     import numpy
@@ -18,7 +18,7 @@ HEADER = Path(__file__).resolve().parents[2] / "include" / "astrolabe.h"
 
 
 def load_tests(loader, tests, pattern):
-    for module in (astrolabe, calls, plan):
+    for module in (astrolabe, calls, plan, ties):
         tests.addTests(doctest.DocTestSuite(module, optionflags=doctest.IGNORE_EXCEPTION_DETAIL))
     return tests
 
@@ -147,6 +147,49 @@ class Calls(unittest.TestCase):
         self.assertEqual(list(model.bounds), [0, 2])
         self.assertEqual(model.remove_redundant_row(0), "changed")
         self.assertTrue(Model([0, 2], [0], [0]).is_probing_fixpoint().yes)
+
+
+class Requests(unittest.TestCase):
+    """The calls of 02's later requests."""
+
+    def test_sparse_books(self):
+        model = Model([0, 1] * 3, [1, 2, 0], [2], [1])
+        book = model.to_sparse_book()
+        self.assertEqual((len(book), Model.from_sparse_book(book) == model), (8 * 3 + 7 + 2 * 6 + 16, True))
+        self.assertEqual(check_of(lambda: astrolabe.sparse_to_book(book)), 17)
+        first = Model([0, 1, 0, 1], [3, 0], [4]).to_book()
+        self.assertEqual(astrolabe.sparse_to_book(astrolabe.book_to_sparse(first)), first)
+        self.assertEqual(check_of(lambda: Model.from_sparse_book(b"short")), 1)
+
+    def test_cliques(self):
+        model = Model([0, 1] * 3, [1, 1, 0, 1, 0, 1, 0, 1, 1], [1, 1, 1])
+        self.assertEqual(model.cliques(), [])
+        for variable in range(3):
+            model.probe(variable, 1_000)
+        self.assertEqual(model.cliques(), [([1, 1, 1], 1)])
+
+    def test_ties(self):
+        model = Model([0, 1] * 3, [1, -1, 0, 2, 3, 1], [0, 5], [1, 0])
+        model.probe(0, 1_000)
+        tied = Ties(model.n)
+        self.assertEqual((model.tie(tied, 0, 1), list(model.coefs)), ("tied", [0, 0, 0, 5, 0, 1]))
+        self.assertEqual((tied.literal(1), tied.expand([1, 0, 0])), ((0, True), [1, 1, 0]))
+        self.assertEqual(model.tie(tied, 0, 1), "unchanged")
+        with self.assertRaises(ValueError):
+            Ties(array("H", [0, 6, 4])).expand([0, 0, 0])
+
+    def test_allocations(self):
+        model = Model([0, 1, 0, 1], [3, 2], [4])
+        verdicts = model.check_allocations([[1, 0], [0, 2], [1, 1]])
+        self.assertEqual(verdicts, [(True, None, None), (False, 1, None), (False, None, 0)])
+        self.assertEqual(check_of(lambda: model.check_allocations([[0, 0]] * 65)), 22)
+        self.assertEqual(check_of(lambda: model.check_allocations([[0]])), 5)
+
+    def test_pages(self):
+        model = Model([0, 1, 0, 1], [1, 1], [1])
+        model.rounds(8)
+        lines = model.pages().decode("ascii").splitlines()
+        self.assertEqual((model.page_count(), len(lines), lines[1].rstrip()), (1, 60, "     0       0       1 -1"))
 
 
 class Header(unittest.TestCase):
