@@ -63,8 +63,8 @@ fn next_one(part: &[u8], q: usize) -> usize
     i
 }
 
-// The first literal from byte q of the variable's part of the table on, or six spaces where there is none. The answer is
-// where the next would be looked for.
+// The first literal from byte q of the variable's part of the table on, or six spaces where there is none. The answer
+// is where the next would be looked for.
 fn write_slot(part: &[u8], q: usize, buf: &mut [u8], at: usize) -> usize
     requires { ⌜ (length (now part) ≤ 256) × (q ≤ length (now part)) ⌝ }
     requires { ⌜ at + 6 ≤ length (now buf) ⌝ }
