@@ -1,12 +1,12 @@
 -- Laws of `convert`: which edition an input is, and what its bytes come to, by what the calls answer. Assumes nothing.
-use Prim.Native.Nat.{_<_, _≤_, ℕ}
+use Prim.Native.Nat.{_*_, _<_, _≤_, ℕ}
 use borrow.Author.Tests.{eq-eqb, le-leb, lt-leb, ne-eqb}
 use lib.Dec.{T, eqb, leb}
 use lib.ListN.{length, length-append, take}
 use lib.Seq.{take-at}
-use mathlib.Core.Bool.{Bool, _&&_}
-use mathlib.Core.List.{List, _++_, _∷_}
-use mathlib.Core.Logic.{⊎-elim}
+use mathlib.Core.Bool.{Bool, _&&_, _||_, false, true}
+use mathlib.Core.List.{List, [], _++_, _∷_}
+use mathlib.Core.Logic.{_⊎_, inl, inr, ⊎-elim}
 use mathlib.Core.Path.{_∙_, _≡_, ap, refl, sym}
 use native.Mathlib.Decide.{decLt, ℕ-discrete}
 use native.Mathlib.Omega.{arith}
@@ -15,8 +15,8 @@ use Rattle.model.specs.Checks.{first, must, sizeChecks}
 use Rattle.model.specs.Limits.{maxRows, maxVariables}
 use Rattle.model.proofs.CheckLaws.{fails, first-stop, first-zero-append, past, size-test}
 use Rattle.book.specs.Answers.{Answer, refused, sizesAre, unless, written}
-use Rattle.book.specs.Book.{bookLength, decode, lengthGiven, modelIn, rows, trailerOf, variables}
-use Rattle.book.specs.BookChecks.{bookChecks, bookFault, givenLengthChecks, headChecks, layoutChecks, modelNumberChecks}
+use Rattle.book.specs.Book.{bookLength, boundsOffset, decode, lengthGiven, modelIn, rows, rowsOffset, trailerOf, variables}
+use Rattle.book.specs.BookChecks.{bookChecks, bookFault, givenLengthChecks, headChecks, layoutChecks, modelNumberChecks, offsetChecks}
 use Rattle.book.proofs.AcceptLaws.{head-numbered, head-test}
 use Rattle.book.proofs.AnswerLaws.{accepted-by, becomes, refused-by}
 use Rattle.intake.specs.Checks.{headCall}
@@ -24,9 +24,12 @@ use Rattle.intake.specs.Intake.{Held}
 use Rattle.intake.proofs.CheckLaws.{accepted}
 use Rattle.report.specs.Report.{refusedLine}
 use Rattle.sparse_layout.specs.SparseBook.{decodeSparse, sparseLength, sparseModelIn}
+use Rattle.sparse_layout.specs.SparseChecks.{sparseFault}
 use Rattle.sparse_layout.specs.SparseTrips.{toFirst, toSparse}
+use Rattle.sparse_layout.proofs.SparseAcceptLaws.{SparseHead, sparse-test}
 use Rattle.sparse_layout.proofs.SparseEncodeLaws.{sparseLength-below}
 use Rattle.sparse.specs.SparseCalls.{bytesAre, bytesUnless, refusedLength, toFirstCall, toFirstChecks, toFirstFault, toFirstWritten, toSparseChecks, toSparseFault, toSparseLengthCall, toSparseWritten}
+use Rattle.convert.specs.Answers.{Framed}
 use Rattle.convert.specs.Output.{bookUnless, firstEdition, isSparse, maxSparse, output, sparseEdition, toFirstNumber}
 
 pub book-when : {fault : ℕ} → fault ≡ 0 → (book : List ℕ) → book ≡ bookUnless fault book
@@ -103,7 +106,7 @@ never-written : (k : ℕ) → refused k ≡ written → ⊥
 never-written k e = let z : _≡_ {A = ℕ} 0 1 = cc in omega arith
 
 module _ (bs cs : List ℕ) (l : length cs ≡ bookLength (variables (trailerOf bs)) (rows (trailerOf bs))) where
-  pub same-fault : toFirstFault bs cs ≡ toFirstNumber bs
+  same-fault : toFirstFault bs cs ≡ toFirstNumber bs
   unfolding toFirstFault toFirstNumber decodeSparse sparseModelIn
   same-fault = ap (λ (k : ℕ). first (toFirstChecks bs k)) l
 
@@ -125,8 +128,7 @@ module _ (bs cs : List ℕ) (l : length cs ≡ bookLength (variables (trailerOf 
       go (no n) = absurd (never-written (toFirstFault bs cs) (refused-by refl n written ∙ sym e))
 
 -- bytes that the first edition refuses by 4 have a trailer, and n and m within their limits
-pub other-edition : (bs : List ℕ) → first (headChecks bs) ≡ 4
-    → (16 ≤ length bs) × (variables (trailerOf bs) ≤ 128) × (rows (trailerOf bs) ≤ 120)
+pub other-edition : (bs : List ℕ) → first (headChecks bs) ≡ 4 → Framed bs
 unfolding headChecks givenLengthChecks layoutChecks sizeChecks
 other-edition bs e = go (decLt (length bs) 16)
   where
@@ -149,41 +151,76 @@ other-edition bs e = go (decLt (length bs) 16)
         (λ h. absurd (let z : 2 ≡ first (givenLengthChecks t (length bs) ++ layoutChecks t) = fails g 2 _ (T→false g h) in let w : ⊥ = omega arith in w))
         (decide g)
 
-    go : Dec (length bs < 16) → (16 ≤ length bs) × (variables t ≤ 128) × (rows t ≤ 120)
+    go : Dec (length bs < 16) → Framed bs
     go (yes k) =
         let z : 1 ≡ first (headChecks bs) = fails _ 1 _ (lt-leb 16 (length bs) k) in
         absurd (let w : ⊥ = omega arith in w)
     go (no k) =
         let f = past _ 1 _ (le-leb 16 (length bs) (omega arith)) refl ∙ e in
         let h = size-test (variables t) (rows t) .0 (sized (whole f)) in
-        (omega arith, h .1, h .2)
+        record { long = omega arith; few = h .1; fewRows = h .2 }
+
+-- so have those that it does not refuse so far
+pub first-framed : (bs : List ℕ) → first (headChecks bs) ≡ 0 → Framed bs
+first-framed bs e = let h = head-test bs .0 e in record { long = h .long; few = h .layout .few; fewRows = h .layout .fewRows }
+
+-- a sparse book's head passes 1 to 3 of the first edition, which has the offsets and the length left to check
+past-three : (bs : List ℕ) → SparseHead bs → {r : ℕ} → r ≡ first (offsetChecks (trailerOf bs)) → r ≡ first (headChecks bs)
+unfolding headChecks givenLengthChecks layoutChecks sizeChecks
+past-three bs h e =
+    let t = trailerOf bs in
+    let s = T→true _ (size-test (variables t) (rows t) .1 (h .some, h .few, h .fewRows)) in
+    past _ 1 _ (le-leb 16 (length bs) (h .long)) (past _ 2 _ (eq-eqb _ _ (h .whole)) (past _ 3 _ s e))
+
+-- so an accepted one is not refused by the first edition's head, or by 4
+sparse-head : (bs : List ℕ) → sparseFault bs ≡ 0 → (first (headChecks bs) ≡ 0) ⊎ (first (headChecks bs) ≡ 4)
+unfolding offsetChecks first
+sparse-head bs z =
+    let t = trailerOf bs in
+    let h = sparse-test bs .0 z .0 .head in
+    let o = eqb (boundsOffset t) 0 && eqb (rowsOffset t) (8 * variables t) && eqb (lengthGiven t) (bookLength (variables t) (rows t)) in
+    ⊎-elim (λ k. inl (sym (past-three bs h (past o 4 [] (T→true o k) refl)))) (λ k. inr (sym (past-three bs h (fails o 4 [] (T→false o k))))) (decide o)
 
 -- ---- which edition it is
 
 module _ (bs : List ℕ) where
-  pub not-sparse : (first (headChecks bs) ≡ 4 → ⊥) → output bs ≡ sparseEdition bs
+  -- neither accepted as sparse nor refused by 4
+  pub first-input : (sparseFault bs ≡ 0 → ⊥) → (first (headChecks bs) ≡ 4 → ⊥) → output bs ≡ sparseEdition bs
   unfolding output isSparse
-  not-sparse n = rw (ne-eqb (first (headChecks bs)) 4 n)
+  first-input k n = rw (ne-eqb (sparseFault bs) 0 k, ne-eqb (first (headChecks bs)) 4 n)
+
+  -- refused by another number than 4
+  pub not-sparse : (first (headChecks bs) ≡ 0 → ⊥) → (first (headChecks bs) ≡ 4 → ⊥) → output bs ≡ sparseEdition bs
+  not-sparse k n = first-input (λ z. ⊎-elim k n (sparse-head bs z)) n
 
   pub long-input : maxSparse < length bs → output bs ≡ sparseEdition bs
   unfolding output isSparse
-  long-input h = go (ℕ-discrete (first (headChecks bs)) 4)
+  long-input h = rw (lt-leb (length bs) maxSparse h, neither (eqb (sparseFault bs) 0 || eqb (first (headChecks bs)) 4))
     where
-      go : Dec (first (headChecks bs) ≡ 4) → output bs ≡ sparseEdition bs
-      go (yes e) = rw (eq-eqb (first (headChecks bs)) 4 e, lt-leb (length bs) maxSparse h)
-      go (no n) = rw (ne-eqb (first (headChecks bs)) 4 n)
+      neither : (b : Bool) → (b && false) ≡ false
+      neither true = refl
+      neither false = refl
 
   pub sparse-input : first (headChecks bs) ≡ 4 → length bs ≤ maxSparse → output bs ≡ firstEdition bs
   unfolding output isSparse
-  sparse-input e h = rw (eq-eqb (first (headChecks bs)) 4 e, le-leb (length bs) maxSparse h)
+  sparse-input e h = rw (eq-eqb (first (headChecks bs)) 4 e, le-leb (length bs) maxSparse h, either (eqb (sparseFault bs) 0))
+    where
+      either : (b : Bool) → (b || true) ≡ true
+      either true = refl
+      either false = refl
+
+  pub accepted-input : sparseFault bs ≡ 0 → length bs ≤ maxSparse → output bs ≡ firstEdition bs
+  unfolding output isSparse
+  accepted-input z h = rw (eq-eqb (sparseFault bs) 0 z, le-leb (length bs) maxSparse h)
 
   -- refused by its head: that is the number of the book
-  pub head-refused : (number : ℕ) → refused number ≡ headCall bs → (number ≡ first (headChecks bs)) × (refusedLine number ≡ sparseEdition bs)
+  pub head-refused : (number : ℕ) → refused number ≡ headCall bs
+      → (number ≡ first (headChecks bs)) × (first (headChecks bs) ≡ 0 → ⊥) × (refusedLine number ≡ sparseEdition bs)
   unfolding headCall sparseEdition bookFault bookChecks
   head-refused number e =
       let r = refused-fault (first (headChecks bs)) number _ (never number) e in
       let f : bookFault bs ≡ first (headChecks bs) = first-stop (headChecks bs) (modelNumberChecks (decode bs)) (r .1) in
-      (r .0, refused-when (r .0 ∙ sym f) (λ z. r .1 (sym f ∙ z)) (toSparse bs))
+      (r .0, r .1, refused-when (r .0 ∙ sym f) (λ z. r .1 (sym f ∙ z)) (toSparse bs))
     where
       never : (k : ℕ) {n m : ℕ} → refused k ≡ sizesAre n m → ⊥
       never k e = let z : _≡_ {A = ℕ} 0 1 = cc in omega arith

@@ -2,13 +2,14 @@
 use Prim.Native.Nat.{ℕ}
 use lib.Dec.{eqb, leb}
 use lib.ListN.{length}
-use mathlib.Core.Bool.{Bool, _&&_, cond}
+use mathlib.Core.Bool.{Bool, _&&_, _||_, cond}
 use mathlib.Core.List.{List}
 use Rattle.model.specs.Checks.{first}
 use Rattle.book.specs.Book.{bookLength}
 use Rattle.book.specs.BookChecks.{bookFault, headChecks}
 use Rattle.report.specs.Report.{refusedLine}
 use Rattle.sparse_layout.specs.SparseBook.{decodeSparse}
+use Rattle.sparse_layout.specs.SparseChecks.{sparseFault}
 use Rattle.sparse_layout.specs.SparseTrips.{toFirst, toSparse}
 use Rattle.sparse.specs.SparseCalls.{toFirstChecks}
 
@@ -16,10 +17,11 @@ use Rattle.sparse.specs.SparseCalls.{toFirstChecks}
 abbrev pub maxSparse : ℕ
 maxSparse = 94_040
 
--- Which edition it is, is told by the trailer's check 4 (D-53): bytes that the first edition refuses by 4, and that are no longer than a
--- sparse book can be, are sparse. All others are of the first edition; with no rows both editions are the same bytes.
+-- Which edition it is (D-53): bytes that the sparse edition accepts are sparse, and so are those that the first refuses by check 4, if they
+-- are no longer than a sparse book can be; an accepted one never is (`accepted-is-sparse`). All others are of the first edition. With no
+-- rows both editions are the same bytes.
 unfoldable pub isSparse : List ℕ → Bool
-isSparse bs = eqb (first (headChecks bs)) 4 && leb (length bs) maxSparse
+isSparse bs = (eqb (sparseFault bs) 0 || eqb (first (headChecks bs)) 4) && leb (length bs) maxSparse
 
 -- a book, or `refused N` where a check fails
 unfoldable pub bookUnless : ℕ → List ℕ → List ℕ

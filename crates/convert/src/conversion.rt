@@ -11,17 +11,18 @@ use sparse::conversion::to_first;
 use sparse::conversion::to_sparse;
 use sparse::conversion::to_sparse_length;
 use sparse::writing::LengthAnswer;
+use sparse_layout::reading::layout_fault;
+use sparse_layout::reading::number_fault;
 ghost use mathlib.Core.Path.{_≡_};
 ghost use mathlib.Core.List.{List};
 ghost use Prim.Native.Nat.{ℕ};
 ghost use lib.ListN.{length};
-ghost use Rattle.book.specs.BookChecks.{headChecks};
 ghost use Rattle.intake.specs.Intake.{Held};
-ghost use Rattle.model.specs.Checks.{first};
-ghost use Rattle.convert.specs.Answers.{Fits, answerBytes};
+ghost use Rattle.sparse_layout.specs.SparseChecks.{sparseFault};
+ghost use Rattle.convert.specs.Answers.{Fits, Framed, answerBytes};
 ghost use Rattle.convert.specs.Output.{firstEdition, maxSparse, output, sparseEdition};
 
-// The check of the first edition that tells a sparse book from one of the first.
+// What the first edition refuses by this check is read as a sparse book.
 const OTHER_EDITION: u32 = 4;
 
 pub enum Answer {
@@ -29,6 +30,19 @@ pub enum Answer {
     Refused(u32),
     // The book of the other edition stands at the start of the buffer, and has so many bytes.
     Book(usize),
+}
+
+// All checks of a sparse book: the number of the first that fails, else 0.
+fn sparse_fault(book: &[u8]) -> u32
+    ensures { λ r. ⌜ r ≡ sparseFault (now (book .entry)) ⌝ }
+{
+    let layout = layout_fault(book);
+    if layout != 0 {
+        return layout;
+    }
+    let n = trailer_u16(book, VARIABLES);
+    let m = trailer_u16(book, ROWS);
+    number_fault(n, m, book)
 }
 
 // The sparse edition of a first-edition book.
@@ -46,9 +60,9 @@ fn sparse_edition(from: &[u8], to: &mut [u8]) -> Answer
     }
 }
 
-// The first edition of a sparse book: of bytes that the first edition refuses by 4.
+// The first edition of a sparse book.
 fn first_edition(from: &[u8], to: &mut [u8]) -> Answer
-    requires { ⌜ (first (headChecks (now from)) ≡ 4) × (maxSparse ≡ length (now to)) ⌝ }
+    requires { ⌜ Framed (now from) × (maxSparse ≡ length (now to)) ⌝ }
     ensures bytes { λ r. ⌜ answerBytes r (now (to .exit)) ≡ firstEdition (now (from .entry)) ⌝ }
     ensures fits { λ r. ⌜ Fits r (now (to .exit)) ⌝ }
 {
@@ -60,7 +74,8 @@ fn first_edition(from: &[u8], to: &mut [u8]) -> Answer
 }
 
 // The book of the other edition of an input of `len` bytes that ends in `tail`; where it is no longer than `start`,
-// `start` begins with it. Nothing of a longer input is converted: no book is as long.
+// `start` begins with it. What passes check 4 of the first edition is of the first, unless the sparse edition accepts
+// it. Nothing of a longer input is converted: no book is as long.
 pub fn convert(start: &[u8], tail: &[u8], len: usize, to: &mut [u8]) -> Answer
     requires { ⌜ (maxSparse ≡ length (now start)) × (maxSparse ≡ length (now to)) ⌝ }
     requires { ⌜ ((bs : List ℕ) × Held bs (now start) (now tail) len) ⌝ }
@@ -78,5 +93,9 @@ pub fn convert(start: &[u8], tail: &[u8], len: usize, to: &mut [u8]) -> Answer
         }
         return first_edition(&start[..len], to);
     }
-    sparse_edition(&start[..len], to)
+    let book = &start[..len];
+    if sparse_fault(book) == 0 {
+        return first_edition(book, to);
+    }
+    sparse_edition(book, to)
 }

@@ -12,7 +12,7 @@ ghost use Rattle.pages.specs.PageChecks.{countChecks, lentChecks, pageChecks};
 ghost use Rattle.page_call.specs.Answers.{countAnswer, countCall, pagesAfter, pagesAnswer, pagesCall};
 
 // The bytes of a page: 60 lines of 80 columns and a line feed each.
-const PAGE: usize = 4_860;
+pub const PAGE: usize = 4_860;
 
 pub enum CountAnswer {
     // By the number of the first check that fails.

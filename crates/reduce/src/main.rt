@@ -1,10 +1,12 @@
 // The program `reduce` (01, "Book"; 02, C-20): a book on standard input, rounds until one changes nothing, or None, and
 // what is left of the model.
+use reduce_book::output::Form;
 use reduce_book::program;
 use rounds::NO_LIMIT;
 ghost use mathlib.Core.Bool.{true};
 ghost use mathlib.Core.Path.{_≡_};
 ghost use Rattle.reduce_book.specs.Answers.{Printed};
+ghost use Rattle.reduce_book.specs.declared.output.Form.the-variants.{Report};
 ghost use Rattle.rounds.specs.NoLimit.{noLimit};
 
 fn main() {
@@ -15,7 +17,7 @@ fn main() {
 // True where the whole text was printed.
 fn print_reduced(printed: &mut usize) -> bool
     requires { ⌜ now printed ≡ 0 ⌝ }
-    ensures { λ r. ⌜ (r ≡ true → Printed noLimit (now (printed .exit))) ⌝ }
+    ensures { λ r. ⌜ (r ≡ true → Printed Report noLimit (now (printed .exit))) ⌝ }
 {
-    program(NO_LIMIT, printed)
+    program(Form::Report, NO_LIMIT, printed)
 }

@@ -1,8 +1,10 @@
 // The program `reduce8` (02, C-20): `reduce` with at most 8 rounds, as it was before.
+use reduce_book::output::Form;
 use reduce_book::program;
 ghost use mathlib.Core.Bool.{true};
 ghost use mathlib.Core.Path.{_≡_};
 ghost use Rattle.reduce_book.specs.Answers.{Printed};
+ghost use Rattle.reduce_book.specs.declared.output.Form.the-variants.{Report};
 
 const ROUNDS: u64 = 8;
 
@@ -14,7 +16,7 @@ fn main() {
 // True where the whole text was printed.
 fn print_reduced(printed: &mut usize) -> bool
     requires { ⌜ now printed ≡ 0 ⌝ }
-    ensures { λ r. ⌜ (r ≡ true → Printed 8 (now (printed .exit))) ⌝ }
+    ensures { λ r. ⌜ (r ≡ true → Printed Report 8 (now (printed .exit))) ⌝ }
 {
-    program(ROUNDS, printed)
+    program(Form::Report, ROUNDS, printed)
 }

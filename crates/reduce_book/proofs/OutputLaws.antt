@@ -28,10 +28,11 @@ use Rattle.semantics.specs.TwoRuns.{Demand3, EveryModelHandedIn, HandedIn, Narr
 use Rattle.semantics.proofs.Demand3.{demand-3, handed-in}
 use Rattle.semantics.proofs.Preserved.{run-preserves}
 use Rattle.reduce_book.specs.Meaning.{Implied, NonePrinted, OutputMeans, Reported}
-use Rattle.reduce_book.specs.Output.{output, roundsText, stateRead, textOf, zeros}
+use Rattle.reduce_book.specs.Output.{outputAs, roundsText, stateRead, textOf, zeros}
+use Rattle.reduce_book.specs.declared.output.Form.{Form}
 
 -- the model of an accepted book is handed in
-book-handed-in : (bs : List ℕ) → bookFault bs ≡ 0 → HandedIn (stateRead bs)
+pub book-handed-in : (bs : List ℕ) → bookFault bs ≡ 0 → HandedIn (stateRead bs)
 unfolding stateRead zeros EveryModelHandedIn
 book-handed-in bs e =
     let M = decode bs in
@@ -93,15 +94,15 @@ implication s left h i b =
 
 -- ---- the text of the rounds
 
-text-means : (s left : State) (a : RoundsAnswer) → ((number : ℕ) → a ≡ refusedRounds number → ⊥) → SamePoints s left a
+text-means : (form : Form) (s left : State) (a : RoundsAnswer) → ((number : ℕ) → a ≡ refusedRounds number → ⊥) → SamePoints s left a
     → ((i : ℕ) → i < 4 * (left .model .n * left .model .n) → (implicationAt (left .model .n) (left .table) i ≡ []) ⊎ Implied s left i)
-    → NonePrinted s (textOf a left) ⊎ Reported s (textOf a left)
+    → NonePrinted s (textOf form a left) ⊎ Reported form s (textOf form a left)
 unfolding textOf
-text-means s left (refusedRounds number) n p l = absurd (n number refl)
-text-means s left (ended infeasible k b) n p l = inl (record { printed = refl; noPoint = p .noPoint k b refl })
-text-means s left (ended nothingChanged k b) n p l =
+text-means form s left (refusedRounds number) n p l = absurd (n number refl)
+text-means form s left (ended infeasible k b) n p l = inl (record { printed = refl; noPoint = p .noPoint k b refl })
+text-means form s left (ended nothingChanged k b) n p l =
     inr (record { left = left; rounds = k; printed = refl; points = p .points; fractional = p .fractional; implications = l })
-text-means s left (ended atLimit k b) n p l =
+text-means form s left (ended atLimit k b) n p l =
     inr (record { left = left; rounds = k; printed = refl; points = p .points; fractional = p .fractional; implications = l })
 
 -- the rounds of a model handed in are not refused
@@ -113,17 +114,17 @@ not-refused : (limit : ℕ) (s : State) → HandedIn s → (number : ℕ) → ru
 unfolding runRounds roundsFault
 not-refused limit s g number e = subst Refused (sym (rw (g .accepted) at e)) tt
 
-rounds-text : (limit : ℕ) (s : State) → HandedIn s → NonePrinted s (roundsText limit s) ⊎ Reported s (roundsText limit s)
+rounds-text : (form : Form) (limit : ℕ) (s : State) → HandedIn s → NonePrinted s (roundsText form limit s) ⊎ Reported form s (roundsText form limit s)
 unfolding roundsText Demand3 Narrows run
-rounds-text limit s g =
+rounds-text form limit s g =
     let cs = runRounds limit s .calls in
     let d : TwoRuns s cs [] [] = demand-3 s cs [] [] g tt tt in
-    text-means s (run s cs) (runRounds limit s .answer) (not-refused limit s g) (rounds-mean limit s) (implication s (run s cs) (rw (run-preserves s cs .sizes .0) (d .implied1)))
+    text-means form s (run s cs) (runRounds limit s .answer) (not-refused limit s g) (rounds-mean limit s) (implication s (run s cs) (rw (run-preserves s cs .sizes .0) (d .implied1)))
 
-pub output-means : (limit : ℕ) (bs : List ℕ) → OutputMeans limit bs
-unfolding output
-output-means limit bs = record {
+pub output-means : (form : Form) (limit : ℕ) (bs : List ℕ) → OutputMeans form limit bs
+unfolding outputAs
+output-means form limit bs = record {
   refused = λ n. rw (ne-eqb (bookFault bs) 0 n);
   handedIn = book-handed-in bs;
-  answered = λ e. rw (eq-eqb (bookFault bs) 0 e) (rounds-text limit (stateRead bs) (book-handed-in bs e));
+  answered = λ e. rw (eq-eqb (bookFault bs) 0 e) (rounds-text form limit (stateRead bs) (book-handed-in bs e));
 }

@@ -1,21 +1,14 @@
--- Laws of what is printed: of a text that stands in a buffer each byte, and of a report each chunk after the other.
+-- Laws of what is printed of a report: each chunk after the other.
 use Prim.Native.Nat.{_+_, _≤_, ℕ}
-use lib.ListN.{length, length-append, take}
-use lib.Seq.{length-take-le}
+use lib.ListN.{length, length-append}
 use mathlib.Core.List.{List}
 use mathlib.Core.Path.{_∙_, _≡_, ap, sym}
 use native.Mathlib.Omega.{arith}
 use Rattle.model.specs.Limits.{maxRows, maxVariables}
 use Rattle.report.specs.Report.{lineCount}
-use Rattle.text.specs.Text.{Wrote, chunk}
-use Rattle.text.proofs.TextLaws.{chunk-chunk, wrote-length}
+use Rattle.text.specs.Text.{chunk}
+use Rattle.text.proofs.TextLaws.{chunk-chunk}
 use Rattle.reduce_book.proofs.ReductionLaws.{table-fits}
-
--- the part of a buffer up to the end of a text is as long as the text
-pub written-length : {old text new : List ℕ} {end : ℕ} → Wrote old 0 text end new → length (take end new) ≡ length text
-written-length {old} {text} {new} {end} w =
-    let l : end ≤ length new = omega (arith, w .fits, wrote-length w) in
-    length-take-le end new l ∙ omega (arith, w .end)
 
 -- the chunks up to a and from there to b
 pub chunks-length : (f : ℕ → List ℕ) (a b : ℕ) → a ≤ b → length (chunk f 0 a) + length (chunk f a b) ≡ length (chunk f 0 b)

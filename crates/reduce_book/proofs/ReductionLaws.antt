@@ -3,7 +3,7 @@
 use Prim.Native.Nat.{_*_, _+_, _-_, _≤_, ℕ}
 use borrow.Author.Tests.{eq-eqb, ne-eqb}
 use lib.IntN.{ℤ}
-use lib.ListN.{length, length-append, length-replicate, replicate, replicate-append-replicate, take}
+use lib.ListN.{length, length-replicate, replicate, replicate-append-replicate, take}
 use lib.Seq.{length-take-le, take-at}
 use mathlib.Core.List.{List, _++_}
 use mathlib.Core.Path.{_∙_, _≡_, ap, refl, sym}
@@ -18,15 +18,28 @@ use Rattle.book.specs.Book.{decode, modelIn, rows, trailerOf, variables}
 use Rattle.book.specs.BookChecks.{bookChecks, bookFault, headChecks, modelNumberChecks, readChecks}
 use Rattle.book.proofs.AcceptLaws.{head-numbered}
 use Rattle.book.proofs.AnswerLaws.{accepted-by, becomes, refused-by}
-use Rattle.intake.specs.Checks.{TooLong, headCall}
+use Rattle.bytes.specs.Bytes.{Bytes}
+use Rattle.intake.specs.Checks.{headCall}
 use Rattle.intake.specs.Intake.{Held}
 use Rattle.intake.proofs.CheckLaws.{accepted}
-use Rattle.report.specs.Report.{refusedLine}
-use Rattle.model.specs.State.{stateOf}
+use Rattle.pages.specs.Page.{Paper}
+use Rattle.pages.proofs.PageLaws.{paper-valid}
+use Rattle.report.specs.Report.{Printable, refusedLine}
+use Rattle.streams.specs.Input.{RefusedSoFar}
+use Rattle.model.specs.State.{State, stateOf}
 use Rattle.model.specs.Model.{modelOf}
 use Rattle.model.specs.Rows.{Rows, rowsOf}
-use Rattle.reduce_book.specs.Answers.{Ready, RefusedSoFar, Sized}
-use Rattle.reduce_book.specs.Output.{output, roundsText, stateRead, zeros}
+use Rattle.model.specs.Valid.{ValidState}
+use Rattle.rounds.specs.Rounds.{runRounds}
+use Rattle.semantics.specs.Run.{run}
+use Rattle.semantics.proofs.Accepted.{handed-in-valid}
+use Rattle.semantics.proofs.Preserved.{run-preserves}
+use Rattle.reduce_book.specs.Answers.{Leaves, Ready, Sized}
+use Rattle.reduce_book.specs.Output.{outputAs, roundsText, stateRead, zeros}
+use Rattle.reduce_book.specs.declared.output.Form.{Form}
+use Rattle.reduce_book.specs.declared.reduction.Answer.{Answer}
+use Rattle.reduce_book.specs.declared.reduction.Answer.the-variants as answers
+use Rattle.reduce_book.proofs.OutputLaws.{book-handed-in}
 
 -- what is refused is refused by the fault
 refused-fault : (fault number p q : ℕ) → refused number ≡ unless fault (sizesAre p q) → (number ≡ fault) × (fault ≡ 0 → ⊥)
@@ -63,9 +76,9 @@ module _ {n m : ℕ} {bs : List ℕ} {B : List ℤ} {A : Rows} {t : List ℕ} (h
       ∙ sym (first-go (headChecks bs) numbers (head-numbered bs) head)
 
   -- reading is refused: so is the book
-  pub refused-output : (limit number : ℕ) → refused number ≡ readCall bs B A → refusedLine number ≡ output limit bs
-  unfolding readCall output
-  refused-output limit number e =
+  pub refused-output : (form : Form) (limit number : ℕ) → refused number ≡ readCall bs B A → refusedLine number ≡ outputAs form limit bs
+  unfolding readCall outputAs
+  refused-output form limit number e =
       let r = refused-fault (readFault bs B A) number _ _ e in
       let k : bookFault bs ≡ 0 → ⊥ = λ z. r .1 (read-fault ∙ z) in
       rw (ne-eqb (bookFault bs) 0 k) (ap refusedLine (r .0 ∙ read-fault))
@@ -76,9 +89,9 @@ module _ {n m : ℕ} {bs : List ℕ} {B : List ℤ} {A : Rows} {t : List ℕ} (h
     unfolding readCall
     passed = accepted (readFault bs B A) _ _ p q (sym e) .0
 
-    pub accepted-output : (limit : ℕ) → output limit bs ≡ roundsText limit (stateRead bs)
-    unfolding output
-    accepted-output limit = rw (eq-eqb (bookFault bs) 0 (sym read-fault ∙ passed))
+    pub accepted-output : (form : Form) (limit : ℕ) → outputAs form limit bs ≡ roundsText form limit (stateRead bs)
+    unfolding outputAs
+    accepted-output form limit = rw (eq-eqb (bookFault bs) 0 (sym read-fault ∙ passed))
 
     pub accepted-state : {B′ C′ R′ : List ℤ} {K′ : List ℕ}
         → B′ ≡ boundsRead bs B A → C′ ≡ coefsRead bs B A → R′ ≡ rhsRead bs B A → K′ ≡ kindsRead bs B A
@@ -91,19 +104,37 @@ module _ {n m : ℕ} {bs : List ℕ} {B : List ℤ} {A : Rows} {t : List ℕ} (h
         let k′ = k ∙ sym (becomes passed (A .kinds) (decode bs .rows .kinds)) in
         rw (b′, c′, r′, k′, h .table, h .sized .variables, h .sized .rows)
 
+    -- the rounds leave it valid: so does every call
+    pub accepted-valid : (limit : ℕ) → let s = stateRead bs in ValidState (run s (runRounds limit s .calls))
+    accepted-valid limit =
+        let s = stateRead bs in
+        run-preserves s (runRounds limit s .calls) .valid (handed-in-valid s (book-handed-in bs (sym read-fault ∙ passed)))
+
+-- a valid state is one that any answer may leave
+pub leaves-valid : (a : Answer) {s : State} → ValidState s → Leaves a s
+leaves-valid (answers.Refused number) v = tt
+leaves-valid answers.Infeasible v = tt
+leaves-valid (answers.Reduced rounds) v = v
+
+-- a valid state can be printed, in either form
+pub left-prints : (n m : ℕ) (B : List ℤ) (A : Rows) (t : List ℕ) → ValidState (stateOf n m B A t) → Printable n m B (A .coefs) (A .rhs) t × Paper n B
+unfolding stateOf
+left-prints n m B A t v = let M = v .model in (
+  record { few = M .few; fewRows = M .fewRows; box = M .box .len; coefs = M .coefsLen; rhs = M .rhsLen; table = v .table .len },
+  paper-valid n B (M .few) (M .box),
+)
+
 -- an input that is refused by its last 16 bytes and its length: so is the book
-pub head-output : (limit : ℕ) (bs : List ℕ) (number : ℕ) → refused number ≡ headCall bs → refusedLine number ≡ output limit bs
-unfolding headCall output bookFault bookChecks
-head-output limit bs number e =
+pub head-output : (form : Form) (limit : ℕ) (bs : List ℕ) (number : ℕ) → refused number ≡ headCall bs → refusedLine number ≡ outputAs form limit bs
+unfolding headCall outputAs bookFault bookChecks
+head-output form limit bs number e =
     let r = refused-fault (first (headChecks bs)) number _ _ e in
     let f : bookFault bs ≡ first (headChecks bs) = first-stop (headChecks bs) (modelNumberChecks (decode bs)) (r .1) in
     rw (ne-eqb (bookFault bs) 0 (λ z. r .1 (sym f ∙ z))) (ap refusedLine (r .0 ∙ sym f))
 
--- an input that is too long already: so is every book that starts so
-pub too-long-output : (bs : List ℕ) → TooLong (length bs) → RefusedSoFar bs
-too-long-output bs h = record {
-  refusal = λ limit more b. head-output limit (bs ++ more) 2 (sym (h .refusal (bs ++ more) b (omega (arith, length-append bs more))));
-}
+-- an input of which no more is read, for it is refused whatever follows: every book that starts so prints `refused 2`
+pub too-long-output : {bs : List ℕ} → RefusedSoFar bs → (form : Form) (limit : ℕ) (more : List ℕ) → Bytes (bs ++ more) → refusedLine 2 ≡ outputAs form limit (bs ++ more)
+too-long-output {bs} h form limit more b = head-output form limit (bs ++ more) 2 (sym (h .refusal more b))
 
 -- an accepted input that is held whole is a book that says n and m
 pub held-sized : {bs start tail : List ℕ} {len n m : ℕ} → Held bs start tail len → len ≤ length start → sizesAre n m ≡ headCall bs → Sized n m (take len start)

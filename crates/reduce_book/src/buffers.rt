@@ -41,3 +41,9 @@ pub fn largest_table() -> [u8; 65536]
 {
     [0; 65536]
 }
+
+pub fn most_pages() -> [u8; 340200]
+    ensures { λ r. ⌜ 340_200 ≡ length r ⌝ }
+{
+    [0; 340200]
+}

@@ -1,11 +1,11 @@
-// The programs `reduce` and `reduce8` (01, "Book"; 02, C-20): a book is read on standard input, rounds are made up to a
-// limit, and `refused N`, `none` or what is left of the model is printed. What is printed for an input is `output` of
-// it. No contract can say which bytes are read or written; that the input is kept as it came, that the answer is the one
-// that `output` gives, that its text is written into a buffer and that as many bytes as it has are handed to standard
-// output are proved. A read or a write that fails is told on standard error, and then nothing more is printed.
+// The programs `reduce`, `reduce8` and `floor` (01, "Book"; 02, C-20 and C-23): a book is read on standard input,
+// rounds are made up to a limit, and `refused N`, `none` or what is left of the model, as a report or as pages, is
+// printed. What is printed for an input is `outputAs` of it. No contract can say which bytes are read or written; that
+// the input is kept as it came, that the answer is the one that `outputAs` gives, that its text is written into a
+// buffer and that as many bytes as it has are handed to standard output are proved. A read or a write that fails is
+// told on standard error, and then nothing more is printed; the code has no other way to end without its text.
 mod buffers;
-mod input;
-mod output;
+pub mod output;
 mod reduction;
 
 use book::SizesAnswer;
@@ -15,9 +15,12 @@ use buffers::most_bounds;
 use buffers::most_coefs;
 use buffers::most_kinds;
 use buffers::most_rhs;
-use input::Input;
+use output::Form;
 use reduction::Answer;
 use reduction::solve;
+use streams::input::Input;
+use streams::input::read_all;
+use streams::output::refused;
 ghost use mathlib.Core.Bool.{true};
 ghost use mathlib.Core.Path.{_≡_};
 ghost use mathlib.Core.List.{List};
@@ -28,44 +31,51 @@ ghost use Rattle.model.specs.Rows.{rowsOf};
 ghost use Rattle.intake.specs.Checks.{maxBook};
 ghost use Rattle.intake.specs.Intake.{Held};
 ghost use Rattle.reduce_book.specs.Answers.{Printed, Ready, Sized};
-ghost use Rattle.reduce_book.specs.Output.{output as printedText};
+ghost use Rattle.reduce_book.specs.Output.{outputAs as printedText};
 
-// The whole program, with at most `limit` rounds; `reduce` has the limit that is none, `reduce8` has 8. True where the
-// whole text was printed.
-pub fn program(limit: u64, printed: &mut usize) -> bool
+// The whole program, with at most `limit` rounds; `reduce` and `floor` have the limit that is none, `reduce8` has 8.
+// True where the whole text was printed.
+pub fn program(form: Form, limit: u64, printed: &mut usize) -> bool
     requires { ⌜ now printed ≡ 0 ⌝ }
-    ensures { λ r. ⌜ (r ≡ true → Printed limit (now (printed .exit))) ⌝ }
+    ensures { λ r. ⌜ (r ≡ true → Printed form limit (now (printed .exit))) ⌝ }
 {
     let mut start = longest_book();
     let mut tail = [0u8; 16];
-    match input::read_all(&mut start, &mut tail) {
-        Input::Length(len) => answer(&start, &tail, len, limit, printed),
-        Input::TooLong => output::refused(2, printed),
+    match read_all(&mut start, &mut tail) {
+        Input::Length(len) => answer(&start, &tail, len, form, limit, printed),
+        Input::TooLong => refused(2, printed),
         Input::Failed => false,
     }
 }
 
 // The answer to an input of `len` bytes that ends in `tail`; where it is no longer than `start`, `start`
-// begins with it. A number by which `sizes` refuses the input is the one of its `output` (`head-output`). True
+// begins with it. A number by which `sizes` refuses the input is the one of its text (`head-output`). True
 // where the whole text was printed.
-fn answer(start: &[u8], tail: &[u8], len: usize, limit: u64, printed: &mut usize) -> bool
+fn answer(
+    start: &[u8],
+    tail: &[u8],
+    len: usize,
+    form: Form,
+    limit: u64,
+    printed: &mut usize,
+) -> bool
     requires { ⌜ (maxBook ≤ length (now start)) × ((bs : List ℕ) × Held bs (now start) (now tail) len) ⌝ }
     requires { ⌜ now printed ≡ 0 ⌝ }
     ensures { λ r.
         ⌜ ((bs : List ℕ) → Held bs (now (start .entry)) (now (tail .entry)) len → r ≡ true →
-        now (printed .exit) ≡ length (printedText limit bs)) ⌝ }
+        now (printed .exit) ≡ length (printedText form limit bs)) ⌝ }
 {
     match intake::sizes(tail, len) {
-        SizesAnswer::Refused(number) => output::refused(number, printed),
-        SizesAnswer::Sizes { n, m } => reduce(n, m, &start[..len], limit, printed),
+        SizesAnswer::Refused(number) => refused(number, printed),
+        SizesAnswer::Sizes { n, m } => reduce(n, m, &start[..len], form, limit, printed),
     }
 }
 
 // Lends the reduction buffers for the model, and a table all 0.
-fn reduce(n: usize, m: usize, book: &[u8], limit: u64, printed: &mut usize) -> bool
+fn reduce(n: usize, m: usize, book: &[u8], form: Form, limit: u64, printed: &mut usize) -> bool
     requires { ⌜ (n ≤ maxVariables) × (m ≤ maxRows) × Sized n m (now book) ⌝ }
     requires { ⌜ now printed ≡ 0 ⌝ }
-    ensures { λ r. ⌜ (r ≡ true → now (printed .exit) ≡ length (printedText limit (now (book .entry)))) ⌝ }
+    ensures { λ r. ⌜ (r ≡ true → now (printed .exit) ≡ length (printedText form limit (now (book .entry)))) ⌝ }
 {
     let mut bounds = most_bounds();
     let mut coefs = most_coefs();
@@ -84,6 +94,7 @@ fn reduce(n: usize, m: usize, book: &[u8], limit: u64, printed: &mut usize) -> b
         &mut rhs[..m],
         &mut kinds[..m],
         &mut table[..table_len],
+        form,
         limit,
         printed,
     )
@@ -98,16 +109,17 @@ fn reduce_in(
     rhs: &mut [i32],
     kinds: &mut [u8],
     table: &mut [u8],
+    form: Form,
     limit: u64,
     printed: &mut usize,
 ) -> bool
     requires { ⌜ Ready n m (now book) (now bounds) (rowsOf (now coefs) (now rhs) (now kinds)) (now table) ⌝ }
     requires { ⌜ now printed ≡ 0 ⌝ }
-    ensures { λ r. ⌜ (r ≡ true → now (printed .exit) ≡ length (printedText limit (now (book .entry)))) ⌝ }
+    ensures { λ r. ⌜ (r ≡ true → now (printed .exit) ≡ length (printedText form limit (now (book .entry)))) ⌝ }
 {
     match solve(n, m, book, bounds, coefs, rhs, kinds, table, limit) {
-        Answer::Refused(number) => output::refused(number, printed),
+        Answer::Refused(number) => refused(number, printed),
         Answer::Infeasible => output::none(printed),
-        Answer::Reduced(made) => output::reduced(n, m, made, bounds, coefs, rhs, table, printed),
+        Answer::Reduced(made) => output::left(form, n, m, made, bounds, coefs, rhs, table, printed),
     }
 }

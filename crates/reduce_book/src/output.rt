@@ -1,36 +1,25 @@
 // Standard output, in few writes. `printed` counts the bytes that were written: so a contract can say that an answer's
 // text is printed once, and whole.
-use libc::STDOUT_FILENO;
+use crate::buffers::most_pages;
+use page_call::PAGE;
+use page_call::pages_needed;
+use page_call::write_all;
 use report::fill;
 use report::line_count;
 use report::write_none;
-use report::write_refused;
+use streams::output::print;
 ghost use mathlib.Core.Bool.{true};
 ghost use mathlib.Core.Path.{_≡_};
-ghost use Prim.Native.Nat.{_+_, _<_};
+ghost use Prim.Native.Nat.{_*_};
 ghost use lib.ListN.{length};
-ghost use Rattle.report.specs.Report.{Printable, noneLine, refusedLine, report};
+ghost use Rattle.pages.specs.Page.{Paper, pages};
+ghost use Rattle.report.specs.Report.{Printable, noneLine, report};
+ghost use Rattle.reduce_book.specs.Output.{leftText};
 
-// Whether the whole text was written.
-fn print(text: &[u8], printed: &mut usize) -> bool
-    requires { ⌜ now printed + length (now text) < 18_446_744_073_709_551_616 ⌝ }
-    ensures { λ r. ⌜ (r ≡ true → now (printed .exit) ≡ now (printed .entry) + length (now (text .entry))) ⌝ }
-{
-    if io::write_all(STDOUT_FILENO, text) {
-        *printed = *printed + text.len();
-        return true;
-    }
-    os::fail(b"standard output");
-    false
-}
-
-pub fn refused(number: u32, printed: &mut usize) -> bool
-    requires { ⌜ now printed ≡ 0 ⌝ }
-    ensures { λ r. ⌜ (r ≡ true → now (printed .exit) ≡ length (refusedLine number)) ⌝ }
-{
-    let mut buf = [0u8; 64];
-    let end = write_refused(number, &mut buf, 0);
-    print(&buf[..end], printed)
+// What is printed of the model that is left: 01's report, or (02, C-23) its pages.
+pub enum Form {
+    Report,
+    Paper,
 }
 
 pub fn none(printed: &mut usize) -> bool
@@ -43,7 +32,7 @@ pub fn none(printed: &mut usize) -> bool
 }
 
 // The report, as many lines at a time as the buffer holds.
-pub fn reduced(
+fn reduced(
     n: usize,
     m: usize,
     rounds: u64,
@@ -72,4 +61,43 @@ pub fn reduced(
         next = chunk.next;
     }
     true
+}
+
+// The pages, all at once. The model that is left is valid, so that nothing can be refused.
+fn paper(n: usize, bounds: &[i32], table: &[u8], printed: &mut usize) -> bool
+    requires { ⌜ Paper n (now bounds) × (length (now table) ≡ 4 * (n * n)) ⌝ }
+    requires { ⌜ now printed ≡ 0 ⌝ }
+    ensures { λ r.
+        let text = pages n (now (bounds .entry)) (now (table .entry)) in
+        ⌜ (r ≡ true → now (printed .exit) ≡ length text) ⌝ }
+{
+    let mut buf = most_pages();
+    let len = pages_needed(n, table) * PAGE;
+    write_all(n, bounds, table, &mut buf[..len]);
+    print(&buf[..len], printed)
+}
+
+// What is left, in the form that the program has.
+pub fn left(
+    form: Form,
+    n: usize,
+    m: usize,
+    rounds: u64,
+    bounds: &[i32],
+    coefs: &[i32],
+    rhs: &[i32],
+    table: &[u8],
+    printed: &mut usize,
+) -> bool
+    requires { ⌜ Printable n m (now bounds) (now coefs) (now rhs) (now table) × Paper n (now bounds) ⌝ }
+    requires { ⌜ now printed ≡ 0 ⌝ }
+    ensures { λ r.
+        let text = leftText form n m rounds
+        (now (bounds .entry)) (now (coefs .entry)) (now (rhs .entry)) (now (table .entry)) in
+        ⌜ (r ≡ true → now (printed .exit) ≡ length text) ⌝ }
+{
+    match form {
+        Form::Report => reduced(n, m, rounds, bounds, coefs, rhs, table, printed),
+        Form::Paper => paper(n, bounds, table, printed),
+    }
 }

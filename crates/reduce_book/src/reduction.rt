@@ -1,14 +1,15 @@
-// From a book to an answer, in memory: the text of the answer is `output` of the book.
+// From a book to an answer, in memory: the text of the answer, in either form, is `outputAs` of the book.
 use book::SizesAnswer;
 use book::reading::read;
 use rounds::RoundsAnswer;
 ghost use mathlib.Core.Path.{_≡_};
 ghost use Rattle.model.specs.Rows.{rowsOf};
-ghost use Rattle.model.specs.State.{State};
+ghost use Rattle.model.specs.State.{State, stateOf};
 ghost use Rattle.rounds.specs.Answers.{roundsAnswer};
-ghost use Rattle.reduce_book.specs.Answers.{Ready, answerText};
+ghost use Rattle.reduce_book.specs.Answers.{Leaves, Ready, answerText};
 ghost use Rattle.reduce_book.specs.Meaning.{OutputMeans};
-ghost use Rattle.reduce_book.specs.Output.{output, textOf};
+ghost use Rattle.reduce_book.specs.declared.output.Form.{Form};
+ghost use Rattle.reduce_book.specs.Output.{outputAs, textOf};
 
 pub enum Answer {
     // By the number of the first check that fails.
@@ -20,10 +21,10 @@ pub enum Answer {
 
 fn answer_of(rounds: RoundsAnswer) -> Answer
     ensures { λ r.
-        ⌜ ((s : State) →
-        answerText r (s .model .n) (s .model .m)
+        ⌜ ((form : Form) (s : State) →
+        answerText form r (s .model .n) (s .model .m)
         (s .model .box) (s .model .rows .coefs) (s .model .rows .rhs) (s .table) ≡
-        textOf (roundsAnswer rounds) s) ⌝ }
+        textOf form (roundsAnswer rounds) s) ⌝ }
 {
     match rounds {
         RoundsAnswer::Refused(number) => Answer::Refused(number),
@@ -33,8 +34,8 @@ fn answer_of(rounds: RoundsAnswer) -> Answer
     }
 }
 
-// Reads the book into the lent buffers and makes at most `limit` rounds there. `meaning`: what `output` of
-// the book means for its points.
+// Reads the book into the lent buffers and makes at most `limit` rounds there. `meaning`: what the text
+// means for the book's points; `valid`: the model and the table that are left pass their checks.
 pub fn solve(
     n: usize,
     m: usize,
@@ -48,9 +49,13 @@ pub fn solve(
 ) -> Answer
     requires { ⌜ Ready n m (now book) (now bounds) (rowsOf (now coefs) (now rhs) (now kinds)) (now table) ⌝ }
     ensures text { λ r.
-        ⌜ answerText r n m (now (bounds .exit)) (now (coefs .exit)) (now (rhs .exit)) (now (table .exit)) ≡
-        output limit (now (book .entry)) ⌝ }
-    ensures meaning { λ r. ⌜ OutputMeans limit (now (book .entry)) ⌝ }
+        ⌜ ((form : Form) →
+        answerText form r n m (now (bounds .exit)) (now (coefs .exit)) (now (rhs .exit)) (now (table .exit)) ≡
+        outputAs form limit (now (book .entry))) ⌝ }
+    ensures meaning { λ r. ⌜ ((form : Form) → OutputMeans form limit (now (book .entry))) ⌝ }
+    ensures valid { λ r.
+        let A = rowsOf (now (coefs .exit)) (now (rhs .exit)) (now (kinds .exit)) in
+        ⌜ Leaves r (stateOf n m (now (bounds .exit)) A (now (table .exit))) ⌝ }
 {
     if let SizesAnswer::Refused(number) = read(book, bounds, coefs, rhs, kinds) {
         return Answer::Refused(number);

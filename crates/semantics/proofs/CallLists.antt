@@ -17,13 +17,13 @@ use Rattle.model.proofs.CheckLaws.{fits-table-fault-none}
 use Rattle.semantics.specs.Call.{Call, isRetired, kindOf, lengthsOf}
 use Rattle.semantics.specs.CallChecks.{callFault}
 use Rattle.semantics.specs.CallList.{ListAnswer, ListRun, callsMade, listChecks, listFault, ran, recordAt, recordsFrom, recordsOf, refusedList, runList, unretired}
-use Rattle.semantics.specs.Demand2.{Demand2}
+use Rattle.semantics.specs.Demand2.{Demand2, Demand2Runs}
 use Rattle.semantics.specs.Perform.{perform}
 use Rattle.semantics.specs.Points.{PointOf, TableHolds}
 use Rattle.semantics.specs.Run.{CallClass, Counts, answersNone, changedCall, classListed, classOf, countCall, infeasibleCall, isRefused, noCounts, refusalOf, refusedCall, run, runListed, sameState, stepListed, tally, unchangedCall}
 use Rattle.semantics.specs.TwoLists.{CountsAddUp, Demand3Lists, ListMeans}
 use Rattle.semantics.specs.TwoRuns.{Demand3, Narrows}
-use Rattle.semantics.proofs.Demand2.{demand-2}
+use Rattle.semantics.proofs.Demand2.{demand-2, demand-2-runs}
 use Rattle.semantics.proofs.Demand3.{demand-3}
 use Rattle.semantics.proofs.ImplicationLaws.{zeros-hold}
 use Rattle.semantics.proofs.ListedLaws.{class-direct, class-listed-refused, listed-ind, retired-refused, run-rows, run-unretired, unretired-narrows}
@@ -173,7 +173,7 @@ Ran (refusedList number) = ⊥
 Ran (ran k) = Unit {0}
 
 pub list-means : (s : State) (xs : List ℕ) → ListMeans s (runList s xs)
-unfolding noCounts
+unfolding noCounts Demand2Runs
 list-means s xs =
     let p = list-preserves s xs in
     let holds : (x : List ℤ) → PointOf s x → TableHolds (s .model .n) (s .table) x → TableHolds (s .model .n) (runList s xs .state .table) x =
@@ -186,6 +186,7 @@ list-means s xs =
           (λ _ e. absurd (subst Ran (sym e) tt));
       holds = holds;
       implied = λ e x o. holds x o (rw e (zeros-hold (s .model .n) (4 * (s .model .n * s .model .n)) x));
+      made = (callsMade s xs, list-made s xs, demand-2-runs s (callsMade s xs));
       rows = list-rows s xs;
     }
 

@@ -3,7 +3,7 @@ use Prim.Native.Nat.{_+_, _<_, _≤_, ℕ}
 use lib.Dec.{T, not-T}
 use lib.IntN.{ℤ}
 use mathlib.Core.Bool.{not}
-use mathlib.Core.List.{List}
+use mathlib.Core.List.{List, [], _∷_}
 use mathlib.Core.Logic.{_↔_, _⊎_, _≢_, inr, ⊎-elim}
 use mathlib.Core.Path.{_≡_, ap, refl, subst, sym}
 use Rattle.model.specs.Box.{NonEmpty, at, emptyBox, isEmpty}
@@ -23,7 +23,7 @@ use Rattle.row.proofs.PointBox.{boxAt, in→Inside, nonEmpty-at}
 use Rattle.row.proofs.PropagationLaws.{changed-feasible}
 use Rattle.semantics.specs.Call.{Call, Kind, hasBudget, hasRow, hasTable, hasVariable, isUnknown, kindOf, probing, propagation, removal, rowPropagation, tightening, unknown}
 use Rattle.semantics.specs.CallChecks.{callFault}
-use Rattle.semantics.specs.Demand2.{AnswersSame, Demand2, Demand2Runs, EndsAs, EndsGreatest, PassesWithin, RowMoved, SideEnds, SideGreatest, SideMoved, SumMoved, Untouched, ones}
+use Rattle.semantics.specs.Demand2.{AnswersSame, Demand2, Demand2Runs, EachMeans, EndsAs, EndsGreatest, PassesWithin, RowMoved, SideEnds, SideGreatest, SideMoved, SumMoved, Untouched, ones}
 use Rattle.semantics.specs.Passes.{enoughBudget}
 use Rattle.semantics.specs.Perform.{Answer, Performed, act, perform, probed, propagated, propagatedRow, refused, removed, tightened}
 use Rattle.semantics.specs.Probe.{ProbeEnding, Probed, bothFeasible, fix, fixed, infeasible, probe, sideOf}
@@ -246,7 +246,12 @@ demand-2 s c e =
       valid = p .valid;
     }
 
+each-means : (s : State) (cs : List Call) → EachMeans s cs
+unfolding EachMeans Demand2
+each-means s [] = tt
+each-means s (c ∷ cs) = (demand-2 s c, each-means (step s c) cs)
+
 pub demand-2-runs : Demand2Runs
 unfolding Demand2Runs
 demand-2-runs s cs =
-    let p = run-preserves s cs in record { points = p .points; fractional = p .fractional; sizes = p .sizes; valid = p .valid }
+    let p = run-preserves s cs in record { each = each-means s cs; points = p .points; fractional = p .fractional; sizes = p .sizes; valid = p .valid }

@@ -23,7 +23,7 @@ use Rattle.semantics.specs.Perform.{Answer, perform, probed, propagated,
 use Rattle.semantics.specs.Points.{FractionalPointOf, PointOf}
 use Rattle.semantics.specs.Probe.{ProbeEnding, Side, bothFeasible, fix}
 use Rattle.semantics.specs.Propagate.{Ending, budgetSpent, converged, infeasible, isNone, propagate}
-use Rattle.semantics.specs.Run.{answersNone, run}
+use Rattle.semantics.specs.Run.{answersNone, run, step}
 
 -- how many bytes of a table are 1
 unfoldable pub ones : List ℕ → ℕ
@@ -177,8 +177,15 @@ pub record CallMeans (s : State) (c : Call) : Type 0 where
   -- a valid state stays valid: a list of calls need not check the model again
   pub valid : ValidState s → ValidState (perform s c .state)
 
+-- what each accepted call of a list means, from the state that those before it left; of a settle and of a side of a probe that have the
+-- budget for it, that they end in the largest quiet box (C-24)
+unfoldable pub EachMeans : State → List Call → Type 0
+EachMeans s [] = Unit {0}
+EachMeans s (c ∷ cs) = (callFault s c ≡ 0 → CallMeans s c) × EachMeans (step s c) cs
+
 -- of any list of calls, refused ones among them
 pub record RunMeans (s : State) (cs : List Call) : Type 0 where
+  pub each : EachMeans s cs
   pub points : (x : List ℤ) → PointOf (run s cs) x ↔ PointOf s x
   pub fractional : (x : List ℤ) (d : ℕ) → FractionalPointOf (run s cs) x d → FractionalPointOf s x d
   pub sizes : (run s cs .model .n ≡ s .model .n) × (run s cs .model .m ≡ s .model .m)

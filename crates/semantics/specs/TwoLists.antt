@@ -8,6 +8,7 @@ use mathlib.Core.Path.{_≡_}
 use Rattle.model.specs.State.{State}
 use Rattle.semantics.specs.Call.{Call}
 use Rattle.semantics.specs.CallList.{ListRun, ran, runList}
+use Rattle.semantics.specs.Demand2.{RunMeans}
 use Rattle.semantics.specs.Points.{AtRest, FractionalPointOf, PointOf, TableHolds}
 use Rattle.semantics.specs.Run.{Counts, run}
 use Rattle.semantics.specs.TwoRuns.{HandedIn}
@@ -44,5 +45,8 @@ pub record ListMeans (s : State) (r : ListRun) : Type 0 where
   -- each recorded implication holds at all of them, where those recorded before do; all do where the table was all 0
   pub holds : (x : List ℤ) → PointOf s x → TableHolds (s .model .n) (s .table) x → TableHolds (s .model .n) (r .state .table) x
   pub implied : s .table ≡ replicate (4 * (s .model .n * s .model .n)) 0 → (x : List ℤ) → PointOf s x → TableHolds (s .model .n) (r .state .table) x
+  -- what it leaves is what calls left, each of which means what it means as a direct call: so in a list, too, a settle with a budget of
+  -- at least the total width plus 1 is never Spent, and ends in the largest quiet box or None (02, C-24)
+  pub made : (cs : List Call) × (r .state ≡ run s cs) × RunMeans s cs
   -- "No sharpening or dropping from sheets" (02, C-16): the rows, their right sides and kinds are what they were
   pub rows : r .state .model .rows ≡ s .model .rows

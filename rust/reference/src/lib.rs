@@ -24,8 +24,10 @@
 //! | [`calls`] | the calls as the C interface has them: a refusal number and twelve places of answer |
 //! | [`report`] | what `reduce` prints |
 //! | [`convert`] | what `convert` writes (02, C-18) |
+//! | [`allocations_input`] | what `allocations` prints (02, C-21) |
 
 pub mod allocations;
+pub mod allocations_input;
 pub mod book;
 pub mod bounds;
 pub mod calls;

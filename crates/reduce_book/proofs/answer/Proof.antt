@@ -9,7 +9,7 @@ use mathlib.Core.Path.{_∙_, _≡_, ap, sym}
 use native.Mathlib.Omega.{arith}
 use Rattle.book.specs.Answers.{refused, sizesAnswer, sizesAre}
 use Rattle.intake.specs.Checks.{SizedBook}
-use Rattle.reduce_book.specs.Output.{output}
+use Rattle.reduce_book.specs.Output.{outputAs}
 use Rattle.reduce_book.proofs.ReductionLaws.{head-output, held-sized}
 use Rattle.reduce_book.proofs.answer.Statement.{statement}
 use Rattle.reduce_book.proofs.answer.Tie as tie
@@ -57,14 +57,14 @@ number c = ap sizesAnswer (sym (c .number .given .1))
 returns : tie.Need-returns
 returns c = λ bs h t.
     let d = c .before .before .before in
-    c .refused .ensures t ∙ ap length (head-output _ bs _ (number d ∙ d .before .before .sizes .ensures .1 .0 bs (h .size) (h .end)))
+    c .refused .ensures t ∙ ap length (head-output _ _ bs _ (number d ∙ d .before .before .sizes .ensures .1 .0 bs (h .size) (h .end)))
 
 returns-2 : tie.Need-returns-2
 returns-2 c = λ bs h t.
     let d = c .before .before .before .before in
     let start = d .before .before .before .before .before .args .start .now in
     let w : take (d .before .before .before .before .before .args .len) start ≡ bs = ap (λ (r : ℕ). take r start) (h .size) ∙ h .whole (omega (arith, h .size, room d)) in
-    c .reduce .ensures t ∙ ap (λ (b : List ℕ). length (output (d .before .before .before .before .before .args .limit) b)) w
+    c .reduce .ensures t ∙ ap (λ (b : List ℕ). length (outputAs (d .before .before .before .before .before .args .form) (d .before .before .before .before .before .args .limit) b)) w
 
 pub answer-spec : {M : Type 1} → statement M
 answer-spec =

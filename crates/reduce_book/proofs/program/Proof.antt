@@ -5,8 +5,8 @@ use mathlib.Core.Logic.{inl, inr}
 use mathlib.Core.Path.{subst}
 use native.Mathlib.Omega.{arith}
 use Rattle.integer.proofs.Tests.{true→T}
-use Rattle.reduce_book.specs.Answers.{InputHeld}
-use Rattle.reduce_book.specs.declared.input.Input.{Input}
+use Rattle.streams.specs.Input.{InputHeld}
+use Rattle.streams.specs.declared.input.Input.{Input}
 use Rattle.reduce_book.proofs.program.Statement.{statement}
 use Rattle.reduce_book.proofs.program.Tie as tie
 

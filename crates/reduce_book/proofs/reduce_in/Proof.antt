@@ -1,8 +1,10 @@
--- `reduce_book::reduce_in`: what is printed is the text of the answer, which is `output` of the book. Assumes nothing.
+-- `reduce_book::reduce_in`: what is printed is the text of the answer, which is that of the book; it can be printed, since it is valid. Assumes
+-- nothing.
 use borrow.Author.Needs.{needs}
 use lib.ListN.{length}
 use mathlib.Core.Path.{_∙_, ap}
 use Rattle.reduce_book.specs.Answers.{answerText}
+use Rattle.reduce_book.proofs.ReductionLaws.{left-prints}
 use Rattle.reduce_book.proofs.reduce_in.Statement.{statement}
 use Rattle.reduce_book.proofs.reduce_in.Tie as tie
 
@@ -24,8 +26,12 @@ none-requires c κs = search needs
 enum-known-made : tie.Need-enum-known-made
 enum-known-made c = search needs
 
-reduced-requires : tie.Need-reduced-requires
-reduced-requires c κs = search needs
+left-requires : tie.Need-left-requires
+left-requires c κs =
+    let solved = c .before .before .before .before .before .before .before .before .before .before .before .before .before .before .before .solve in (
+      left-prints _ _ _ _ _ (rw (c .before .before .before .before .before .before .made .given .1) at (solved .ensures .1 .1)),
+      c .before .before .before .before .before .before .before .before .before .before .before .before .before .before .before .before .before .before .before .before .before .before .before .before .pre .1,
+    )
 
 same-length : tie.Need-same-length
 same-length c = search needs
@@ -44,7 +50,7 @@ same-length-5 c = search needs
 
 returns : tie.Need-returns
 unfolding answerText
-returns c = λ t. c .refused .ensures t ∙ ap length (rw (c .before .before .before .number .given .1) at (c .before .before .before .before .before .before .before .before .before .before .before .before .solve .ensures .0))
+returns c = λ t. c .refused .ensures t ∙ ap length (rw (c .before .before .before .number .given .1) at (c .before .before .before .before .before .before .before .before .before .before .before .before .solve .ensures .0 (c .before .before .before .before .before .before .before .before .before .before .before .before .before .before .before .before .before .before .before .before .before .args .form)))
 
 same-length-6 : tie.Need-same-length-6
 same-length-6 c = search needs
@@ -63,7 +69,7 @@ same-length-10 c = search needs
 
 returns-2 : tie.Need-returns-2
 unfolding answerText
-returns-2 c = λ t. c .none .ensures t ∙ ap length (rw (c .before .before .enum-told .given .1) at (c .before .before .before .before .before .before .before .before .before .before .before .solve .ensures .0))
+returns-2 c = λ t. c .none .ensures t ∙ ap length (rw (c .before .before .enum-told .given .1) at (c .before .before .before .before .before .before .before .before .before .before .before .solve .ensures .0 (c .before .before .before .before .before .before .before .before .before .before .before .before .before .before .before .before .before .before .before .before .args .form)))
 
 same-length-11 : tie.Need-same-length-11
 same-length-11 c = search needs
@@ -82,7 +88,7 @@ same-length-15 c = search needs
 
 returns-3 : tie.Need-returns-3
 unfolding answerText
-returns-3 c = λ t. c .reduced .ensures t ∙ ap length (rw (c .before .before .before .before .before .before .before .made .given .1) at (c .before .before .before .before .before .before .before .before .before .before .before .before .before .before .before .before .solve .ensures .0))
+returns-3 c = λ t. c .left .ensures t ∙ ap length (rw (c .before .before .before .before .before .before .before .made .given .1) at (c .before .before .before .before .before .before .before .before .before .before .before .before .before .before .before .before .solve .ensures .0 (c .before .before .before .before .before .before .before .before .before .before .before .before .before .before .before .before .before .before .before .before .before .before .before .before .before .args .form)))
 
 pub reduce-in-spec : {M : Type 1} → statement M
 reduce-in-spec =
@@ -94,7 +100,7 @@ reduce-in-spec =
     enum-told
     none-requires
     enum-known-made
-    reduced-requires
+    left-requires
     same-length
     same-length-2
     same-length-3

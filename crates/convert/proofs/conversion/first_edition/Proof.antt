@@ -1,5 +1,5 @@
--- `convert::conversion::first_edition`: bytes that the first edition refuses by 4 have a trailer with n and m within their limits
--- (`other-edition`), so the part that is lent is as long as the book to be written. Assumes nothing.
+-- `convert::conversion::first_edition`: n and m are within their limits, so the part that is lent is as long as the book to be written.
+-- Assumes nothing.
 use Prim.Native.Nat.{_≤_}
 use borrow.Author.Needs.{needs}
 use lib.ListN.{length}
@@ -10,24 +10,20 @@ use Rattle.book.specs.Answers.{writeAnswer}
 use Rattle.book.specs.Book.{bookLength, rows, trailerOf, variables}
 use Rattle.book.proofs.EncodeLaws.{length-below}
 use Rattle.convert.specs.Answers.{answerBytes}
-use Rattle.convert.proofs.ConvertLaws.{first-book, first-refused, other-edition, part-fits}
+use Rattle.convert.proofs.ConvertLaws.{first-book, first-refused, part-fits}
 use Rattle.convert.proofs.conversion.first_edition.Statement.{statement}
 use Rattle.convert.proofs.conversion.first_edition.Tie as tie
 
--- what check 4 tells
-sized : (s : tie.Start) → let bs = s .args .from .now in (16 ≤ length bs) × (variables (trailerOf bs) ≤ 128) × (rows (trailerOf bs) ≤ 120)
-sized s = other-edition (s .args .from .now) (s .pre .0)
-
 trailer-u16-requires : tie.Need-trailer-u16-requires
-trailer-u16-requires c κs = (sized (c .before .before) .0, omega arith)
+trailer-u16-requires c κs = (c .before .before .pre .0 .long, omega arith)
 
 trailer-u16-requires-2 : tie.Need-trailer-u16-requires-2
-trailer-u16-requires-2 c κs = (sized (c .before .before .before) .0, omega arith)
+trailer-u16-requires-2 c κs = (c .before .before .before .pre .0 .long, omega arith)
 
 book-length-requires : tie.Need-book-length-requires
 book-length-requires c κs =
-    let h = sized (c .before .before .before .before) in
-    (rw (c .before .trailer-u16 .ensures) (h .1), rw (c .trailer-u162 .ensures) (h .2))
+    let h = c .before .before .before .before .pre .0 in
+    (rw (c .before .trailer-u16 .ensures) (h .few), rw (c .trailer-u162 .ensures) (h .fewRows))
 
 -- the length of the book to be written
 len-is : (c : tie.After-book-length) → let t = trailerOf (c .before .before .before .before .before .args .from .now) in c .book-length .result ≡ bookLength (variables t) (rows t)
@@ -36,8 +32,8 @@ len-is c = c .book-length .ensures ∙ ap₂ bookLength (c .before .before .trai
 room : (c : tie.After-book-length) → c .book-length .result ≤ length (c .before .before .before .before .before .args .to .now)
 room c =
     let s = c .before .before .before .before .before in
-    let h = sized s in
-    omega (arith, len-is c, length-below _ _ (h .1) (h .2), s .pre .1)
+    let h = s .pre .0 in
+    omega (arith, len-is c, length-below _ _ (h .few) (h .fewRows), s .pre .1)
 
 slice-relend-prefix-to-first : tie.Need-slice-relend-prefix-to-first
 slice-relend-prefix-to-first c = room c

@@ -3,7 +3,7 @@ use borrow.Author.Needs.{needs}
 use lib.ListN.{length-take}
 use native.Mathlib.Omega.{arith}
 use Rattle.text.proofs.TextLaws.{wrote-length}
-use Rattle.reduce_book.proofs.PrintLaws.{written-length}
+use Rattle.streams.proofs.StreamLaws.{written-length}
 use Rattle.reduce_book.proofs.output.none.Statement.{statement}
 use Rattle.reduce_book.proofs.output.none.Tie as tie
 

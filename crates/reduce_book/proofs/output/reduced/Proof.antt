@@ -12,7 +12,8 @@ use Rattle.report.specs.Report.{lineAt, lineCount}
 use Rattle.text.specs.Text.{chunk}
 use Rattle.report.proofs.ReportLaws.{report-chunks}
 use Rattle.text.proofs.TextLaws.{chunk-none, wrote-length}
-use Rattle.reduce_book.proofs.PrintLaws.{chunks-length, lines-few, written-length}
+use Rattle.streams.proofs.StreamLaws.{written-length}
+use Rattle.reduce_book.proofs.PrintLaws.{chunks-length, lines-few}
 use Rattle.reduce_book.proofs.output.reduced.Statement.{statement}
 use Rattle.reduce_book.proofs.output.reduced.Tie as tie
 

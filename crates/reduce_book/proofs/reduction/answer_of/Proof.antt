@@ -21,19 +21,19 @@ enum-known-rounds-3 c = search needs
 
 returns : tie.Need-returns
 unfolding answerText textOf roundsAnswer
-returns c = λ s. ap (λ r. textOf (roundsAnswer r) s) (sym (c .before .rounds .given .1))
+returns c = λ form s. ap (λ r. textOf form (roundsAnswer r) s) (sym (c .before .rounds .given .1))
 
 returns-2 : tie.Need-returns-2
 unfolding answerText textOf roundsAnswer
-returns-2 c = λ s. ap (λ r. textOf (roundsAnswer r) s) (sym (c .enum-told .given .1))
+returns-2 c = λ form s. ap (λ r. textOf form (roundsAnswer r) s) (sym (c .enum-told .given .1))
 
 returns-3 : tie.Need-returns-3
 unfolding answerText textOf roundsAnswer
-returns-3 c = λ s. ap (λ r. textOf (roundsAnswer r) s) (sym (c .before .rounds2 .given .1))
+returns-3 c = λ form s. ap (λ r. textOf form (roundsAnswer r) s) (sym (c .before .rounds2 .given .1))
 
 returns-4 : tie.Need-returns-4
 unfolding answerText textOf roundsAnswer
-returns-4 c = λ s. ap (λ r. textOf (roundsAnswer r) s) (sym (c .before .rounds3 .given .1))
+returns-4 c = λ form s. ap (λ r. textOf form (roundsAnswer r) s) (sym (c .before .rounds3 .given .1))
 
 pub answer-of-spec : {M : Type 1} → statement M
 answer-of-spec =

@@ -1,14 +1,17 @@
--- `reduce_book::reduction::solve`: what is read is the model that `output` starts from, and the rounds leave what it prints.
+-- `reduce_book::reduction::solve`: what is read is the model that `output` starts from, and the rounds leave what it prints, valid.
 -- Assumes nothing.
 use borrow.Author.Needs.{needs}
-use mathlib.Core.Path.{_∙_, ap, ap₂, sym}
+use mathlib.Core.Path.{_∙_, ap, ap₂, subst, sym}
 use Rattle.book.specs.Answers.{sizesAnswer}
 use Rattle.model.specs.Rows.{rowsOf}
 use Rattle.model.specs.State.{stateOf}
+use Rattle.model.specs.Valid.{ValidState}
+use Rattle.rounds.specs.Rounds.{runRounds}
+use Rattle.semantics.specs.Run.{run as ran}
 use Rattle.reduce_book.specs.Answers.{answerText}
 use Rattle.reduce_book.specs.Output.{roundsText, textOf}
 use Rattle.reduce_book.proofs.OutputLaws.{output-means}
-use Rattle.reduce_book.proofs.ReductionLaws.{accepted-output, accepted-state, refused-output}
+use Rattle.reduce_book.proofs.ReductionLaws.{accepted-output, accepted-state, accepted-valid, leaves-valid, refused-output}
 use Rattle.reduce_book.proofs.reduction.solve.Statement.{statement}
 use Rattle.reduce_book.proofs.reduction.solve.Tie as tie
 
@@ -34,7 +37,7 @@ returns : tie.Need-returns
 unfolding answerText sizesAnswer
 returns c =
     let d = c .before .before .before .before .before .before .before .before in
-    (refused-output (d .before .before .before .before .before .before .before .before .pre) _ _ (ap sizesAnswer (sym (c .before .number .given .1)) ∙ d .read .ensures .0), output-means _ _)
+    ((λ form. refused-output (d .before .before .before .before .before .before .before .before .pre) form _ _ (ap sizesAnswer (sym (c .before .number .given .1)) ∙ d .read .ensures .0)), ((λ form. output-means form _ _), tt))
 
 enum-told : tie.Need-enum-told
 enum-told c = search needs
@@ -68,12 +71,16 @@ returns-2 c =
     let a = read .before .before .before .before .before .before .before .before .args in
     let h = read .before .before .before .before .before .before .before .before .pre in
     let e = ap sizesAnswer (sym (run .before .before .before .before .before .before .enum-told .given .1)) ∙ read .read .ensures .0 in
-    let left = run .run .last .1 .1 in (
-      c .answer-of .ensures (stateOf (a .n) (a .m) (left .0) (rowsOf (left .1 .0) (left .1 .1 .0) (left .1 .1 .1 .0)) (left .1 .1 .1 .1 .0))
-          ∙ ap₂ textOf (run .run .ensures .0) (run .run .ensures .1 .0)
-          ∙ ap (roundsText (a .limit)) (accepted-state h _ _ e (read .read .ensures .1 .0) (read .read .ensures .1 .1 .0) (read .read .ensures .1 .1 .1 .0) (read .read .ensures .1 .1 .1 .1 .0))
-          ∙ sym (accepted-output h _ _ e (a .limit)),
-      output-means _ _,
+    let left = run .run .last .1 .1 in
+    let state = accepted-state h _ _ e (read .read .ensures .1 .0) (read .read .ensures .1 .1 .0) (read .read .ensures .1 .1 .1 .0) (read .read .ensures .1 .1 .1 .1 .0) in (
+      (λ form. c .answer-of .ensures form (stateOf (a .n) (a .m) (left .0) (rowsOf (left .1 .0) (left .1 .1 .0) (left .1 .1 .1 .0)) (left .1 .1 .1 .1 .0))
+          ∙ ap₂ (textOf form) (run .run .ensures .0) (run .run .ensures .1 .0)
+          ∙ ap (roundsText form (a .limit)) state
+          ∙ sym (accepted-output h _ _ e form (a .limit))),
+      (
+        (λ form. output-means form _ _),
+        leaves-valid (c .answer-of .result) (subst ValidState (sym (run .run .ensures .1 .0 ∙ ap (λ s. ran s (runRounds (a .limit) s .calls)) state)) (accepted-valid h _ _ e (a .limit))),
+      ),
     )
 
 pub solve-spec : {M : Type 1} → statement M
