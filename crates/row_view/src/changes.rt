@@ -1,6 +1,6 @@
 // Row r of a matrix that a call may change: the rule is lent its coefficients, right side and kind in place, and every
 // other row stays as it was.
-use row::activity::maximum_activity;
+use row_activity::maximum_activity;
 use row_change::redundancy::RowRemoval;
 use row_change::redundancy::remove_redundant_row;
 use row_change::tightening::CoefficientTightening;

@@ -1,11 +1,11 @@
 // One row, read in place (01, "Row sums"): a view of its n coefficients in the matrix, with its right side and kind. No
 // function over a struct that holds a reference is covered, so each is thin and proved by hand: it takes the view apart
 // and leaves the work to a function over plain slices.
-use row::activity::maximum_activity;
-use row::activity::minimum_activity;
 use row::propagation::RowPropagation;
-use row::propagation::moves;
-use row::propagation::propagate_row;
+use row_activity::maximum_activity;
+use row_activity::minimum_activity;
+use row_propagation::moves;
+use row_propagation::propagate_row;
 use sweep::moves_by;
 use sweep::propagate_row_by;
 ghost use mathlib.Core.Path.{_≡_};
