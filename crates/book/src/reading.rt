@@ -29,7 +29,7 @@ pub fn bounds_fault(n: usize, book: &[u8]) -> u32
     let mut bounds = [0i32; 2 * MAX_VARIABLES];
     let len = 2 * n;
     read_integers(book, 0, 4, &mut bounds[..len]);
-    model::box_fault(n, &bounds[..len])
+    model_checks::box_fault(n, &bounds[..len])
 }
 
 // Check 8: whether every coefficient of the book lies in its range.
@@ -83,7 +83,7 @@ fn read_fault(book: &[u8], bounds: &[i32], coefs: &[i32], rhs: &[i32], kinds: &[
     }
     let n = trailer_u16(book, VARIABLES);
     let m = trailer_u16(book, ROWS);
-    let length = model::length_fault(n, m, bounds, coefs, rhs, kinds);
+    let length = model_checks::length_fault(n, m, bounds, coefs, rhs, kinds);
     if length != 0 {
         return length;
     }

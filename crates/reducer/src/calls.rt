@@ -331,7 +331,7 @@ pub fn is_probing_fixpoint(
         let s = stateOf n m (now (bounds .entry)) A [] in
         ⌜ NoMeans s (restVerdict r) ⌝ }
 {
-    let fault = model::model_fault(n, m, bounds, coefs, rhs, kinds, true);
+    let fault = model_checks::model_fault(n, m, bounds, coefs, rhs, kinds, true);
     if fault != 0 {
         return RestAnswer::Refused(fault);
     }

@@ -28,7 +28,7 @@ pub fn call_fault(
         let s = stateOf n m (now (bounds .entry)) A [] in
         ⌜ r ≡ callFault s (callOn s call) ⌝ }
 {
-    let fault = model::model_fault(n, m, bounds, coefs, rhs, kinds, true);
+    let fault = model_checks::model_fault(n, m, bounds, coefs, rhs, kinds, true);
     if fault != 0 {
         return fault;
     }
@@ -52,7 +52,7 @@ pub fn probe_fault(
         let s = stateOf n m (now (bounds .entry)) A (now (table .entry)) in
         ⌜ r ≡ callFault s (callOf s 3 0 variable budget) ⌝ }
 {
-    let fault = model::model_table_fault(n, m, bounds, coefs, rhs, kinds, table, true);
+    let fault = model_checks::model_table_fault(n, m, bounds, coefs, rhs, kinds, table, true);
     if fault != 0 {
         return fault;
     }

@@ -51,7 +51,7 @@ fn read_fault(book: &[u8], bounds: &[i32], coefs: &[i32], rhs: &[i32], kinds: &[
     }
     let n = trailer_u16(book, VARIABLES);
     let m = trailer_u16(book, ROWS);
-    let length = model::length_fault(n, m, bounds, coefs, rhs, kinds);
+    let length = model_checks::length_fault(n, m, bounds, coefs, rhs, kinds);
     if length != 0 {
         return length;
     }
