@@ -3,9 +3,9 @@ use borrow.Author.Needs.{needs}
 use mathlib.Core.Path.{_∙_}
 use mir.Facts.{toZ-ofZ}
 use mir.Syntax.{w64}
 use Rattle.row_view.proofs.PartLaws.{part-is}
-use Rattle.row_view.proofs.changes.maximum_activity_at.Statement.{statement}
-use Rattle.row_view.proofs.changes.maximum_activity_at.Tie as tie
+use Rattle.matrix_change.proofs.maximum_activity_at.Statement.{statement}
+use Rattle.matrix_change.proofs.maximum_activity_at.Tie as tie
 
 mul-start : tie.Need-mul-start
 mul-start c = search needs

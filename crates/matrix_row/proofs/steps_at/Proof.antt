@@ -1,10 +1,10 @@
--- `row_view::steps_at` is the part of the steps that is row r's. Assumes nothing.
+-- `matrix_row::steps_at` is the part of the steps that is row r's. Assumes nothing.
 use borrow.Author.Needs.{needs}
 use Prim.Native.Nat.{_*_, _+_, _-_}
 use mathlib.Core.Path.{_≡_}
 use native.Mathlib.Omega.{arith}
-use Rattle.row_view.proofs.steps_at.Statement.{statement}
-use Rattle.row_view.proofs.steps_at.Tie as tie
+use Rattle.matrix_row.proofs.steps_at.Statement.{statement}
+use Rattle.matrix_row.proofs.steps_at.Tie as tie
 
 mul-start : tie.Need-mul-start
 mul-start c = search needs

@@ -1,7 +1,7 @@
--- `row_view::propagate_row_at_by` is what the view says by the part of the steps that is row r's. Assumes nothing.
+-- `matrix_row::propagate_row_at_by` is what the view says by the part of the steps that is row r's. Assumes nothing.
 use borrow.Author.Needs.{needs}
-use Rattle.row_view.proofs.propagate_row_at_by.Statement.{statement}
-use Rattle.row_view.proofs.propagate_row_at_by.Tie as tie
+use Rattle.matrix_row.proofs.propagate_row_at_by.Statement.{statement}
+use Rattle.matrix_row.proofs.propagate_row_at_by.Tie as tie
 
 steps-at-requires : tie.Need-steps-at-requires
 steps-at-requires c κs = search needs

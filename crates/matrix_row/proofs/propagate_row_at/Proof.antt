@@ -1,4 +1,4 @@
--- `row_view::propagate_row_at` meets its contract: a walk of its MIR. The view that `row_at` returns is held in a local and passed to `Row::propagate` with the box. Of both the proof knows only that they meet their contracts.
+-- `matrix_row::propagate_row_at` meets its contract: a walk of its MIR. The view that `row_at` returns is held in a local and passed to `Row::propagate` with the box. Of both the proof knows only that they meet their contracts.
 -- The matrix, the right sides and the kinds are Copy: what each owns is had twice, one copy is kept for the exit. The box goes to the callee for good, and what says its last list comes back. Assumes nothing.
 use mathlib.Core.Path.{_≡_, refl}
 use Prim.Native.Nat.{ℕ, _<_, _^_}
@@ -44,26 +44,26 @@ use Rattle.model.specs.Rows.{rowAt, rowOf, rowsOf}
 use Rattle.row.specs.Answers.{propagatedRowOf}
 use Rattle.row.specs.Kinds.{propagateRowOf}
 use Rattle.row.specs.ValidRow.{ValidRow}
 use Rattle.row_view.specs.RowIn.{RowIn}
 use Rattle.row.specs.declared.propagation.RowPropagation.{RowPropagation}
 use Rattle.row_view.specs.declared.Row.{Row}
 use Rattle.row.proofs.propagation.RowPropagation as S
 use Rattle.row.proofs.propagation.RowPropagation.Laws as S′
 use Rattle.row_view.proofs.ViewLaws.{view-told, view-valid, viewed}
 use Rattle.row_view.proofs.Row as T
 use Rattle.row_view.proofs.Row.Laws as T′
 use Rattle.row_view.proofs.row_at as made
 use Rattle.row_view.proofs.row_at.Symbol as made-def
 use Rattle.row_view.proofs.row_at.Symbol.{name as #row-view·row-at}
 use Rattle.row_view.proofs.row_at.Met as made-thm
 use Rattle.row_view.proofs.Row.propagate as view
 use Rattle.row_view.proofs.Row.propagate.Symbol as view-def
 use Rattle.row_view.proofs.Row.propagate.Symbol.{name as #row-view·Row·propagate}
 use Rattle.row_view.proofs.Row.propagate.Met as view-thm
-use Rattle.row_view.proofs.propagate_row_at.Key.{name as #row-view·propagate-row-at}
-use Rattle.row_view.proofs.propagate_row_at as plain-row
-use Rattle.row_view.proofs.propagate_row_at.Statement as stated
-use Rattle.row_view.proofs.propagate_row_at.Code as code
+use Rattle.matrix_row.proofs.propagate_row_at.Key.{name as #matrix-row·propagate-row-at}
+use Rattle.matrix_row.proofs.propagate_row_at as plain-row
+use Rattle.matrix_row.proofs.propagate_row_at.Statement as stated
+use Rattle.matrix_row.proofs.propagate_row_at.Code as code
 
 abbrev stayed : Stays (plain-row.ended .signature .params) (plain-row.ended .kept)
 stayed = (stay-none (λ _. usize) yes, (stay-none-slice (0 ∷ []) tt (plain (λ _. i32)) yes, (stay-none-slice (1 ∷ []) tt (plain (λ _. i32)) yes, (stay-none-slice (2 ∷ []) tt (plain (λ _. u8)) yes, (stay-none (λ _. usize) yes, (gave-slice (3 ∷ []) tt (plain (λ _. i32)), tt))))))
@@ -224,7 +224,7 @@ pub propagate-row-at-spec : {M : Type 1} → stated.statement M
 unfolding code.routine tablesOf
 propagate-row-at-spec 𝓤 H 𝓜 𝓖 𝓡 =
     entered 𝓤 H (tripleOf 𝓤 H (𝓖 .A) plain-row.signature (plain-row.spec 𝓤 H (𝓖 .A) (𝓜 .mem) (𝓡 .run)))
-    (tables 𝓤 H 𝓜 𝓡 code.env .C) (tables 𝓤 H 𝓜 𝓡 code.env .Λ) #row-view·propagate-row-at code.function (code.unfolded 𝓤 H 𝓜 𝓡)
+    (tables 𝓤 H 𝓜 𝓡 code.env .C) (tables 𝓤 H 𝓜 𝓡 code.env .Λ) #matrix-row·propagate-row-at code.function (code.unfolded 𝓤 H 𝓜 𝓡)
     (plain-meets 𝓤 H (𝓖 .A) (givenOf 𝓤 H 𝓜 𝓖) (𝓜 .mem) (𝓡 .run) (tablesOf 𝓤 H 𝓜 (tables 𝓤 H 𝓜 𝓡 code.env))
     (cited 𝓤 H (Made 𝓤 H (𝓖 .A) (𝓜 .mem) (𝓡 .run)) 𝓜 𝓡 code.env #row-view·row-at made-def.routine code.calls-row-view·row-at (made-thm.met 𝓤 H 𝓜 𝓖 𝓡))
     (cited 𝓤 H (View 𝓤 H (𝓖 .A) (𝓜 .mem) (𝓡 .run)) 𝓜 𝓡 code.env #row-view·Row·propagate view-def.routine code.calls-row-view·Row·propagate (view-thm.met 𝓤 H 𝓜 𝓖 𝓡)))

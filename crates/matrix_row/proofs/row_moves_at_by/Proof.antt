@@ -1,4 +1,4 @@
--- `row_view::row_moves_at_by` is what the row, read in place by its steps, says. Assumes nothing.
+-- `matrix_row::row_moves_at_by` is what the row, read in place by its steps, says. Assumes nothing.
 use borrow.Author.Needs.{needs}
 use mathlib.Core.Path.{_≡_}
 use mir.Facts.{toZ-ofZ}
@@ -7,8 +7,8 @@ use mir.Val.{ofZ, toZ}
 use Rattle.integer.proofs.RangeLaws.{within-fits}
 use Rattle.model.specs.Box.{at}
 use Rattle.row.proofs.RowLoops.{rhs-within}
-use Rattle.row_view.proofs.row_moves_at_by.Statement.{statement}
-use Rattle.row_view.proofs.row_moves_at_by.Tie as tie
+use Rattle.matrix_row.proofs.row_moves_at_by.Statement.{statement}
+use Rattle.matrix_row.proofs.row_moves_at_by.Tie as tie
 
 rhs-is : (s : tie.Start) → toZ w32 (ofZ w32 (at (s .args .rhs .now) (s .args .r))) ≡ at (s .args .rhs .now) (s .args .r)
 rhs-is s = toZ-ofZ {w = w32} (within-fits w32 tt (rhs-within (s .pre .0 .1 .rhs)))
