@@ -1,12 +1,11 @@
 // The calls on a model in memory. Every call is refused by the model's checks first, 3, 5, 6, 7, 23, 8, 9 and 16, and
 // then by those that its own comment names. Only removing a row, a list and the rounds write kinds.
 use crate::ANSWER;
-use reducer::calls::is_probing_fixpoint;
+use change_call::remove_redundant_row;
+use change_call::tighten_coefficient;
 use reducer::calls::probe;
 use reducer::calls::propagate;
 use reducer::calls::propagate_row;
-use reducer::calls::remove_redundant_row;
-use reducer::calls::tighten_coefficient;
 use replies::answers::probe_reply;
 use replies::answers::propagate_reply;
 use replies::answers::remove_reply;
@@ -17,6 +16,7 @@ use replies::answers::run_reply;
 use replies::answers::tighten_reply;
 use replies::reply::answer_fault;
 use replies::reply::put;
+use rest_call::is_probing_fixpoint;
 ghost use mathlib.Core.List.{[]};
 ghost use mathlib.Core.Path.{_≡_};
 ghost use Rattle.model.specs.Rows.{rowsOf};

@@ -1,4 +1,4 @@
--- `reducer::calls::remove_redundant_row` is `perform` of a drop: refused by the call's number, else the row's own answer, with what it
+-- `change_call::remove_redundant_row` is `perform` of a drop: refused by the call's number, else the row's own answer, with what it
 -- left of the row in its place. Assumes nothing.
 use Prim.Native.Nat.{_<_, ℕ}
 use borrow.Author.Needs.{needs}
@@ -14,11 +14,11 @@ use Rattle.semantics.specs.Perform.{Answer, act, perform, removed}
 use Rattle.semantics.specs.Call.{Call, callOf, hasRow, hasTable, kindOf}
 use Rattle.model.specs.State.{State, stateOf}
 use Rattle.model.specs.Model.{modelOf}
 use Rattle.reducer.specs.OpenCalls.{performed, removeAnswer}
 use Rattle.reducer.proofs.OpenCallLaws.{on-row, perform-refused, promised, row-changed}
 use Rattle.row_view.proofs.RowInLaws.{row-in, valid-row}
-use Rattle.reducer.proofs.calls.remove_redundant_row.Statement.{statement}
-use Rattle.reducer.proofs.calls.remove_redundant_row.Tie as tie
+use Rattle.change_call.proofs.remove_redundant_row.Statement.{statement}
+use Rattle.change_call.proofs.remove_redundant_row.Tie as tie
 
 abbrev state : tie.Start → Rows → State
 state s A = stateOf (s .args .n) (s .args .m) (s .args .bounds .now) A []

@@ -1,4 +1,4 @@
--- `reducer::calls::tighten_coefficient` is `perform` of a sharpen: refused by the call's number, else the row's own answer, with what it
+-- `change_call::tighten_coefficient` is `perform` of a sharpen: refused by the call's number, else the row's own answer, with what it
 -- left of the row in its place. Assumes nothing.
 use Prim.Native.Nat.{_<_, ℕ}
 use borrow.Author.Needs.{needs}
@@ -15,11 +15,11 @@ use Rattle.semantics.specs.Call.{Call, callOf, hasRow, hasTable, hasVariable, k
 use Rattle.model.specs.State.{State, stateOf}
 use Rattle.model.specs.Model.{modelOf}
 use Rattle.semantics.proofs.Accepted.{accepted}
 use Rattle.reducer.specs.OpenCalls.{performed, tightenAnswer}
 use Rattle.reducer.proofs.OpenCallLaws.{on-row, perform-refused, promised, row-changed}
 use Rattle.row_view.proofs.RowInLaws.{row-in, valid-row}
-use Rattle.reducer.proofs.calls.tighten_coefficient.Statement.{statement}
-use Rattle.reducer.proofs.calls.tighten_coefficient.Tie as tie
+use Rattle.change_call.proofs.tighten_coefficient.Statement.{statement}
+use Rattle.change_call.proofs.tighten_coefficient.Tie as tie
 
 abbrev state : tie.Start → Rows → State
 state s A = stateOf (s .args .n) (s .args .m) (s .args .bounds .now) A []

@@ -1,4 +1,4 @@
--- `reducer::checks::call_fault`: the model's checks, then the record's, which do not look at the rows. Assumes nothing.
+-- `open_checks::call_fault`: the model's checks, then the record's, which do not look at the rows. Assumes nothing.
 use borrow.Author.Needs.{needs}
 use mathlib.Core.Bool.{true}
 use mathlib.Core.List.{[]}
@@ -12,9 +12,9 @@ use Rattle.model.specs.Rows.{rowsOf}
 use Rattle.model.specs.State.{State, stateOf}
 use Rattle.model.specs.Model.{modelOf}
 use Rattle.semantics.proofs.Accepted.{modelFaultOf}
-use Rattle.reducer.proofs.OpenCallLaws.{model-refuses, no-table, own-fault}
-use Rattle.reducer.proofs.checks.call_fault.Statement.{statement}
-use Rattle.reducer.proofs.checks.call_fault.Tie as tie
+use Rattle.open_checks.proofs.RefusalLaws.{model-refuses, no-table, own-fault}
+use Rattle.open_checks.proofs.call_fault.Statement.{statement}
+use Rattle.open_checks.proofs.call_fault.Tie as tie
 
 model-fault-requires : tie.Need-model-fault-requires
 model-fault-requires c κs = search needs

@@ -1,4 +1,4 @@
--- `reducer::checks::probe_fault`: the checks of model and table, then the record's, which look at neither rows nor table.
+-- `open_checks::probe_fault`: the checks of model and table, then the record's, which look at neither rows nor table.
 -- Assumes nothing.
 use borrow.Author.Needs.{needs}
 use mathlib.Core.Path.{_∙_, _≡_, sym}
@@ -10,9 +10,9 @@ use Rattle.model.specs.Rows.{rowsOf}
 use Rattle.model.specs.State.{State, stateOf}
 use Rattle.model.specs.Model.{modelOf}
 use Rattle.semantics.proofs.Accepted.{modelFaultOf}
-use Rattle.reducer.proofs.OpenCallLaws.{model-refuses, own-fault}
-use Rattle.reducer.proofs.checks.probe_fault.Statement.{statement}
-use Rattle.reducer.proofs.checks.probe_fault.Tie as tie
+use Rattle.open_checks.proofs.RefusalLaws.{model-refuses, own-fault}
+use Rattle.open_checks.proofs.probe_fault.Statement.{statement}
+use Rattle.open_checks.proofs.probe_fault.Tie as tie
 
 model-table-fault-requires : tie.Need-model-table-fault-requires
 model-table-fault-requires c κs = search needs

@@ -1,4 +1,4 @@
--- `reducer::calls::is_probing_fixpoint` is `rest`: refused by the model's number, else what the test of the box found. Assumes nothing.
+-- `rest_call::is_probing_fixpoint` is `rest`: refused by the model's number, else what the test of the box found. Assumes nothing.
 use borrow.Author.Needs.{needs}
 use mathlib.Core.List.{[]}
 use mathlib.Core.Logic.{_↔_}
@@ -11,10 +11,10 @@ use Rattle.model.specs.State.{State, stateOf}
 use Rattle.model.specs.Model.{modelOf}
 use Rattle.rest.specs.Results.{restAnswerOf}
 use Rattle.rest.specs.declared.Rest.{Rest}
 use Rattle.reducer.specs.OpenCalls.{NoMeans, rest, restVerdict, tested}
 use Rattle.reducer.proofs.OpenCallLaws.{rest-promised, rest-refused, rest-tested}
-use Rattle.reducer.proofs.calls.is_probing_fixpoint.Statement.{statement}
-use Rattle.reducer.proofs.calls.is_probing_fixpoint.Tie as tie
+use Rattle.rest_call.proofs.is_probing_fixpoint.Statement.{statement}
+use Rattle.rest_call.proofs.is_probing_fixpoint.Tie as tie
 
 abbrev state : tie.Start → State
 state s = stateOf (s .args .n) (s .args .m) (s .args .bounds .now) (rowsOf (s .args .coefs .now) (s .args .rhs .now) (s .args .kinds .now)) []
