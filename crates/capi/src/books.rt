@@ -5,7 +5,7 @@ use book::reading::read;
 use book::trailer;
 use book::writing::WriteAnswer;
 use book::writing::write;
-use replies::answers::sizes_reply;
+use call_replies::sizes_reply;
 use replies::reply::put;
 ghost use mathlib.Core.List.{_∷_, []};
 ghost use mathlib.Core.Path.{_≡_};

@@ -2,7 +2,7 @@
 use crate::ANSWER;
 use crate::books::write_number;
 use book::layout::head_fault;
-use replies::answers::sizes_reply;
+use call_replies::sizes_reply;
 use replies::reply::Reply;
 use replies::reply::answer_fault;
 use replies::reply::put;
