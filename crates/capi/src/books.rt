@@ -1,10 +1,10 @@
 // The calls on books.
 use crate::ANSWER;
 use book::SizesAnswer;
-use book::reading::read;
 use book::trailer;
 use book::writing::WriteAnswer;
-use book::writing::write;
+use book_reading::read;
+use book_writing::write;
 use call_replies::sizes_reply;
 use replies::reply::put;
 ghost use mathlib.Core.List.{_∷_, []};

@@ -86,7 +86,7 @@ fn convert_sparse(
         ⌜ now (to .exit) ≡ bookWritten (sparseModelIn n m (now (from .entry))) (now (to .entry)) ⌝ }
 {
     read_numbers(n, m, from, bounds, coefs, rhs, kinds);
-    book::writing::write(n, m, bounds, coefs, rhs, kinds, to)
+    book_writing::write(n, m, bounds, coefs, rhs, kinds, to)
 }
 
 // How many bytes the sparse edition of a first-edition book has. Refused as reading the book is, by 1 to 4, 6 to 9 and

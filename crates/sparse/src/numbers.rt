@@ -51,6 +51,6 @@ pub fn read_first(
     ensures rhs_read { λ r. ⌜ now (rhs .exit) ≡ rhsOf n m (now (book .entry)) ⌝ }
 {
     read_integers(book, 0, 4, bounds);
-    book::reading::read_coefs(n, m, book, coefs);
+    book_reading::read_coefs(n, m, book, coefs);
     read_integers(book, 8 * n, 4 + 4 * n, rhs);
 }

@@ -6,7 +6,7 @@ use crate::head::head_fault;
 use book::layout::ROWS;
 use book::layout::VARIABLES;
 use book::layout::trailer_u16;
-use book::reading::bounds_fault;
+use book_reading::bounds_fault;
 use bytes::integers::are_in_range;
 use bytes::read_i32;
 use bytes::read_u16;
