@@ -11,7 +11,7 @@ use book::writing::WriteAnswer;
 use model::MAX_BOX;
 use model::MAX_MATRIX;
 use model::MAX_ROWS;
-use sparse_layout::reading::layout_fault;
+use sparse_reading::layout_fault;
 ghost use mathlib.Core.Path.{_≡_};
 ghost use Prim.Native.Nat.{_*_};
 ghost use lib.ListN.{length};

@@ -1,8 +1,8 @@
 // The numbers of a book of either edition whose layout has passed its checks, into buffers of its model's lengths.
 use bytes::integers::read_integers;
-use sparse_layout::reading::read_coefs;
-use sparse_layout::reading::read_kinds;
-use sparse_layout::reading::read_rhs;
+use sparse_reading::read_coefs;
+use sparse_reading::read_kinds;
+use sparse_reading::read_rhs;
 ghost use mathlib.Core.Path.{_≡_};
 ghost use Prim.Native.Nat.{_*_};
 ghost use lib.ListN.{length};
