@@ -1,11 +1,11 @@
 // The calls on books.
 use crate::ANSWER;
 use book::SizesAnswer;
-use book::reading::read;
 use book::trailer;
 use book::writing::WriteAnswer;
-use book::writing::write;
-use replies::answers::sizes_reply;
+use book_reading::read;
+use book_writing::write;
+use call_replies::sizes_reply;
 use replies::reply::put;
 ghost use mathlib.Core.List.{_∷_, []};
 ghost use mathlib.Core.Path.{_≡_};

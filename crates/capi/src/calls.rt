@@ -1,22 +1,22 @@
 // The calls on a model in memory. Every call is refused by the model's checks first, 3, 5, 6, 7, 23, 8, 9 and 16, and
 // then by those that its own comment names. Only removing a row, a list and the rounds write kinds.
 use crate::ANSWER;
-use reducer::calls::is_probing_fixpoint;
+use call_replies::probe_reply;
+use call_replies::propagate_reply;
+use call_replies::remove_reply;
+use call_replies::rest_reply;
+use call_replies::rounds_reply;
+use call_replies::row_reply;
+use call_replies::run_reply;
+use call_replies::tighten_reply;
+use change_call::remove_redundant_row;
+use change_call::tighten_coefficient;
 use reducer::calls::probe;
 use reducer::calls::propagate;
 use reducer::calls::propagate_row;
-use reducer::calls::remove_redundant_row;
-use reducer::calls::tighten_coefficient;
-use replies::answers::probe_reply;
-use replies::answers::propagate_reply;
-use replies::answers::remove_reply;
-use replies::answers::rest_reply;
-use replies::answers::rounds_reply;
-use replies::answers::row_reply;
-use replies::answers::run_reply;
-use replies::answers::tighten_reply;
 use replies::reply::answer_fault;
 use replies::reply::put;
+use rest_call::is_probing_fixpoint;
 ghost use mathlib.Core.List.{[]};
 ghost use mathlib.Core.Path.{_≡_};
 ghost use Rattle.model.specs.Rows.{rowsOf};

@@ -2,7 +2,7 @@
 use crate::ANSWER;
 use crate::books::write_number;
 use book::layout::head_fault;
-use replies::answers::sizes_reply;
+use call_replies::sizes_reply;
 use replies::reply::Reply;
 use replies::reply::answer_fault;
 use replies::reply::put;
@@ -14,7 +14,7 @@ use sparse::trailer;
 use sparse::writing::LengthAnswer;
 use sparse::writing::length;
 use sparse::writing::write;
-use sparse_layout::reading::layout_fault;
+use sparse_reading::layout_fault;
 ghost use mathlib.Core.Path.{_≡_};
 ghost use Rattle.book.specs.BookChecks.{headChecks};
 ghost use Rattle.model.specs.Model.{modelOf};

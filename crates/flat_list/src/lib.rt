@@ -35,7 +35,7 @@ fn list_fault(
         let s = stateOf n m (now (bounds .entry)) A (now (table .entry)) in
         ⌜ r ≡ listFault s (now (calls .entry)) ⌝ }
 {
-    model::model_table_fault(n, m, bounds, coefs, rhs, kinds, table, calls.len() % 4 == 0)
+    model_checks::model_table_fault(n, m, bounds, coefs, rhs, kinds, table, calls.len() % 4 == 0)
 }
 
 // Runs a flat list of call records, four numbers each: kind, row, variable, budget. It goes on after a refused call. A

@@ -38,7 +38,7 @@ use crate::transcript;
 use crate::words;
 use crate::words::natural;
 use crate::words::number;
-use reducer::calls::is_probing_fixpoint;
+use rest_call::is_probing_fixpoint;
 
 // What stands behind the first word of a line.
 fn name(line: &[u8]) -> &[u8] {
