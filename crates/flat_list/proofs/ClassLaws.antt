@@ -25,7 +25,7 @@ use Rattle.flat_list.specs.Classes.{ClassesCounted, ClassesRun, classByt
 classes-length : (count : ℕ) (s r : State) (xs : List ℕ) (i : ℕ) → length (classesFrom s (recordsFrom count r xs i)) ≡ count
 unfolding classesFrom recordsFrom
 classes-length zero s r xs i = refl
-classes-length (suc count) s r xs i = ap suc (classes-length count (stepListed s (recordAt r xs i)) r xs (i + 1))
+classes-length (suc count) s r xs i = ap suc (classes-length count _ r xs (i + 1))
 
 -- ---- record by record
 
