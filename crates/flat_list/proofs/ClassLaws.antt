@@ -1,6 +1,6 @@
 -- The classes of a run record by record: before record i those of the records before it are told, and those of the records left are the
 -- classes from i on (`Told`). And the four counts are the counts of the classes. Assumes nothing.
-use Prim.Native.Nat.{_*_, _+_, _-_, _/_, _%_, _<_, _≤_, suc, zero, ℕ}
+use Prim.Native.Nat.{_*_, _+_, _-_, _/_, _<_, _≤_, suc, zero, ℕ}
 use borrow.Author.Count.{below-more}
 use lib.Dec.{eqb}
 use lib.ListN.{getD, length, length-set, set, take}

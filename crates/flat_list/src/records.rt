@@ -8,10 +8,10 @@ ghost use mathlib.Core.Path.{_≡_};
 ghost use Prim.Native.Nat.{_/_, _<_, _≤_};
 ghost use lib.ListN.{length, set, take};
 ghost use Rattle.call.specs.Calls.{callOn};
-ghost use Rattle.call.specs.Classes.{classIs, countsOf};
+ghost use Rattle.call.specs.Classes.{classIs};
 ghost use Rattle.model.specs.Rows.{rowsOf};
 ghost use Rattle.model.specs.State.{State, stateOf};
-ghost use Rattle.semantics.specs.CallList.{listFault, ran, recordAt, runList};
+ghost use Rattle.semantics.specs.CallList.{listFault, recordAt, runList};
 ghost use Rattle.flat_list.specs.Classes.{classByte, classesOf};
 ghost use Rattle.flat_list.specs.ListAnswers.{ranTo};
 

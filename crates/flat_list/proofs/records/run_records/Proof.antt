@@ -1,6 +1,6 @@
 -- `flat_list::records::run_records`: before each record, what is left gives the whole, and the classes so far are told (`Told`).
 -- Assumes nothing.
-use Prim.Native.Nat.{_+_, _-_, _/_, _%_}
+use Prim.Native.Nat.{_+_, _-_, _/_}
 use lib.ListN as lists
 use mathlib.Core.Path.{_∙_, _≡_, ap, sym}
 use native.Mathlib.Omega.{arith}

@@ -18,14 +18,11 @@ text-requires c κs = search needs
 loop-holds : tie.Need-loop-holds Inv-loop μ-loop
 loop-holds c = omega arith
 
-mul-count : tie.Need-mul-count Inv-loop μ-loop
-mul-count c = omega arith
-
 shared-slice-read-count : tie.Need-shared-slice-read-count Inv-loop μ-loop
 shared-slice-read-count c = omega arith
 
 cast-count : tie.Need-cast-count Inv-loop μ-loop
-cast-count c = omega (arith, c .shared-slice-known2 .given (c .before .before .loop .i))
+cast-count c = omega (arith, c .shared-slice-known3 .given (c .before .before .loop .i))
 
 count-requires : tie.Need-count-requires Inv-loop μ-loop
 count-requires c κs = search needs
@@ -53,7 +50,6 @@ bytes-spec =
     μ-loop
     text-requires
     loop-holds
-    mul-count
     shared-slice-read-count
     cast-count
     count-requires
