@@ -57,7 +57,7 @@ fn the_header_and_the_rust_declarations_agree() {
     let mut rust = declarations(FFI, "pub fn astrolabe_", ") -> u32;", str::to_string);
     c.sort();
     rust.sort();
-    assert_eq!(c.len(), 26);
+    assert_eq!(c.len(), 27);
     assert_eq!(c, rust);
 }
 
