@@ -1,0 +1,3 @@
+pub mod PassLaws
+pub mod PassesLaws
+pub mod SearchLaws

@@ -1,0 +1,49 @@
+// The workspace of a prepared model: a lent buffer of 32-bit numbers. Whatever it holds, what is read from it is in
+// range; whether it was written by us is asked of its length and head alone.
+ghost use mathlib.Core.Path.{_≡_};
+ghost use Prim.Native.Nat.{ℕ, _*_, _≤_};
+ghost use lib.ListN.{length};
+ghost use Rattle.workspace.specs.Layout.{boundOf, boxIn, isOurs, workspaceLen};
+
+pub const WORKSPACE_LEN: usize = 16_768;
+
+// "AST1", as bytes.
+pub const OUR_MARK: u32 = 827_609_921;
+
+// Whether its length and head are ours.
+pub fn is_ours(ws: &[u32]) -> bool
+    ensures { λ r. ⌜ r ≡ isOurs (now (ws .entry)) ⌝ }
+{
+    if ws.len() != WORKSPACE_LEN {
+        return false;
+    }
+    if ws[0] != OUR_MARK {
+        return false;
+    }
+    if ws[1] < 1 {
+        return false;
+    }
+    if ws[1] > 128 {
+        return false;
+    }
+    ws[2] <= 120
+}
+
+// A bound in a number of the workspace.
+fn bound(word: u32) -> i32
+    ensures { λ r. ⌜ r ≡ boundOf word ⌝ }
+{
+    ((word % 65_536) as i32) - 32_768
+}
+
+// The box that is kept.
+pub fn read_box(ws: &[u32], bounds: &mut [i32])
+    requires { ⌜ (length (now ws) ≡ workspaceLen) × (length (now bounds) ≤ 256) ⌝ }
+    ensures { λ _. ⌜ ((n : ℕ) → length (now (bounds .entry)) ≡ 2 * n → now (bounds .exit) ≡ boxIn n (now (ws .entry))) ⌝ }
+{
+    let mut i = 0;
+    while i < bounds.len() {
+        bounds[i] = bound(ws[8 + i]);
+        i += 1;
+    }
+}
