@@ -29,7 +29,7 @@ fn note_bound(ws: &[u32], j: usize, old: i32, new: i32, dirty: &mut [u32])
 }
 
 // The bounds of variable j become those of `new`.
-fn note_at(ws: &[u32], j: usize, old: &mut [i32], new: &[i32], dirty: &mut [u32])
+pub fn note_at(ws: &[u32], j: usize, old: &mut [i32], new: &[i32], dirty: &mut [u32])
     requires { ⌜ (length (now ws) ≡ workspaceLen) × (j < 128) × (length (now dirty) ≡ 4)
         × (2 * j + 1 < length (now old)) × (2 * j + 1 < length (now new)) ⌝ }
     ensures left { λ _.
@@ -51,7 +51,7 @@ fn note_at(ws: &[u32], j: usize, old: &mut [i32], new: &[i32], dirty: &mut [u32]
 }
 
 // Whether a bound of variable j differs. Most do not, so this is asked in the loop and costs no call.
-fn differs_at(old: &[i32], new: &[i32], j: usize) -> bool
+pub fn differs_at(old: &[i32], new: &[i32], j: usize) -> bool
     requires { ⌜ (2 * j + 1 < length (now old)) × (2 * j + 1 < length (now new)) ⌝ }
     ensures { λ b.
         ⌜ (b ≡ false → (lower (now (new .entry)) j ≡ lower (now (old .entry)) j)

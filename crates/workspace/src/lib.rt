@@ -3,7 +3,11 @@
 ghost use mathlib.Core.Path.{_≡_};
 ghost use Prim.Native.Nat.{ℕ, _*_, _≤_};
 ghost use lib.ListN.{length};
-ghost use Rattle.workspace.specs.Layout.{boundOf, boxIn, isOurs, workspaceLen};
+ghost use Rattle.model.specs.Box.{at};
+ghost use Rattle.model.specs.Limits.{maxBound, minBound};
+ghost use Rattle.model.specs.Valid.{Between};
+ghost use Rattle.workspace.specs.Kept.{SameBut};
+ghost use Rattle.workspace.specs.Layout.{boundOf, boxIn, dirtyOf, isOurs, workspaceLen};
 
 pub const WORKSPACE_LEN: usize = 16_768;
 
@@ -44,6 +48,34 @@ pub fn read_box(ws: &[u32], bounds: &mut [i32])
     let mut i = 0;
     while i < bounds.len() {
         bounds[i] = bound(ws[8 + i]);
+        i += 1;
+    }
+}
+
+// Keeps the rows to look at.
+pub fn keep_set(dirty: &[u32], ws: &mut [u32])
+    requires { ⌜ (length (now dirty) ≡ 4) × (length (now ws) ≡ workspaceLen) ⌝ }
+    ensures kept { λ _. ⌜ dirtyOf (now (ws .exit)) ≡ now (dirty .entry) ⌝ }
+    ensures others { λ _. ⌜ SameBut 4 8 (now (ws .entry)) (now (ws .exit)) ⌝ }
+{
+    let mut i = 0;
+    while i < 4 {
+        ws[4 + i] = dirty[i];
+        i += 1;
+    }
+}
+
+// Keeps a box.
+pub fn keep_box(bounds: &[i32], ws: &mut [u32])
+    requires { ⌜ (length (now bounds) ≤ 256) × ((i : ℕ) → Between minBound maxBound (at (now bounds) i))
+        × (length (now ws) ≡ workspaceLen) ⌝ }
+    ensures kept { λ _.
+        ⌜ ((n : ℕ) → length (now (bounds .entry)) ≡ 2 * n → boxIn n (now (ws .exit)) ≡ now (bounds .entry)) ⌝ }
+    ensures others { λ _. ⌜ SameBut 8 264 (now (ws .entry)) (now (ws .exit)) ⌝ }
+{
+    let mut i = 0;
+    while i < bounds.len() {
+        ws[8 + i] = (bounds[i] + 32_768) as u32;
         i += 1;
     }
 }

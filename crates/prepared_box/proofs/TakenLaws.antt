@@ -1,0 +1,1 @@
+-- A box that becomes another, variable by variable: one more, and two parts in turn.
