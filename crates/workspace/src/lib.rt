@@ -2,7 +2,9 @@
 // range; whether it was written by us is asked of its length and head alone.
 ghost use mathlib.Core.Path.{_≡_};
 ghost use Prim.Native.Nat.{ℕ, _*_, _≤_};
+ghost use lib.IntN.{negℤ, pos, _+ℤ_};
 ghost use lib.ListN.{length};
+ghost use lib.Signed.{_≤ℤ_};
 ghost use Rattle.model.specs.Box.{at};
 ghost use Rattle.model.specs.Limits.{maxBound, minBound};
 ghost use Rattle.model.specs.Valid.{Between};
@@ -65,6 +67,14 @@ pub fn keep_set(dirty: &[u32], ws: &mut [u32])
     }
 }
 
+// z + by, which is not below 0.
+pub fn raised(z: i32, by: i32) -> u32
+    requires { ⌜ (negℤ by ≤ℤ z) × (z ≤ℤ by) × (by ≤ℤ pos 1_000_000_000) ⌝ }
+    ensures { λ r. ⌜ pos r ≡ z +ℤ by ⌝ }
+{
+    (z + by) as u32
+}
+
 // Keeps a box.
 pub fn keep_box(bounds: &[i32], ws: &mut [u32])
     requires { ⌜ (length (now bounds) ≤ 256) × ((i : ℕ) → Between minBound maxBound (at (now bounds) i))
@@ -75,7 +85,7 @@ pub fn keep_box(bounds: &[i32], ws: &mut [u32])
 {
     let mut i = 0;
     while i < bounds.len() {
-        ws[8 + i] = (bounds[i] + 32_768) as u32;
+        ws[8 + i] = raised(bounds[i], 32_768);
         i += 1;
     }
 }
