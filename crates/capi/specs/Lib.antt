@@ -2,3 +2,4 @@ pub mod Exports
 pub mod CliqueExports
 pub mod SparseExports
 pub mod PageExports
+pub mod PreparedExports
