@@ -2,4 +2,3 @@ pub mod Exports
 pub mod CliqueExports
 pub mod SparseExports
 pub mod PageExports
-pub mod PreparedExports

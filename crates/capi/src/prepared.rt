@@ -1,13 +1,9 @@
 // Prepared models: a model is checked once and written into a lent workspace; then a call at every branch is lent the
 // workspace and bounds. What is said of the answer is said of a workspace that is prepared for the rows A, whichever they
 // are; what is said of refusals, of any.
-use crate::ANSWER;
 use prepare::prepare;
-use prepared_call::propagate;
-use prepared_probe::probe;
-use prepared_replies::prepared_reply;
-use replies::answers::probe_reply;
-use replies::reply::put;
+use prepared_replies::exports::probe_said;
+use prepared_replies::exports::propagate_said;
 ghost use mathlib.Core.Bool.{true};
 ghost use mathlib.Core.List.{[]};
 ghost use mathlib.Core.Path.{_≡_};
@@ -20,12 +16,12 @@ ghost use Rattle.model.specs.State.{stateOf};
 ghost use Rattle.model.specs.Valid.{ValidBox};
 ghost use Rattle.prepared_call.specs.PreparedCall.{propagateFault, reasonsFit};
 ghost use Rattle.prepared_probe.specs.Checks.{probeFault};
-ghost use Rattle.prepared_replies.specs.PreparedReplies.{faultWith};
-ghost use Rattle.replies.specs.Replies.{answerLength};
+ghost use Rattle.prepared_replies.specs.PreparedReplies.{Said, faultWith, preparedReply};
+ghost use Rattle.replies.specs.Replies.{answerLength, callReply};
+ghost use Rattle.semantics.specs.Call.{callOf};
+ghost use Rattle.semantics.specs.Perform.{perform};
 ghost use Rattle.workspace.specs.Layout.{rowsIn, variablesOf, workspaceLen};
 ghost use Rattle.workspace.specs.Prepared.{Prepared};
-ghost use Rattle.capi.specs.Exports.{callExport, exported};
-ghost use Rattle.capi.specs.PreparedExports.{preparedExport};
 
 // Checks a model and writes it into the workspace; no answer, the number says all. Refused by the model's checks, the
 // workspace's length among those of 5.
@@ -52,8 +48,7 @@ pub extern "C" fn astrolabe_prepare(
     prepare(n, m, bounds, coefs, rhs, kinds, workspace)
 }
 
-// 01's settle on a prepared model: {0 None | 1 Settled | 2 Spent, passes, moved, the infeasible row}. Refused by 5, 6, 7,
-// 23 and 15.
+// 01's settle: {0 None | 1 Settled | 2 Spent, passes, moved, the infeasible row}. Refused by 5, 6, 7, 23 and 15.
 #[no_mangle]
 pub extern "C" fn astrolabe_prepared_propagate(
     workspace: &mut [u32],
@@ -77,22 +72,17 @@ pub extern "C" fn astrolabe_prepared_propagate(
         ⌜ ((A : Rows) → Prepared W A → reasonsFit (variablesOf W) (now (reasons .entry)) ≡ true
         → length (now (answer .entry)) ≡ answerLength
         → let s = stateOf (variablesOf W) (rowsIn W) (now (bounds .entry)) A [] in
-        let r' = stateOf (variablesOf W) (rowsIn W) (now (bounds .exit)) A [] in
+        let p = perform s (callOf s 2 0 0 budget) in
         let row = getD (now (answer .exit)) 3 0 in
-        exported r (now (answer .exit)) r' ≡ preparedExport (now (answer .entry)) s row budget) ⌝ }
+        Said (preparedReply (p .answer) row) (now (answer .entry)) r (now (answer .exit))
+        × (stateOf (variablesOf W) (rowsIn W) (now (bounds .exit)) A [] ≡ p .state)) ⌝ }
     ensures prepared { λ r.
         ⌜ ((A : Rows) → Prepared (now (workspace .entry)) A → Prepared (now (workspace .exit)) A) ⌝ }
 {
-    if answer.len() != ANSWER {
-        return 5;
-    }
-    put(
-        prepared_reply(propagate(workspace, bounds, budget, reasons)),
-        answer,
-    )
+    propagate_said(workspace, bounds, budget, reasons, answer)
 }
 
-// 01's probe on a prepared model: the answer is that of `astrolabe_probe`. Refused by 5, 6, 7, 23, 10, 13, 14 and 15.
+// 01's probe: the answer is that of any probe. Refused by 5, 6, 7, 23, 10, 13, 14 and 15.
 #[no_mangle]
 pub extern "C" fn astrolabe_prepared_probe(
     workspace: &mut [u32],
@@ -116,16 +106,11 @@ pub extern "C" fn astrolabe_prepared_probe(
         let W = now (workspace .entry) in
         ⌜ ((A : Rows) → Prepared W A → length (now (answer .entry)) ≡ answerLength
         → let s = stateOf (variablesOf W) (rowsIn W) (now (bounds .entry)) A (now (table .entry)) in
-        let r' = stateOf (variablesOf W) (rowsIn W) (now (bounds .exit)) A (now (table .exit)) in
-        exported r (now (answer .exit)) r' ≡ callExport (now (answer .entry)) s 3 0 variable budget) ⌝ }
+        let p = perform s (callOf s 3 0 variable budget) in
+        Said (callReply (p .answer)) (now (answer .entry)) r (now (answer .exit))
+        × (stateOf (variablesOf W) (rowsIn W) (now (bounds .exit)) A (now (table .exit)) ≡ p .state)) ⌝ }
     ensures prepared { λ r.
         ⌜ ((A : Rows) → Prepared (now (workspace .entry)) A → Prepared (now (workspace .exit)) A) ⌝ }
 {
-    if answer.len() != ANSWER {
-        return 5;
-    }
-    put(
-        probe_reply(probe(workspace, bounds, table, variable, budget)),
-        answer,
-    )
+    probe_said(workspace, bounds, table, variable, budget, answer)
 }

@@ -2,10 +2,11 @@
 use Prim.Native.Nat.{ℕ}
 use borrow.Author.Tests.{eq-eqb, ne-eqb}
 use lib.Dec.{T}
-use lib.ListN.{length}
+use lib.ListN.{getD, length}
 use mathlib.Core.Bool.{Bool, cond, not}
 use mathlib.Core.List.{List}
 use mathlib.Core.Path.{_∙_, _≡_, ap, refl, sym}
+use native.Mathlib.Omega.{arith}
 use Rattle.replies.specs.Replies.{Reply, answerLength, callReply, probeEnded, returned, written}
 use Rattle.semantics.specs.Perform.{Answer, probed, propagated, propagatedRow, refused, removed, tightened}
 use Rattle.semantics.specs.Probe as probe
@@ -52,3 +53,18 @@ fault-short A fault wrong = ap (λ (t : Bool). cond t fault 5) (ne-eqb (length A
 pub fault-whole : (A : List ℕ) (fault : ℕ) → length A ≡ answerLength → faultWith A fault ≡ fault
 unfolding faultWith
 fault-whole A fault right = ap (λ (t : Bool). cond t fault 5) (eq-eqb (length A) answerLength right)
+
+-- a wrong length is always refused
+pub short-refused : (A : List ℕ) (fault : ℕ) → (length A ≡ answerLength → ⊥) → faultWith A fault ≡ 0 → ⊥
+short-refused A fault wrong e = let five : _≡_ {A = ℕ} 5 0 = sym (fault-short A fault wrong) ∙ e in omega (arith, five)
+
+-- ---- the row stands in the fourth place
+
+pub row-told : (a : Answer) (row : ℕ) (A : List ℕ) → preparedReply a row ≡ preparedReply a (getD (written (preparedReply a row) A) 3 0)
+unfolding preparedReply written
+row-told (propagated e passes moved) row A = refl
+row-told (refused number) row A = refl
+row-told (propagatedRow o moved) row A = refl
+row-told (probed e s0 s1) row A = refl
+row-told (tightened o) row A = refl
+row-told (removed o) row A = refl

@@ -4,7 +4,8 @@ use lib.Dec.{eqb}
 use lib.ListN.{length}
 use mathlib.Core.Bool.{cond}
 use mathlib.Core.List.{List, [], _∷_}
-use Rattle.replies.specs.Replies.{Reply, answerLength, callReply, endingCase, says}
+use mathlib.Core.Path.{_≡_}
+use Rattle.replies.specs.Replies.{Reply, answerLength, callReply, endingCase, returned, says, written}
 use Rattle.semantics.specs.Perform.{Answer, probed, propagated, propagatedRow, refused, removed, tightened}
 
 -- "{0 None | 1 Settled | 2 Spent, passes, moved, row}": what a settle says, "and in the fourth place the row that was infeasible, the
@@ -21,3 +22,8 @@ preparedReply (removed o) row = callReply (removed o)
 -- which is the first of these calls"
 unfoldable pub faultWith : List ℕ → ℕ → ℕ
 faultWith A fault = cond (eqb (length A) answerLength) fault 5
+
+-- the reply q was said: its number is returned, and its places are written over the answer A
+pub record Said (q : Reply) (A : List ℕ) (number : ℕ) (A′ : List ℕ) : Type 0 where
+  pub returns : number ≡ returned q
+  pub writes : A′ ≡ written q A

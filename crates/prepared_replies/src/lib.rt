@@ -1,5 +1,7 @@
 // What the calls on a prepared model say in the C interface: the reply to a propagation, with the row that was
-// infeasible in a place of its own. A probe's is that of any probe.
+// infeasible in a place of its own (a probe's is that of any probe), and the calls that say it (`exports`).
+pub mod exports;
+
 use prepared_call::NO_ROW;
 use prepared_call::PreparedPropagation;
 use replies::reply::Reply;

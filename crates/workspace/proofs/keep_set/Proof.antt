@@ -62,7 +62,7 @@ returns c =
     let h = c .before in
     let ws = h .loop .ws in
     let wide : length (take 4 (drop 4 ws)) ≡ 4 =
-        length-take-le 4 (drop 4 ws) (omega (arith, length-drop 4 ws, h .loop .inv .1 .len, h .before .pre)) in (
+    length-take-le 4 (drop 4 ws) (omega (arith, length-drop 4 ws, h .loop .inv .1 .len, h .before .pre)) in (
       ext-getD 0 _ _ (wide ∙ sym (h .before .pre .0))
           (λ q k. getD-take 4 (drop 4 ws) q 0 (omega arith) ∙ getD-drop 4 ws q 0 ∙ h .loop .inv .2 q (omega arith)),
       same-wider (omega arith) (h .loop .inv .1),

@@ -1,0 +1,96 @@
+-- `prepared_replies::exports::propagate_said`: a wrong answer length, or the answer of the open call, written. Assumes nothing.
+use Prim.Native.Nat.{ℕ}
+use borrow.Author.Needs.{needs}
+use lib.ListN.{getD, length}
+use mathlib.Core.List.{List}
+use mathlib.Core.Path.{_∙_, _≡_, ap, refl, sym}
+use Rattle.model.specs.Rows.{Rows}
+use Rattle.prepared_call.specs.PreparedCall.{preparedAnswer, propagateFault, rowOf}
+use Rattle.reducer.specs.OpenCalls.{performed}
+use Rattle.replies.specs.Replies.{Reply, answerLength, returned, written}
+use Rattle.semantics.specs.Perform.{Performed}
+use Rattle.prepared_replies.specs.PreparedReplies.{Said, faultWith, preparedReply}
+use Rattle.prepared_replies.proofs.ReplyLaws.{fault-short, fault-whole, prepared-accepted, prepared-refusal, row-told, short-refused}
+use Rattle.prepared_replies.proofs.exports.propagate_said.Statement.{statement}
+use Rattle.prepared_replies.proofs.exports.propagate_said.Tie as tie
+
+-- the number that refuses the call, but for the answer's length
+abbrev number : tie.Start → ℕ
+number s = propagateFault (s .args .workspace .now) (s .args .bounds .now) (s .args .reasons .now) (s .args .budget)
+
+returns : tie.Need-returns
+returns c =
+    let s = c .before .before .before .before in
+    let A = s .args .answer .now in (
+      (λ h. (sym (fault-short A (number s) (c .if1 .taken)), refl, refl, refl, refl)),
+      (
+        (λ z. absurd (short-refused A (number s) (c .if1 .taken) z)),
+        ((λ M P fits right. absurd (c .if1 .taken right)), (λ M P. P)),
+      ),
+    )
+
+propagate-requires : tie.Need-propagate-requires
+propagate-requires c κs = search needs
+
+prepared-reply-requires : tie.Need-prepared-reply-requires
+prepared-reply-requires c κs = search needs
+
+put-requires : tie.Need-put-requires
+put-requires c κs = search needs
+
+same-length : tie.Need-same-length
+same-length c = search needs
+
+same-length-2 : tie.Need-same-length-2
+same-length-2 c = search needs
+
+same-length-3 : tie.Need-same-length-3
+same-length-3 c = search needs
+
+same-length-4 : tie.Need-same-length-4
+same-length-4 c = search needs
+
+returns-2 : tie.Need-returns-2
+unfolding performed
+returns-2 c =
+    let p = c .before .before .before .before .before .before .before .before .before .before in
+    let s = p .before .before .before .before .before .before .before .before in
+    let A = s .args .answer .now in
+    let put = c .before .before .put .ensures in
+    let e = c .before .before .before .before .prepared-reply .ensures in
+    let a = preparedAnswer (p .propagate .result) in
+    let row = rowOf (p .propagate .result) in
+    let whole = fault-whole A (number s) (p .before .before .before .before .if1 .left) in (
+      (λ h.
+          let f = p .propagate .ensures .0 (λ z. h (whole ∙ z)) in
+          let said = prepared-refusal (f .0) row A in
+          (put .0 ∙ ap returned e ∙ said .0 ∙ sym whole, put .1 ∙ ap (λ (q : Reply). written q A) e ∙ said .1, f .1, f .2, f .3)),
+      (
+        (λ z.
+            let ok = p .propagate .ensures .1 .0 (sym whole ∙ z) in
+            (put .0 ∙ ap returned e ∙ prepared-accepted a row (ok .0), ok .1)),
+        (
+          (λ M P fits right.
+              let d = p .propagate .ensures .1 .1 .0 M P fits in
+              let told = getD (c .before .before .put .last .1 .0) 3 0 in
+              let same = row-told a row A ∙ ap (λ (xs : List ℕ). preparedReply a (getD xs 3 0)) (sym (put .1 ∙ ap (λ (q : Reply). written q A) e)) in
+              let q = e ∙ same ∙ ap (λ (w : Performed). preparedReply (w .answer) told) d in
+              (record { returns = put .0 ∙ ap returned q; writes = put .1 ∙ ap (λ (q : Reply). written q A) q }, ap (λ (w : Performed). w .state) d)),
+          p .propagate .ensures .1 .1 .1,
+        ),
+      ),
+    )
+
+pub propagate-said-spec : {M : Type 1} → statement M
+propagate-said-spec =
+    tie.close
+    (tie.spec
+    returns
+    propagate-requires
+    prepared-reply-requires
+    put-requires
+    same-length
+    same-length-2
+    same-length-3
+    same-length-4
+    returns-2)
