@@ -1,5 +1,6 @@
 // A row of a prepared model is propagated, and the rows that hear of a bound that it moved are to be looked at.
 use crate::notes::note;
+use crate::reasons::blame;
 use packed_row::propagate_row_packed;
 use packed_row::row_moves_packed;
 use row::propagation::RowPropagation;
@@ -15,6 +16,7 @@ ghost use Rattle.row.specs.Kinds.{propagateRowOf, rowMovesOf};
 ghost use Rattle.row_set.specs.Bits.{bitAt};
 ghost use Rattle.row_set.specs.Readers.{Calm, Hearers};
 ghost use Rattle.workspace.specs.Layout.{decode, fallOf, riseOf};
+ghost use Rattle.prepared_row.specs.Reasons.{Lent, rowReasons};
 ghost use Rattle.prepared_row.specs.Visit.{Looking, Sized, Visiting};
 
 // A ≤ row that was propagated moves nothing when it is propagated again; an = row may.
@@ -37,8 +39,10 @@ fn visit(
     bounds: &mut [i32],
     seen: &mut [i32],
     dirty: &mut [u32],
+    reasons: &mut [u32],
 ) -> RowPropagation
-    requires { ⌜ Visiting (now words) (now ws) r (now bounds) (now seen) (now dirty) ⌝ }
+    requires { ⌜ Visiting (now words) (now ws) r (now bounds) (now seen) (now dirty)
+        × Lent (length (now words)) (now reasons) ⌝ }
     ensures propagated { λ v.
         let W = now (words .entry) in
         ⌜ propagatedRowOf v (now (bounds .exit))
@@ -51,12 +55,18 @@ fn visit(
         → Hearers n m A (riseOf (now (ws .entry))) (fallOf (now (ws .entry)))
         → Calm n m A (now (bounds .entry)) (now (dirty .entry))
         → Calm n m A (now (bounds .exit)) (now (dirty .exit))) ⌝ }
+    ensures reasons { λ _.
+        let W = now (words .entry) in
+        let B = now (bounds .entry) in
+        ⌜ now (reasons .exit)
+        ≡ rowReasons r B (propagateRowOf (length W) (rowOfWords W side) B) (now (reasons .entry)) ⌝ }
 {
     match propagate_row_packed(words, side, bounds) {
         RowPropagation::Infeasible => {
             return RowPropagation::Infeasible;
         }
         RowPropagation::Tightened(moved) => {
+            blame(words, r as u32, seen, bounds, reasons);
             note(words, ws, seen, bounds, dirty);
             done(side, r, dirty);
             return RowPropagation::Tightened(moved);
@@ -77,8 +87,9 @@ pub fn visit_at(
     bounds: &mut [i32],
     seen: &mut [i32],
     dirty: &mut [u32],
+    reasons: &mut [u32],
 ) -> RowPropagation
-    requires { ⌜ Looking n m (now ws) (now bounds) (now seen) (now dirty) × (r < m) ⌝ }
+    requires { ⌜ Looking n m (now ws) (now bounds) (now seen) (now dirty) × (r < m) × Lent n (now reasons) ⌝ }
     ensures propagated { λ v.
         ⌜ propagatedRowOf v (now (bounds .exit))
         ≡ propagateRowOf n (rowAt n (decode n m (now (ws .entry))) r) (now (bounds .entry)) ⌝ }
@@ -88,6 +99,10 @@ pub fn visit_at(
         ⌜ (Hearers n m (decode n m W) (riseOf W) (fallOf W)
         → Calm n m (decode n m W) (now (bounds .entry)) (now (dirty .entry))
         → Calm n m (decode n m W) (now (bounds .exit)) (now (dirty .exit))) ⌝ }
+    ensures reasons { λ _.
+        let B = now (bounds .entry) in
+        ⌜ now (reasons .exit)
+        ≡ rowReasons r B (propagateRowOf n (rowAt n (decode n m (now (ws .entry))) r) B) (now (reasons .entry)) ⌝ }
 {
     let start = 1_408 + r * n;
     visit(
@@ -98,6 +113,7 @@ pub fn visit_at(
         bounds,
         seen,
         dirty,
+        reasons,
     )
 }
 
