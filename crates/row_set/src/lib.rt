@@ -42,6 +42,15 @@ pub fn add(more: &[u32], set: &mut [u32])
     }
 }
 
+// Puts row r into the set. The others stay.
+pub fn insert(r: usize, set: &mut [u32])
+    requires { ⌜ (r < 128) × (length (now set) ≡ 4) ⌝ }
+    ensures row { λ _. ⌜ bitAt (now (set .exit)) r ≡ 1 ⌝ }
+    ensures others { λ _. ⌜ ((i : ℕ) → (i ≡ r → ⊥) → bitAt (now (set .exit)) i ≡ bitAt (now (set .entry)) i) ⌝ }
+{
+    set[r / 32] |= 1 << (r % 32);
+}
+
 // Takes row r, which is in the set, out of it. The others stay.
 pub fn remove(r: usize, set: &mut [u32])
     requires { ⌜ (r < 128) × (length (now set) ≡ 4) ⌝ }

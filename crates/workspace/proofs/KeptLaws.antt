@@ -32,6 +32,9 @@ same-more {p} k {W} {X} s w = record {
   after = λ i h. getD-set-other X (p + k) i w 0 (omega arith) ∙ s .after i (omega arith);
 }
 
+pub same-wider : {p q s : ℕ} {W X : List ℕ} → q ≤ s → SameBut p q W X → SameBut p s W X
+same-wider {p} {q} {s} h k = record { len = k .len; before = k .before; after = λ i l. k .after i (omega arith) }
+
 pub same-join : {p q s : ℕ} {W X Y : List ℕ} → p ≤ q → q ≤ s → SameBut p q W X → SameBut q s X Y → SameBut p s W Y
 same-join {p} {q} {s} h k a b = record {
   len = b .len ∙ a .len;

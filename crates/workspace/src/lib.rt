@@ -1,8 +1,10 @@
 // The workspace of a prepared model: a lent buffer of 32-bit numbers. Whatever it holds, what is read from it is in
 // range; whether it was written by us is asked of its length and head alone.
 ghost use mathlib.Core.Path.{_≡_};
-ghost use Prim.Native.Nat.{ℕ, _*_, _≤_};
-ghost use lib.ListN.{length};
+ghost use Prim.Native.Nat.{ℕ, _*_, _+_, _≤_};
+ghost use lib.IntN.{negℤ, pos, _+ℤ_};
+ghost use lib.ListN.{drop, length, take};
+ghost use lib.Signed.{_≤ℤ_};
 ghost use Rattle.model.specs.Box.{at};
 ghost use Rattle.model.specs.Limits.{maxBound, minBound};
 ghost use Rattle.model.specs.Valid.{Between};
@@ -52,17 +54,36 @@ pub fn read_box(ws: &[u32], bounds: &mut [i32])
     }
 }
 
+// Writes numbers from a place on.
+pub fn put(numbers: &[u32], place: usize, ws: &mut [u32])
+    requires { ⌜ (place + length (now numbers) ≤ length (now ws)) × (length (now ws) ≡ workspaceLen) ⌝ }
+    ensures numbers { λ _.
+        ⌜ take (length (now (numbers .entry))) (drop place (now (ws .exit))) ≡ now (numbers .entry) ⌝ }
+    ensures others { λ _.
+        ⌜ SameBut place (place + length (now (numbers .entry))) (now (ws .entry)) (now (ws .exit)) ⌝ }
+{
+    let mut i = 0;
+    while i < numbers.len() {
+        ws[place + i] = numbers[i];
+        i += 1;
+    }
+}
+
 // Keeps the rows to look at.
 pub fn keep_set(dirty: &[u32], ws: &mut [u32])
     requires { ⌜ (length (now dirty) ≡ 4) × (length (now ws) ≡ workspaceLen) ⌝ }
     ensures kept { λ _. ⌜ dirtyOf (now (ws .exit)) ≡ now (dirty .entry) ⌝ }
     ensures others { λ _. ⌜ SameBut 4 8 (now (ws .entry)) (now (ws .exit)) ⌝ }
 {
-    let mut i = 0;
-    while i < 4 {
-        ws[4 + i] = dirty[i];
-        i += 1;
-    }
+    put(dirty, 4, ws);
+}
+
+// z + by, which is not below 0.
+pub fn raised(z: i32, by: i32) -> u32
+    requires { ⌜ (negℤ by ≤ℤ z) × (z ≤ℤ by) × (by ≤ℤ pos 1_000_000_000) ⌝ }
+    ensures { λ r. ⌜ pos r ≡ z +ℤ by ⌝ }
+{
+    (z + by) as u32
 }
 
 // Keeps a box.
@@ -75,7 +96,7 @@ pub fn keep_box(bounds: &[i32], ws: &mut [u32])
 {
     let mut i = 0;
     while i < bounds.len() {
-        ws[8 + i] = (bounds[i] + 32_768) as u32;
+        ws[8 + i] = raised(bounds[i], 32_768);
         i += 1;
     }
 }
