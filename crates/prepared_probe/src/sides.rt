@@ -1,5 +1,6 @@
 // The two sides of a probe of a prepared model, and what is kept of what they come to.
 use boxes::copy_box;
+use boxes::make_empty;
 use model::MAX_BOX;
 use prepared_box::taken::take_box;
 use prepared_propagation::propagate_prepared;
@@ -51,17 +52,13 @@ fn propagate_side(
     let mut dirty = [0u32; SET_WORDS];
     take_box(n, ws, side, seen, &mut dirty);
     let mut reasons = [0u32; 1];
-    let p = propagate_prepared(
-        n,
-        m,
-        ws,
-        side,
-        budget,
-        seen,
-        &mut dirty,
-        &mut reasons[..0],
-    );
-    p.end
+    let told = propagate_prepared(n, m, ws, side, budget, seen, &mut dirty, &mut reasons[..0]);
+    let end = told.end;
+    let Propagation::Infeasible(_, _) = end else {
+        return end;
+    };
+    make_empty(side);
+    end
 }
 
 // Side v of k, in the lent buffer: the box with k fixed at v, propagated with the budget.
