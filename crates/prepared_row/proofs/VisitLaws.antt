@@ -25,6 +25,7 @@ use Rattle.sweep.proofs.StableLaws.{kinded-after}
 use Rattle.workspace.specs.Layout.{decode, fallOf, riseOf, rowIn, rowWords}
 use Rattle.workspace.proofs.DecodeLaws.{decode-row, length-words, row-readable}
 use Rattle.prepared_row.specs.Heard.{Missed, Noting}
+use Rattle.prepared_row.specs.Reasons.{Blaming, Lent}
 use Rattle.prepared_row.specs.Visit.{Looking, Sized, Visiting}
 
 -- where the sets are those of the rows that hear, a row that misses a variable's moves hears nothing of it
@@ -96,6 +97,12 @@ module _ {ws W : List ℕ} {r : ℕ} {B seen : List ℤ} {D : List ℕ} (v : Vis
     newLen = rw q (kinded-valid row (v .words .box) .len);
     elsewhere = λ k h e. rw (v .known, q) (visit-zero n row B f k h e);
   }
+
+  pub visit-blaming : {Q : List ℤ} {R : List ℕ} → Lent n R → Q ≡ propagateRowOf n row B .box → T (not (isInfeasible (propagateRowOf n row B .outcome)))
+      → Blaming ws seen Q R
+  visit-blaming l q f =
+      let w = visit-noting q f in
+      record { few = w .few; oldLen = w .oldLen; newLen = w .newLen; lent = l; elsewhere = w .elsewhere }
 
   pub kept-kind : {D₁ D₂ : List ℕ} → (side % 2 ≡ 1 → D₂ ≡ D₁) → T (isEquality row) → D₂ ≡ D₁
   unfolding rowOfWords isEquality

@@ -30,10 +30,10 @@ rowReasons r B v R = cond (isInfeasible (v .outcome)) R (blame r B (v .box) R)
 pub record Lent (n : ℕ) (R : List ℕ) : Type 0 where
   pub len : (length R ≡ 0) ⊎ (length R ≡ 2 * n)
 
--- two boxes that differ only where the row that the words say has a coefficient, and a list that is not empty
+-- two boxes that differ only where the row that the words say has a coefficient, and a list
 pub record Blaming (ws : List ℕ) (old new : List ℤ) (R : List ℕ) : Type 0 where
   pub few : length ws ≤ 128
   pub oldLen : length old ≡ 2 * length ws
   pub newLen : length new ≡ 2 * length ws
-  pub len : length R ≡ 2 * length ws
+  pub lent : Lent (length ws) R
   pub elsewhere : (k : ℕ) → k < length ws → at (coefsFrom ws 0) k ≡ pos 0 → (lower new k ≡ lower old k) × (upper new k ≡ upper old k)

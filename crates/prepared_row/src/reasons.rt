@@ -17,11 +17,15 @@ fn blame_bound(i: usize, r: u32, old: &[i32], new: &[i32], reasons: &mut [u32])
 }
 
 // Row r, which the words say, made the box `new` of the box `old`: they differ only where it has a coefficient.
+// Nothing is told to an empty list.
 pub fn blame(words: &[u32], r: u32, old: &[i32], new: &[i32], reasons: &mut [u32])
     requires { ⌜ Blaming (now words) (now old) (now new) (now reasons) ⌝ }
     ensures { λ _.
         ⌜ now (reasons .exit) ≡ blameOf r (now (old .entry)) (now (new .entry)) (now (reasons .entry)) ⌝ }
 {
+    if reasons.len() == 0 {
+        return;
+    }
     let mut j: usize = 0;
     while j < words.len() {
         blame_bound(2 * j, r, old, new, reasons);

@@ -66,9 +66,7 @@ fn visit(
             return RowPropagation::Infeasible;
         }
         RowPropagation::Tightened(moved) => {
-            if reasons.len() != 0 {
-                blame(words, r as u32, seen, bounds, reasons);
-            }
+            blame(words, r as u32, seen, bounds, reasons);
             note(words, ws, seen, bounds, dirty);
             done(side, r, dirty);
             return RowPropagation::Tightened(moved);

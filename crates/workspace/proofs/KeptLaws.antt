@@ -32,6 +32,14 @@ same-more {p} k {W} {X} s w = record {
   after = λ i h. getD-set-other X (p + k) i w 0 (omega arith) ∙ s .after i (omega arith);
 }
 
+-- a number between p and q
+pub same-inside : {p q : ℕ} {W X : List ℕ} → SameBut p q W X → (i w : ℕ) → p ≤ i → i < q → SameBut p q W (set X i w)
+same-inside {p} {q} {W} {X} s i w h k = record {
+  len = length-set X i w ∙ s .len;
+  before = λ j l. getD-set-other X i j w 0 (omega arith) ∙ s .before j l;
+  after = λ j l. getD-set-other X i j w 0 (omega arith) ∙ s .after j l;
+}
+
 pub same-wider : {p q s : ℕ} {W X : List ℕ} → q ≤ s → SameBut p q W X → SameBut p s W X
 same-wider {p} {q} {s} h k = record { len = k .len; before = k .before; after = λ i l. k .after i (omega arith) }
 
@@ -52,11 +60,9 @@ module _ {p q : ℕ} {W X : List ℕ} (s : SameBut p q W X) where
   pub same-decode : q ≤ 264 → (n m : ℕ) → decode n m X ≡ decode n m W
   unfolding decode rowWords
   same-decode h n m =
-      rw (
-        listTo-same (m * n) (λ k. at (coefsFrom (take n (drop (1_408 + k / n * n) X)) 0) (k % n)) (λ k. at (coefsFrom (take n (drop (1_408 + k / n * n) W)) 0) (k % n)) words,
-        listTo-same m (λ r. rhsOf (sideWord X r)) (λ r. rhsOf (sideWord W r)) (λ r k. ap rhsOf (side r)),
-        listTo-same m (λ r. sideWord X r % 2) (λ r. sideWord W r % 2) (λ r k. ap (λ (w : ℕ). w % 2) (side r)),
-      )
+      rw (listTo-same (m * n) (λ k. at (coefsFrom (take n (drop (1_408 + k / n * n) X)) 0) (k % n)) (λ k. at (coefsFrom (take n (drop (1_408 + k / n * n) W)) 0) (k % n)) words,
+      listTo-same m (λ r. rhsOf (sideWord X r)) (λ r. rhsOf (sideWord W r)) (λ r k. ap rhsOf (side r)),
+      listTo-same m (λ r. sideWord X r % 2) (λ r. sideWord W r % 2) (λ r k. ap (λ (w : ℕ). w % 2) (side r)))
     where
       side : (r : ℕ) → sideWord X r ≡ sideWord W r
       side r = s .after (264 + r) (omega arith)
@@ -72,15 +78,19 @@ module _ {p q : ℕ} {W X : List ℕ} (s : SameBut p q W X) where
   unfolding fallOf
   same-fall h j = ap (take 4) (same-after (388 + 8 * j) (omega arith))
 
-  pub same-dirty : 8 ≤ p → 8 ≤ length W → dirtyOf X ≡ dirtyOf W
-  unfolding dirtyOf
-  same-dirty h l =
+  -- what stands before p
+  pub same-before : (d k : ℕ) → d + k ≤ p → d + k ≤ length W → take k (drop d X) ≡ take k (drop d W)
+  same-before d k h l =
       ext-getD 0 _ _ (wide X (rw (s .len) l) ∙ sym (wide W l))
-      (λ i k. let small = rw (wide X (rw (s .len) l)) at k in
-      getD-take 4 (drop 4 X) i 0 small ∙ getD-drop 4 X i 0 ∙ s .before (4 + i) (omega arith) ∙ sym (getD-take 4 (drop 4 W) i 0 small ∙ getD-drop 4 W i 0))
+      (λ i b. let small = rw (wide X (rw (s .len) l)) at b in
+          getD-take k (drop d X) i 0 small ∙ getD-drop d X i 0 ∙ s .before (d + i) (omega arith) ∙ sym (getD-take k (drop d W) i 0 small ∙ getD-drop d W i 0))
     where
-      wide : (L : List ℕ) → 8 ≤ length L → length (take 4 (drop 4 L)) ≡ 4
-      wide L k = length-take-le 4 (drop 4 L) (omega (arith, length-drop 4 L))
+      wide : (L : List ℕ) → d + k ≤ length L → length (take k (drop d L)) ≡ k
+      wide L b = length-take-le k (drop d L) (omega (arith, length-drop d L))
+
+pub same-set : {q : ℕ} {W X : List ℕ} → SameBut 8 q W X → 8 ≤ length W → dirtyOf X ≡ dirtyOf W
+unfolding dirtyOf
+same-set s l = same-before s 4 4 (omega arith) l
 
 -- the set and the box are written, in this order, and the rows outside the set move nothing in the box
 pub prepared-kept : {W X Y : List ℕ} {A : Rows} {B : List ℤ} {D : List ℕ} → Prepared W A → SameBut 4 8 W X → SameBut 8 264 X Y → dirtyOf X ≡ D
@@ -89,7 +99,7 @@ prepared-kept {W} {X} {Y} {A} {B} {D} P s t d b v e c =
     let u : SameBut 4 264 W Y = same-join (omega arith) (omega arith) s t in
     let vars : variablesOf Y ≡ variablesOf W = u .before 1 (omega arith) in
     let rows : rowsIn Y ≡ rowsIn W = u .before 2 (omega arith) in
-    let set : dirtyOf Y ≡ D = same-dirty t (omega arith) (omega (arith, s .len, P .ours .len)) ∙ d in
+    let set : dirtyOf Y ≡ D = same-set t (omega (arith, s .len, P .ours .len)) ∙ d in
     record {
       ours = record {
         len = u .len ∙ P .ours .len;
