@@ -2,7 +2,7 @@
 use Prim.Native.Nat.{ℕ}
 use borrow.Author.Tests.{eq-eqb, ne-eqb}
 use lib.Dec.{T}
-use lib.ListN.{getD, length}
+use lib.ListN.{length}
 use mathlib.Core.Bool.{Bool, cond, not}
 use mathlib.Core.List.{List}
 use mathlib.Core.Path.{_∙_, _≡_, ap, refl, sym}
@@ -58,13 +58,7 @@ fault-whole A fault right = ap (λ (t : Bool). cond t fault 5) (eq-eqb (length A
 pub short-refused : (A : List ℕ) (fault : ℕ) → (length A ≡ answerLength → ⊥) → faultWith A fault ≡ 0 → ⊥
 short-refused A fault wrong e = let five : _≡_ {A = ℕ} 5 0 = sym (fault-short A fault wrong) ∙ e in omega (arith, five)
 
--- ---- the row stands in the fourth place
-
-pub row-told : (a : Answer) (row : ℕ) (A : List ℕ) → preparedReply a row ≡ preparedReply a (getD (written (preparedReply a row) A) 3 0)
-unfolding preparedReply written
-row-told (propagated e passes moved) row A = refl
-row-told (refused number) row A = refl
-row-told (propagatedRow o moved) row A = refl
-row-told (probed e s0 s1) row A = refl
-row-told (tightened o) row A = refl
-row-told (removed o) row A = refl
+-- a refusal has no place for the row
+pub row-unsaid : {a : Answer} {number : ℕ} → a ≡ refused number → (row told : ℕ) → preparedReply a row ≡ preparedReply a told
+unfolding preparedReply
+row-unsaid e row told = ap (λ x. preparedReply x row) e ∙ sym (ap (λ x. preparedReply x told) e)

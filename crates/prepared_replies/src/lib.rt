@@ -2,11 +2,11 @@
 // infeasible in a place of its own (a probe's is that of any probe), and the calls that say it (`exports`).
 pub mod exports;
 
-use prepared_call::NO_ROW;
 use prepared_call::PreparedPropagation;
+use prepared_propagation::reasons::NO_ROW;
 use replies::reply::Reply;
 ghost use mathlib.Core.Path.{_≡_};
-ghost use Rattle.prepared_call.specs.PreparedCall.{preparedAnswer, rowOf};
+ghost use Rattle.prepared_call.specs.PreparedCall.{infeasibleRow, preparedAnswer};
 ghost use Rattle.replies.specs.Replies.{replyOf};
 ghost use Rattle.replies.specs.declared.reply.Reply.the-variants.{Numbers};
 ghost use Rattle.prepared_replies.specs.PreparedReplies.{preparedReply};
@@ -18,7 +18,7 @@ fn ended(case: u64, passes: u32, moved: u32, row: u32) -> Reply
 }
 
 pub fn prepared_reply(a: PreparedPropagation) -> Reply
-    ensures { λ r. ⌜ replyOf r ≡ preparedReply (preparedAnswer a) (rowOf a) ⌝ }
+    ensures { λ r. ⌜ replyOf r ≡ preparedReply (preparedAnswer a) (infeasibleRow a) ⌝ }
 {
     match a {
         PreparedPropagation::Refused(number) => Reply::Refused(number),

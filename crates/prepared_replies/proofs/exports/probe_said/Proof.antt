@@ -67,7 +67,7 @@ returns-2 c =
       (
         (λ z.
             let ok = p .probe .ensures .1 .0 (sym whole ∙ z) in
-            (put .0 ∙ ap returned e ∙ call-accepted a (ok .0), ok .1)),
+            put .0 ∙ ap returned e ∙ call-accepted a (ok .0)),
         (
           (λ M P right.
               let d = p .probe .ensures .1 .1 .0 M P in
