@@ -135,7 +135,7 @@ module _ (n m : ℕ) (A : Rows) (W : List ℕ) (w : Written n m A W) (v : ValidM
   written-box =
       ext-getD (pos 0) _ _ (length-box n W ∙ sym (length-replicate (2 * n) (pos 0)))
       (λ i k. let h = rw (length-box n W) at k in
-          box-at n W i h ∙ rw (w .box (8 + i) (omega arith) (omega (arith, v .few))) (sym (getD-replicate (2 * n) i (pos 0) (pos 0) h)))
+      box-at n W i h ∙ rw (w .box (8 + i) (omega arith) (omega (arith, v .few))) (sym (getD-replicate (2 * n) i (pos 0) (pos 0) h)))
 
   written-set : (r : ℕ) → r < 128 → bitAt (dirtyOf W) r ≡ 1
   unfolding bitAt dirtyOf

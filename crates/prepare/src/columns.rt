@@ -37,7 +37,15 @@ fn hear(kind: u8, a: i32, r: usize, rise: &mut [u32], fall: &mut [u32])
 }
 
 // The sets of variable j, from empty ones.
-fn gather(n: usize, m: usize, coefs: &[i32], kinds: &[u8], j: usize, rise: &mut [u32], fall: &mut [u32])
+fn gather(
+    n: usize,
+    m: usize,
+    coefs: &[i32],
+    kinds: &[u8],
+    j: usize,
+    rise: &mut [u32],
+    fall: &mut [u32],
+)
     requires { ⌜ (j < n) × (n ≤ 128) × (m ≤ 120) × (length (now coefs) ≡ m * n) × (length (now kinds) ≡ m)
         × (length (now rise) ≡ 4) × (length (now fall) ≡ 4) ⌝ }
     ensures { λ _. ⌜ Column n m (now (coefs .entry)) (now (kinds .entry)) j (now (rise .exit)) (now (fall .exit)) ⌝ }

@@ -43,8 +43,7 @@ fn fill(from: usize, to: usize, number: u32, ws: &mut [u32])
 
 // Writes all of a model's rows that passed the checks.
 pub fn write(n: usize, m: usize, coefs: &[i32], rhs: &[i32], kinds: &[u8], ws: &mut [u32])
-    requires {
-        let A = rowsOf (now coefs) (now rhs) (now kinds) in
+    requires { let A = rowsOf (now coefs) (now rhs) (now kinds) in
         ⌜ ValidModel (modelOf n m (replicate (2 * n) (pos 0)) A) × (length (now ws) ≡ workspaceLen) ⌝ }
     ensures { λ _.
         let A = rowsOf (now (coefs .entry)) (now (rhs .entry)) (now (kinds .entry)) in

@@ -22,7 +22,7 @@ module _ (c : tie.Else1) where
       × (length (s .args .ws .now) ≡ workspaceLen)
   accepted =
       let d = fits-fault-none (modelOf (s .args .n) (s .args .m) (s .args .bounds .now) (rowsOf (s .args .coefs .now) (s .args .rhs .now) (s .args .kinds .now)))
-          (eqb (length (s .args .ws .now)) workspaceLen) .0 (sym (c .before .model-fault .ensures) ∙ c .if1 .left) in
+      (eqb (length (s .args .ws .now)) workspaceLen) .0 (sym (c .before .model-fault .ensures) ∙ c .if1 .left) in
       (d .0, eqb→eq _ _ (d .1))
 
 model-fault-requires : tie.Need-model-fault-requires
