@@ -12,7 +12,8 @@ ghost use Rattle.workspace.specs.Kept.{SameBut};
 ghost use Rattle.workspace.specs.Layout.{fallOf, riseOf, workspaceLen};
 ghost use Rattle.prepare.specs.Written.{Column};
 
-// Row r, with the coefficient a: a ≤ row hears rises where a is above 0 and falls where it is below, an = row hears both.
+// Row r, with the coefficient a: a ≤ row hears rises where a is above 0 and falls where it is below, an = row hears
+// both.
 fn hear(kind: u8, a: i32, r: usize, rise: &mut [u32], fall: &mut [u32])
     requires { ⌜ (r < 128) × (length (now rise) ≡ 4) × (length (now fall) ≡ 4) ⌝ }
     ensures rising { λ _. ⌜ (hearsRise (eqb kind 1) a ≡ true → bitAt (now (rise .exit)) r ≡ 1) ⌝ }
@@ -62,7 +63,8 @@ fn write_column(n: usize, m: usize, coefs: &[i32], kinds: &[u8], j: usize, ws: &
     requires { ⌜ (j < n) × (n ≤ 128) × (m ≤ 120) × (length (now coefs) ≡ m * n) × (length (now kinds) ≡ m)
         × (length (now ws) ≡ workspaceLen) ⌝ }
     ensures column { λ _.
-        ⌜ Column n m (now (coefs .entry)) (now (kinds .entry)) j (riseOf (now (ws .exit)) j) (fallOf (now (ws .exit)) j) ⌝ }
+        let W = now (ws .exit) in
+        ⌜ Column n m (now (coefs .entry)) (now (kinds .entry)) j (riseOf W j) (fallOf W j) ⌝ }
     ensures others { λ _. ⌜ SameBut (384 + 8 * j) (384 + 8 * j + 8) (now (ws .entry)) (now (ws .exit)) ⌝ }
 {
     let mut rise = [0u32; 4];

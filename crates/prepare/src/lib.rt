@@ -15,8 +15,8 @@ ghost use Rattle.model.specs.Rows.{rowsOf};
 ghost use Rattle.workspace.specs.Layout.{rowsIn, variablesOf, workspaceLen};
 ghost use Rattle.workspace.specs.Prepared.{Prepared};
 
-// Checks the model and writes it into the workspace. 0, or the number of the first check that fails: 3, 5 (a workspace of
-// another length is among the lengths), 6, 7, 23, 8, 9, 16. A call that is refused changes nothing.
+// Checks the model and writes it into the workspace. 0, or the number of the first check that fails: 3, 5 (a workspace
+// of another length is among the lengths), 6, 7, 23, 8, 9, 16. A call that is refused changes nothing.
 pub fn prepare(
     n: usize,
     m: usize,
