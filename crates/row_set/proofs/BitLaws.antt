@@ -105,18 +105,39 @@ power-bit k i f = go (decLt i k)
         ap (λ (z : ℕ). z / 2 ^ i % 2) p ∙ ap (λ (z : ℕ). z % 2) (shl-shr (2 ^ suc (k - suc i)) i) ∙ ap (λ (z : ℕ). z % 2) (pow-suc 2 (k - suc i)) ∙ mul-mod-left (2 ^ (k - suc i)) 2
     go (no h) = ap (λ (z : ℕ). z % 2) (div-eq-of-lt (pow-lt (omega arith)))
 
+-- the word of row r becomes x, which differs in bit r % 32 only
+bit-others : (D : List ℕ) (r x : ℕ) → r / 32 < length D → ((k : ℕ) → (k ≡ r % 32 → ⊥) → x / 2 ^ k % 2 ≡ getD D (r / 32) 0 / 2 ^ k % 2)
+    → (i : ℕ) → (i ≡ r → ⊥) → bitAt (set D (r / 32) x) i ≡ bitAt D i
+unfolding bitAt
+bit-others D r x h g i f = go (ℕ-discrete (i / 32) (r / 32))
+  where
+    go : Dec (i / 32 ≡ r / 32) → getD (set D (r / 32) x) (i / 32) 0 / 2 ^ (i % 32) % 2 ≡ getD D (i / 32) 0 / 2 ^ (i % 32) % 2
+    go (yes e) = rw (e, getD-set-same D (r / 32) x 0 h) (g (i % 32) (omega arith))
+    go (no e) = rw (getD-set-other D (r / 32) (i / 32) x 0 e)
+
+-- the machine's 1 << k
+one-bit : (k : ℕ) → k < 32 → 1 * 2 ^ k % 2 ^ 32 ≡ 2 ^ k
+one-bit k h = shl-exact {a = 1} 1 k 32 (omega arith) (omega arith) ∙ one-mul (2 ^ k)
+
 pub bit-removed : (D : List ℕ) (r : ℕ) → r / 32 < length D → (i : ℕ) → (i ≡ r → ⊥)
     → bitAt (set D (r / 32) (bitXor (getD D (r / 32) 0) (1 * 2 ^ (r % 32) % 2 ^ 32))) i ≡ bitAt D i
-unfolding bitAt
-bit-removed D r h i f = go (ℕ-discrete (i / 32) (r / 32))
-  where
-    x : ℕ
-    x = bitXor (getD D (r / 32) 0) (1 * 2 ^ (r % 32) % 2 ^ 32)
+bit-removed D r h =
+    rw (one-bit (r % 32) (omega arith))
+    (bit-others D r _ h (λ k f. bit-xor (getD D (r / 32) 0) (2 ^ (r % 32)) k (power-bit (r % 32) k f)))
 
-    go : Dec (i / 32 ≡ r / 32) → getD (set D (r / 32) x) (i / 32) 0 / 2 ^ (i % 32) % 2 ≡ getD D (i / 32) 0 / 2 ^ (i % 32) % 2
-    go (yes e) =
-        let one : 1 * 2 ^ (r % 32) % 2 ^ 32 ≡ 1 * 2 ^ (r % 32) = shl-exact {a = 1} 1 (r % 32) 32 (omega arith) (omega arith) in
-        let same : 1 * 2 ^ (r % 32) ≡ 2 ^ (r % 32) = one-mul (2 ^ (r % 32)) in
-        rw (e, getD-set-same D (r / 32) x 0 h)
-        (bit-xor (getD D (r / 32) 0) (1 * 2 ^ (r % 32) % 2 ^ 32) (i % 32) (rw (one, same) (power-bit (r % 32) (i % 32) (omega arith))))
-    go (no e) = rw (getD-set-other D (r / 32) (i / 32) x 0 e)
+-- ---- a row put in
+
+pub bit-inserted : (D : List ℕ) (r : ℕ) → r / 32 < length D → (i : ℕ) → (i ≡ r → ⊥)
+    → bitAt (set D (r / 32) (bitOr (getD D (r / 32) 0) (1 * 2 ^ (r % 32) % 2 ^ 32))) i ≡ bitAt D i
+bit-inserted D r h =
+    rw (one-bit (r % 32) (omega arith))
+    (bit-others D r _ h (λ k f. bit-or (getD D (r / 32) 0) (2 ^ (r % 32)) k ∙ rw (power-bit (r % 32) k f) (omega arith)))
+
+pub bit-insert : (D : List ℕ) (r : ℕ) → r / 32 < length D
+    → bitAt (set D (r / 32) (bitOr (getD D (r / 32) 0) (1 * 2 ^ (r % 32) % 2 ^ 32))) r ≡ 1
+unfolding bitAt
+bit-insert D r h =
+    let x = getD D (r / 32) 0 in
+    let own : 2 ^ (r % 32) / 2 ^ (r % 32) % 2 ≡ 1 = ap (λ (z : ℕ). z / 2 ^ (r % 32) % 2) (sym (one-mul (2 ^ (r % 32)))) ∙ ap (λ (z : ℕ). z % 2) (shl-shr 1 (r % 32)) in
+    rw (one-bit (r % 32) (omega arith), getD-set-same D (r / 32) (bitOr x (2 ^ (r % 32))) 0 h)
+    (bit-or x (2 ^ (r % 32)) (r % 32) ∙ rw own (omega (arith, bit-small (x / 2 ^ (r % 32)))))

@@ -1,5 +1,5 @@
-// Sets of rows, as bits: row r is bit r % 32 of word r / 32, and four words hold the 120 rows of the largest model. What
-// a pass has to look at is one set, and a bound that moves adds the rows that hear of it, whatever their number.
+// Sets of rows, as bits: row r is bit r % 32 of word r / 32, and four words hold the 120 rows of the largest model.
+// What a pass has to look at is one set, and a bound that moves adds the rows that hear of it, whatever their number.
 ghost use mathlib.Core.Path.{_≡_};
 ghost use Prim.Native.Nat.{ℕ, _<_, _≤_, max};
 ghost use lib.ListN.{length};
@@ -40,6 +40,15 @@ pub fn add(more: &[u32], set: &mut [u32])
         set[i] |= more[i];
         i += 1;
     }
+}
+
+// Puts row r into the set. The others stay.
+pub fn insert(r: usize, set: &mut [u32])
+    requires { ⌜ (r < 128) × (length (now set) ≡ 4) ⌝ }
+    ensures row { λ _. ⌜ bitAt (now (set .exit)) r ≡ 1 ⌝ }
+    ensures others { λ _. ⌜ ((i : ℕ) → (i ≡ r → ⊥) → bitAt (now (set .exit)) i ≡ bitAt (now (set .entry)) i) ⌝ }
+{
+    set[r / 32] |= 1 << (r % 32);
 }
 
 // Takes row r, which is in the set, out of it. The others stay.

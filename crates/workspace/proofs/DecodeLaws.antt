@@ -1,7 +1,7 @@
 -- The rows that a workspace holds are those of a valid model, whatever its numbers are; and its row r is what the words of row r say.
 use Prim.Native.Nat.{_*_, _+_, _/_, _%_, _<_, _≤_, suc, zero, ℕ}
 use lib.Arith.{digits-div, digits-mod}
-use lib.IntN.{pos, ℤ}
+use lib.IntN.{_+ℤ_, pos, ℤ}
 use lib.ListN.{drop, getD, length, length-drop, take}
 use lib.Seq.{ext-getD, getD-drop, getD-take, length-take-le}
 use mathlib.Core.List.{List, [], _∷_}
@@ -9,7 +9,7 @@ use mathlib.Core.Path.{_∙_, _≡_, ap, ap₂, refl, sym}
 use native.Mathlib.Nat.{mod-lt, mul-le-mul-right, mul-le-mul-left, suc-mul}
 use native.Mathlib.Omega.{arith}
 use native.Mathlib.Decide.{decLt}
-use Rattle.integer.proofs.Parts.{zarith, zify}
+use Rattle.integer.proofs.Parts.{add-parts, sub-parts, zarith, zify}
 use Rattle.model.specs.Box.{NonEmpty, at}
 use Rattle.model.specs.Limits.{maxBound, maxCoef, maxRhs, minBound, minCoef, minRhs}
 use Rattle.model.specs.Model.{modelOf}
@@ -109,6 +109,14 @@ module _ (n m : ℕ) (W : List ℕ) where
 pub bound-in : (w : ℕ) → Between minBound maxBound (boundOf w)
 unfolding boundOf
 bound-in w = let h : w % 65_536 < 65_536 = omega arith in record { above = simp zify (omega zarith); below = simp zify (omega zarith) }
+
+-- a bound is raised by 32,768, and read back
+pub bound-raised : {w : ℕ} {z : ℤ} → Between minBound maxBound z → pos w ≡ z +ℤ pos 32_768 → boundOf w ≡ z
+unfolding boundOf
+bound-raised {w} {z} b e =
+    let small : w < 65_536 = omega (zarith, b, e, add-parts z (pos 32_768)) in
+    let same : w % 65_536 ≡ w = omega arith in
+    rw same (omega (zarith, e, add-parts z (pos 32_768), sub-parts (pos w) (pos 32_768)))
 
 pub box-at : (n : ℕ) (W : List ℕ) (i : ℕ) → i < 2 * n → at (boxIn n W) i ≡ boundOf (getD W (8 + i) 0)
 unfolding boxIn
