@@ -21,7 +21,7 @@ use Rattle.model.specs.State.{State, stateOf}
 use Rattle.model.proofs.CheckLaws.{bits-all, first-append, first-none, inRange-all, narrow-all, numbered, shape-test, size-test}
 use Rattle.prepared_box.proofs.OursLaws.{is-ours, ours-is}
 use Rattle.prepared_row.specs.Reasons.{Lent}
-use Rattle.semantics.specs.Call.{callOf, hasBudget, hasRow, hasVariable, isUnknown, kindOf}
+use Rattle.semantics.specs.Call.{callOf, hasBudget, hasRow, hasTable, hasVariable, isUnknown, kindOf}
 use Rattle.semantics.specs.CallChecks.{callFault, lentTable, recordChecks}
 use Rattle.semantics.proofs.Accepted.{fault-of-own}
 use Rattle.workspace.specs.Layout.{isOurs, rowsIn, variablesOf}
@@ -100,7 +100,7 @@ module _ {W : List ℕ} {A : Rows} (p : Prepared W A) (B : List ℤ) where
 
   pub same-fault : (R : List ℕ) (budget : ℕ) → reasonsFit n R ≡ true
       → let s = stateOf n m B A [] in propagateFault W B R budget ≡ callFault s (callOf s 2 0 0 budget)
-  unfolding propagateFault propagateChecks stateOf callOf lentTable kindOf
+  unfolding propagateFault propagateChecks stateOf callOf lentTable kindOf hasTable
   same-fault R budget f =
       let s = stateOf n m B A [] in
       let xs = must (eqb (length B) (2 * n)) 5 ∷ boxChecks n B in

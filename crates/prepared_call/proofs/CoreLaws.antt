@@ -7,7 +7,7 @@ use lib.Seq.{length-take-le}
 use mathlib.Core.Bool.{Bool, cond, false, not, true, true≢false}
 use mathlib.Core.List.{List, []}
 use mathlib.Core.Logic.{inl, inr, ⊎-elim}
-use mathlib.Core.Path.{_∙_, _≡_, ap, refl, sym}
+use mathlib.Core.Path.{_∙_, _≡_, ap, ap₂, refl, sym}
 use native.Mathlib.Omega.{arith}
 use Rattle.marked_row.proofs.LocalBox.{blank}
 use Rattle.model.specs.Box.{isEmpty}
@@ -39,30 +39,32 @@ known-of : {W : List ℕ} {A : Rows} {B : List ℤ} {D : List ℕ} → Prepared 
     → Known (variablesOf W) (rowsIn W) W B D
 known-of p c = record { hearers = rw (p .rows) (p .hearers); calm = rw (p .rows) c }
 
+abbrev reasons-with : List ℕ → ℕ → Reasons
+reasons-with R r = record { movers = R; infeasible = r }
+
 -- from what `propagate_prepared` says of the rows that the workspace holds
-module _ (budget : ℕ) {W : List ℕ} {B : List ℤ} {D R : List ℕ} {p : PreparedEnd} {B′ : List ℤ} {D′ R′ : List ℕ}
-    (taken : (A : Rows) → Prepared W A → Calm (variablesOf W) (rowsIn W) A B D) where
-  abbrev Sure : Type 0
-  Sure = Known (variablesOf W) (rowsIn W) W B D
-
-  abbrev held : Rows
-  held = decode (variablesOf W) (rowsIn W) W
-
-  abbrev why : Reasons
-  why = reasonsFrom budget (variablesOf W) (rowsIn W) held B R
-
-  pub ran-is : {seen : List ℤ} → length D′ ≡ 4
-      → (Sure → propagationOf (p .end) B′ ≡ propagateFrom budget 0 0 (variablesOf W) (rowsIn W) held B)
-      → (Sure → Calm (variablesOf W) (rowsIn W) held B′ D′)
-      → (T (not (isNone (propagationOf (p .end) [] .ending))) → Looking (variablesOf W) (rowsIn W) W B′ seen D′)
-      → (Sure → R′ ≡ why .movers) → (Sure → p .row ≡ why .infeasible) → Ran budget W B R p B′ D′ R′
-  ran-is l answer calm left movers row = record {
-    valid = λ t. let v = left t in (v .sized .box, v .nonEmpty);
-    set = l;
-    answer = λ A q. rw (q .rows) at (answer (known-of q (taken A q)));
-    calm = λ A q. rw (q .rows) at (calm (known-of q (taken A q)));
-    reasons = λ A q. let k = known-of q (taken A q) in rw (movers k, row k, q .rows);
-  }
+pub ran-is : (budget : ℕ) {W : List ℕ} {B : List ℤ} {D R : List ℕ} {p : PreparedEnd} {B′ seen : List ℤ} {D′ R′ : List ℕ}
+    → ((A : Rows) → Prepared W A → Calm (variablesOf W) (rowsIn W) A B D) → length D′ ≡ 4
+    → (Known (variablesOf W) (rowsIn W) W B D
+      → propagationOf (p .end) B′ ≡ propagateFrom budget 0 0 (variablesOf W) (rowsIn W) (decode (variablesOf W) (rowsIn W) W) B)
+    → (Known (variablesOf W) (rowsIn W) W B D → Calm (variablesOf W) (rowsIn W) (decode (variablesOf W) (rowsIn W) W) B′ D′)
+    → (T (not (isNone (propagationOf (p .end) [] .ending))) → Looking (variablesOf W) (rowsIn W) W B′ seen D′)
+    → (Known (variablesOf W) (rowsIn W) W B D
+      → R′ ≡ reasonsFrom budget (variablesOf W) (rowsIn W) (decode (variablesOf W) (rowsIn W) W) B R .movers)
+    → (Known (variablesOf W) (rowsIn W) W B D
+      → p .row ≡ reasonsFrom budget (variablesOf W) (rowsIn W) (decode (variablesOf W) (rowsIn W) W) B R .infeasible)
+    → Ran budget W B R p B′ D′ R′
+ran-is budget {W} {B} {D} {R} {p} taken l answer calm left movers row = record {
+  valid = λ t. let v = left t in (v .sized .box, v .nonEmpty);
+  set = l;
+  answer = λ A q. rw (q .rows) at (answer (known-of q (taken A q)));
+  calm = λ A q. rw (q .rows) at (calm (known-of q (taken A q)));
+  reasons = λ A q.
+      let k = known-of q (taken A q) in
+      let w : Rows → Reasons = λ X. reasonsFrom budget (variablesOf W) (rowsIn W) X B R in
+      ap₂ reasons-with (movers k ∙ ap (λ (X : Rows). w X .movers) (q .rows))
+      (row k ∙ ap (λ (X : Rows). w X .infeasible) (q .rows));
+}
 
 -- what they ask
 pub running : {W : List ℕ} {B : List ℤ} {R S D : List ℕ} → Accepting W B R → isEmpty (variablesOf W) B ≡ false → S ≡ replicate (length R) noRow
@@ -104,6 +106,15 @@ no-row (suc left) made sum n m A B R t =
     (reasonsFrom left n m A (p .box) S)
     (record { movers = S; infeasible = noRow })
     tt (no-row left (suc made) (sum + p .moved) n m A (p .box) S) refl t
+
+-- the two ways to end that are not infeasible
+pub converged-left : {v : Propagation} {passes moved : ℕ} → v ≡ made.Converged passes moved → T (not (isNone (propagationOf v [] .ending)))
+unfolding propagationOf isNone
+converged-left e = rw e tt
+
+pub spent-left : {v : Propagation} {passes moved : ℕ} → v ≡ made.BudgetSpent passes moved → T (not (isNone (propagationOf v [] .ending)))
+unfolding propagationOf isNone
+spent-left e = rw e tt
 
 -- ---- the empty box
 
@@ -183,7 +194,7 @@ module _ (budget : ℕ) {W : List ℕ} {B : List ℤ} (k : ℕ) (e : isEmpty (va
     reasons-none : (A : Rows) → Prepared W A → record { movers = R′; infeasible = noRow } ≡ reasonsOf budget n m A B k
     reasons-none A q =
         let f : p .row ≡ noRow = ap (λ (x : Reasons). x .infeasible) (r .reasons A q) ∙ no-row budget 0 0 n m A B R (not-none A q) in
-        ap (λ (i : ℕ). record { movers = R′; infeasible = i }) (sym f) ∙ reasons-are A q
+        ap (reasons-with R′) (sym f) ∙ reasons-are A q
 
     keeps-box : (a : Answer) → T (not (answersNone a)) → Keeps W W′ a B′
     keeps-box a t = record {

@@ -1,18 +1,18 @@
+-- `core::run`: the front of a local array has room for the box. Assumes nothing.
 use borrow.Author.Needs.{needs}
+use mathlib.Core.Path.{sym}
+use Rattle.prepared_call.proofs.CoreLaws.{room}
 use Rattle.prepared_call.proofs.core.run.Statement.{statement}
 use Rattle.prepared_call.proofs.core.run.Tie as tie
-use Rattle.prepared_call.proofs.core.run.Reads as reads
-use Rattle.prepared_call.proofs.core.run.Lts as lts
-use Rattle.prepared_call.proofs.core.run_in.Reads as run-in-reads
 
 array-borrow-prefix-seen : tie.Need-array-borrow-prefix-seen
 array-borrow-prefix-seen c = search needs
 
 slice-aggregate-run-in : tie.Need-slice-aggregate-run-in
-slice-aggregate-run-in c = ?
+slice-aggregate-run-in c = sym (room (c .before .before .before .before .before .pre))
 
 run-in-requires : tie.Need-run-in-requires
-run-in-requires c κs = ?
+run-in-requires c κs = let v = c .before .before .before .before .before .before .before .pre in (v, room v)
 
 same-length : tie.Need-same-length
 same-length c = search needs
