@@ -38,6 +38,17 @@ ours-test W =
       (λ o. d .1 ((o .len, o .mark, o .some), o .few, o .fewRows)),
     )
 
+pub box-valid : (n : ℕ) (B : List ℤ) → length B ≡ 2 * n → first (boxChecks n B) ≡ 0 → ValidBox n B
+unfolding boxChecks
+box-valid n B l e =
+    let r = first-none (boxChecks n B) tt .0 e in
+    record {
+      len = l;
+      range = inRange-all minBound maxBound B (omega zarith) (omega zarith) .0 (r .0);
+      shape = shape-test n B l .0 (r .1 .0);
+      narrow = narrow-all n B l .0 (r .1 .1 .0);
+    }
+
 -- what is lent to an accepted probe
 pub record Accepted (W : List ℕ) (B : List ℤ) (t : List ℕ) (k : ℕ) : Type 0 where
   pub ours : Ours W
@@ -62,12 +73,7 @@ module _ (W : List ℕ) (B : List ℤ) (t : List ℕ) (k budget : ℕ) where
       let f = r .1 .1 .1 .1 in
       record {
         ours = ours-test W .0 (h .0);
-        box = record {
-          len = l;
-          range = inRange-all minBound maxBound B (omega zarith) (omega zarith) .0 (r .0);
-          shape = shape-test n B l .0 (r .1 .0);
-          narrow = narrow-all n B l .0 (r .1 .1 .0);
-        };
+        box = box-valid n B l (first-none (boxChecks n B) tt .1 (r .0, (r .1 .0, (r .1 .1 .0, tt))));
         table = record { len = eqb-test (length t) (4 * (n * n)) .0 (h .1 .1 .0); bits = bits-all t .0 (r .1 .1 .1 .0) };
         variable = ltb-test k n .0 (f .0);
         free = f .1 .0;

@@ -22,6 +22,7 @@ use Rattle.prepared_row.specs.Visit.{Sized}
 use Rattle.probing.specs.Results.{probingOf}
 use Rattle.probing.specs.declared.sides.Probing.{Probing}
 use Rattle.probing.specs.declared.sides.Probing.the-variants as probing
+use Rattle.probing.specs.declared.sides.Side.{Side}
 use Rattle.probing.proofs.MarkedLaws.{probing-box}
 use Rattle.probing.proofs.ProbingLoops.{box-is, side-none}
 use Rattle.probing.proofs.sides.Probing.{the-type}
@@ -120,6 +121,10 @@ probing-some (probing.Infeasible s0 s1) h =
     ⊎-elim (λ e. let z : _≡_ {A = ℕ} 0 1 = e in absurd (omega arith)) (λ e. let z : _≡_ {A = ℕ} 0 2 = e in absurd (omega arith)) h
 probing-some (probing.Fixed v s0 s1) h = tt
 probing-some (probing.BothFeasible a s0 s1) h = tt
+
+pub probing-none : {p : Probing} {s0 s1 : Side} → p ≡ probing.Infeasible s0 s1 → T (answersNone (probingAnswer p))
+unfolding probingOf answersNone probeInfeasible
+probing-none e = rw e tt
 
 ending-is : (p : Probing) (Q : List ℤ) (t : List ℕ) → probingOf p Q t .ending ≡ probingOf p [] [] .ending
 unfolding probingOf

@@ -29,7 +29,7 @@ array-borrow-prefix-zero : tie.Need-array-borrow-prefix-zero
 array-borrow-prefix-zero c = search needs
 
 slice-aggregate-try-side : tie.Need-slice-aggregate-try-side
-slice-aggregate-try-side c = ?
+slice-aggregate-try-side c = sym (room (c .before .before .before .before))
 
 try-side-requires : tie.Need-try-side-requires
 try-side-requires c κs =
@@ -96,10 +96,10 @@ module _ (c : tie.After-try-side2) where
   one-is A P = ap (propagationOf (c .try-side2 .result)) (front s1 one one-length) ∙ c .try-side2 .ensures .0 A P 1 refl
 
 slice-aggregate-join : tie.Need-slice-aggregate-join
-slice-aggregate-join c = ?
+slice-aggregate-join c = let t = c .before .before .before .before .before .before in sym (whole (s0 t) (zero t) (zero-length t))
 
 slice-aggregate-join-2 : tie.Need-slice-aggregate-join-2
-slice-aggregate-join-2 c = ?
+slice-aggregate-join-2 c = let d = c .before .before .before in sym (whole (s1 d) (one d) (one-length d))
 
 join-requires : tie.Need-join-requires
 join-requires c κs =
