@@ -1,3 +1,4 @@
 pub mod PassLaws
 pub mod PassesLaws
+pub mod ReasonsLaws
 pub mod SearchLaws

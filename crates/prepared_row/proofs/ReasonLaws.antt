@@ -16,7 +16,6 @@ use Rattle.model.specs.Box.{at, lower, upper}
 use Rattle.packed_row.proofs.PackedLaws.{packed-steps, skip-next, skip-start, skipAt, step-at}
 use Rattle.row.specs.Outcome.{isInfeasible}
 use Rattle.row.specs.Propagation.{PropagatedRow}
-use Rattle.workspace.specs.Layout.{listTo}
 use Rattle.workspace.proofs.DecodeLaws.{length-listTo, listTo-at}
 use Rattle.prepared_row.specs.Reasons.{Blaming, Lent, blame, reasonAt, rowReasons}
 
