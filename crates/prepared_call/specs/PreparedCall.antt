@@ -9,10 +9,14 @@ use mathlib.Core.List.{List, _++_, _∷_}
 use mathlib.Core.Path.{_≡_}
 use Rattle.call.specs.FieldChecks.{budgetChecks}
 use Rattle.model.specs.Checks.{Check, boxChecks, first, must}
+use Rattle.model.specs.Rows.{Rows}
+use Rattle.model.specs.Valid.{ValidBox}
+use Rattle.prepared_propagation.specs.Reasons.{Reasons, noRow, reasonsOf}
 use Rattle.semantics.specs.Perform.{Answer, propagated, refused}
 use Rattle.semantics.specs.Propagate as ended
 use Rattle.semantics.specs.Run.{answersNone, isRefused}
 use Rattle.workspace.specs.Layout.{boxIn, isOurs, rowsIn, variablesOf}
+use Rattle.workspace.specs.Prepared.{Prepared}
 use Rattle.prepared_call.specs.declared.PreparedPropagation.{PreparedPropagation}
 use Rattle.prepared_call.specs.declared.PreparedPropagation.the-variants.{BudgetSpent, Converged, Infeasible, Refused}
 
@@ -42,16 +46,12 @@ preparedAnswer (Infeasible passes moved row) = propagated ended.infeasible passe
 preparedAnswer (Converged passes moved) = propagated ended.converged passes moved
 preparedAnswer (BudgetSpent passes moved) = propagated ended.budgetSpent passes moved
 
--- no row
-abbrev pub noRow : ℕ
-noRow = 4_294_967_295
-
 -- the row at which it ended infeasible
-unfoldable pub rowOf : PreparedPropagation → ℕ
-rowOf (Refused number) = noRow
-rowOf (Infeasible passes moved row) = row
-rowOf (Converged passes moved) = noRow
-rowOf (BudgetSpent passes moved) = noRow
+unfoldable pub infeasibleRow : PreparedPropagation → ℕ
+infeasibleRow (Refused number) = noRow
+infeasibleRow (Infeasible passes moved row) = row
+infeasibleRow (Converged passes moved) = noRow
+infeasibleRow (BudgetSpent passes moved) = noRow
 
 -- ---- what is kept
 
@@ -62,5 +62,22 @@ pub record Keeps (W W′ : List ℕ) (a : Answer) (B′ : List ℤ) : Type 0 whe
   pub rows : rowsIn W′ ≡ rowsIn W
   -- a call that ends infeasible keeps nothing: the box that the workspace knows is the parent's, which the next sibling is compared with
   pub infeasible : T (answersNone a) → W′ ≡ W
-  -- any other keeps the box that it left
-  pub box : T (not (answersNone a)) → T (not (isRefused a)) → boxIn (variablesOf W) W′ ≡ B′
+  -- any other leaves a valid box, and keeps it
+  pub valid : T (not (answersNone a)) → ValidBox (variablesOf W) B′
+  pub box : T (not (answersNone a)) → boxIn (variablesOf W) W′ ≡ B′
+
+-- ---- an accepted call that is lent k numbers for the reasons: what is so of any workspace, and what of one that is prepared for the
+-- rows A, whichever they are
+
+pub record Propagates (budget : ℕ) (W : List ℕ) (B : List ℤ) (k : ℕ) (r : PreparedPropagation) (W′ : List ℕ) (B′ : List ℤ) (R′ : List ℕ) : Type 0 where
+  pub told : T (not (isRefused (preparedAnswer r)))
+  pub keeps : Keeps W W′ (preparedAnswer r) B′
+  -- the answer with its counts, and the box, are those of a settle of the model with the lent box
+  pub answer : (A : Rows) → Prepared W A
+      → let w = ended.propagate budget (variablesOf W) (rowsIn W) A B in preparedAnswer r ≡ propagated (w .ending) (w .passes) (w .moved)
+  pub box : (A : Rows) → Prepared W A → B′ ≡ ended.propagate budget (variablesOf W) (rowsIn W) A B .box
+  -- of each bound the row that moved it last, and the row that was infeasible, are those of the passes over all rows
+  pub reasons : (A : Rows) → Prepared W A
+      → record { movers = R′; infeasible = infeasibleRow r } ≡ reasonsOf budget (variablesOf W) (rowsIn W) A B k
+  -- the workspace is still prepared for them
+  pub prepared : (A : Rows) → Prepared W A → Prepared W′ A

@@ -1,25 +1,25 @@
 // The prepared propagate call (01's settle), open to all: a model that `prepare` wrote into a workspace, and a lent box.
-// Only rows are looked at that may move a bound, given the box that the last call left. W, B and R are what is lent, W',
-// B' and R' what is left. Of any workspace: `refused` and `accepted`. Of one that is prepared for the rows A, whichever
-// they are: `defined`, the answer, the counts and the box are those of `perform`, and `prepared`, it still is.
-use propagation::Propagation;
-ghost use mathlib.Core.Bool.{not, true};
+// Only rows are looked at that may move a bound, given the box that the last call left. W is the workspace, B the box and
+// R the list of reasons before the call. Of any workspace: `refused`, and `accepted` as far as it does not ask for a
+// prepared one. Of one that is prepared for the rows A, whichever they are: `defined`, the answer, the counts and the box
+// are those of `perform` on the model with the lent box, and `prepared`, it still is prepared for them.
+mod checks;
+mod core;
+
+use crate::checks::propagate_fault;
+use crate::core::propagate_accepted;
+ghost use mathlib.Core.Bool.{true};
 ghost use mathlib.Core.List.{[]};
 ghost use mathlib.Core.Path.{_≡_};
-ghost use lib.Dec.{T};
+ghost use lib.ListN.{length};
 ghost use Rattle.model.specs.Rows.{Rows};
 ghost use Rattle.model.specs.State.{stateOf};
-ghost use Rattle.model.specs.Valid.{ValidBox};
 ghost use Rattle.reducer.specs.OpenCalls.{performed};
 ghost use Rattle.semantics.specs.Call.{callOf};
 ghost use Rattle.semantics.specs.Perform.{perform, refused};
-ghost use Rattle.semantics.specs.Run.{isRefused};
 ghost use Rattle.workspace.specs.Layout.{rowsIn, variablesOf};
 ghost use Rattle.workspace.specs.Prepared.{Prepared};
-ghost use Rattle.prepared_call.specs.PreparedCall.{Keeps, preparedAnswer, propagateFault, reasonsFit};
-
-// No row.
-pub const NO_ROW: u32 = 4_294_967_295;
+ghost use Rattle.prepared_call.specs.PreparedCall.{Propagates, preparedAnswer, propagateFault, reasonsFit};
 
 // 01's settle: refused N, None, Settled, Spent, with the passes made and the number of bounds moved; None with the row
 // that was infeasible, `NO_ROW` where the lent box was empty.
@@ -44,9 +44,10 @@ pub fn propagate(
         × (now (bounds .exit) ≡ now (bounds .entry)) × (now (reasons .exit) ≡ now (reasons .entry))) ⌝ }
     ensures accepted { λ r.
         let W = now (ws .entry) in
-        let fault = propagateFault W (now (bounds .entry)) (now (reasons .entry)) budget in
-        ⌜ (fault ≡ 0 → T (not (isRefused (preparedAnswer r))) × ValidBox (variablesOf W) (now (bounds .exit))
-        × Keeps W (now (ws .exit)) (preparedAnswer r) (now (bounds .exit))) ⌝ }
+        let B = now (bounds .entry) in
+        ⌜ (propagateFault W B (now (reasons .entry)) budget ≡ 0
+        → Propagates budget W B (length (now (reasons .entry))) r (now (ws .exit)) (now (bounds .exit))
+        (now (reasons .exit))) ⌝ }
     ensures defined { λ r.
         let W = now (ws .entry) in
         ⌜ ((A : Rows) → Prepared W A → reasonsFit (variablesOf W) (now (reasons .entry)) ≡ true
@@ -55,5 +56,9 @@ pub fn propagate(
         performed (preparedAnswer r) r' ≡ perform s (callOf s 2 0 0 budget)) ⌝ }
     ensures prepared { λ r. ⌜ ((A : Rows) → Prepared (now (ws .entry)) A → Prepared (now (ws .exit)) A) ⌝ }
 {
-    PreparedPropagation::Refused(5)
+    let fault = propagate_fault(ws, bounds, budget, reasons);
+    if fault != 0 {
+        return PreparedPropagation::Refused(fault);
+    }
+    propagate_accepted(ws, bounds, budget, reasons)
 }
