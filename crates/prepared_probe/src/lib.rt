@@ -15,7 +15,6 @@ ghost use mathlib.Core.Path.{_≡_};
 ghost use lib.Dec.{T};
 ghost use Rattle.model.specs.Rows.{Rows};
 ghost use Rattle.model.specs.State.{stateOf};
-ghost use Rattle.prepared_call.specs.PreparedCall.{Keeps};
 ghost use Rattle.reducer.specs.OpenCalls.{performed, probeAnswer};
 ghost use Rattle.semantics.specs.Call.{callOf};
 ghost use Rattle.semantics.specs.Perform.{perform, refused};
@@ -23,6 +22,7 @@ ghost use Rattle.semantics.specs.Run.{isRefused};
 ghost use Rattle.workspace.specs.Layout.{rowsIn, variablesOf};
 ghost use Rattle.workspace.specs.Prepared.{Prepared};
 ghost use Rattle.prepared_probe.specs.Checks.{probeFault};
+ghost use Rattle.prepared_probe.specs.Kept.{Keeps};
 
 // Probes the free binary variable `variable`, each side with `budget` passes. Refused by 5 (workspace, 2n bounds, 4n²
 // bytes of the table), 6, 7, 23, 10, 13, 14 and 15.

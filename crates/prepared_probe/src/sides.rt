@@ -21,7 +21,6 @@ ghost use lib.ListN.{length};
 ghost use Rattle.model.specs.Box.{NonEmpty, isEmpty, isFree};
 ghost use Rattle.model.specs.Rows.{Rows};
 ghost use Rattle.model.specs.Valid.{ValidBox, ValidTable};
-ghost use Rattle.prepared_call.specs.PreparedCall.{Keeps};
 ghost use Rattle.prepared_row.specs.Visit.{Sized};
 ghost use Rattle.probing.specs.Results.{probingOf};
 ghost use Rattle.propagation.specs.Results.{propagationOf};
@@ -31,6 +30,7 @@ ghost use Rattle.semantics.specs.Propagate.{propagate};
 ghost use Rattle.workspace.specs.Kept.{SameBut};
 ghost use Rattle.workspace.specs.Layout.{boxIn, rowsIn, variablesOf, workspaceLen};
 ghost use Rattle.workspace.specs.Prepared.{Prepared};
+ghost use Rattle.prepared_probe.specs.Kept.{Keeps};
 ghost use Rattle.prepared_probe.specs.Sides.{Boxed, InRange, SideLeft};
 
 // A side, fixed already, is propagated: the rows to look at are those of the box that the workspace knows, and those that

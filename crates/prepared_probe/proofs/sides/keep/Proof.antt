@@ -1,11 +1,10 @@
+-- `prepared_probe::sides::keep`: the rows outside the set are calm in the box, and only the set and the box are written. Assumes nothing.
 use borrow.Author.Needs.{needs}
+use native.Mathlib.Omega.{arith}
+use Rattle.workspace.proofs.KeptLaws.{same-join}
+use Rattle.prepared_probe.proofs.SideLaws.{kept-prepared}
 use Rattle.prepared_probe.proofs.sides.keep.Statement.{statement}
 use Rattle.prepared_probe.proofs.sides.keep.Tie as tie
-use Rattle.prepared_probe.proofs.sides.keep.Reads as reads
-use Rattle.prepared_probe.proofs.sides.keep.Lts as lts
-use Rattle.prepared_box.proofs.taken.take_box.Reads as take-box-reads
-use Rattle.workspace.proofs.keep_box.Reads as keep-box-reads
-use Rattle.workspace.proofs.keep_set.Reads as keep-set-reads
 
 slice-aggregate-take-box : tie.Need-slice-aggregate-take-box
 slice-aggregate-take-box c = search needs
@@ -29,7 +28,18 @@ same-length-2 : tie.Need-same-length-2
 same-length-2 c = search needs
 
 returns : tie.Need-returns
-returns c = ?
+returns c =
+    let b = c .before .before in
+    let k = b .before .before .before .before in
+    let t = k .before .before .before .before .before in
+    let s = t .before .before .before .before .before in
+    let kept = b .keep-box .ensures .0 (s .args .n) (s .pre .2) in (
+      kept,
+      (
+        same-join (omega arith) (omega arith) (k .keep-set .ensures .1) (b .keep-box .ensures .1),
+        λ A P e v p. kept-prepared P e (k .keep-set .ensures .1) (b .keep-box .ensures .1) (k .keep-set .ensures .0) kept v p (t .take-box .ensures .1 A P e),
+      ),
+    )
 
 pub keep-spec : {M : Type 1} → statement M
 keep-spec =
