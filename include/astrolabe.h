@@ -379,16 +379,16 @@ uint32_t astrolabe_tie(size_t n, size_t m,
  * ANY OTHER CONTENT. Whether a workspace was written by astrolabe_prepare is asked of its count and of its first
  * three numbers only, and it is refused by 5 where they are not ours. Behind a head that is ours the numbers may be
  * anything (a file that was cut and glued, memory that another part of the program wrote): then the call still
- * reads and writes only what it is lent, it ends, and the bounds that it leaves are a box; but nothing is promised
- * of what it answers, nor of the workspace after it. So keep a workspace as you keep a pointer.
+ * reads and writes only what it is lent, and it ends; but nothing is promised of what it answers, nor of the bounds
+ * and the workspace after it. So keep a workspace as you keep a pointer.
  */
 
 /* No row: in `reasons` and in answer[3] of astrolabe_prepared_propagate. */
 #define ASTROLABE_NO_ROW 4294967295u
 
 /*
- * Checks a model and writes it into the workspace, whatever that held before. No answer: the returned number says
- * all.
+ * Checks a model and writes its rows into the workspace, whatever that held before. The bounds are checked as the rest
+ * is, and not kept: each call is lent its own. No answer: the returned number says all.
  *
  *     workspace   written   exactly ASTROLABE_WORKSPACE_LEN numbers
  *

@@ -97,7 +97,7 @@ impl From<Places> for WithRow {
 }
 
 impl Prepared {
-    /// Prepares the rows of a model; its bounds are the first box that the workspace knows.
+    /// Prepares the rows of a model. Its bounds are checked as the rest is, and not kept: each call is lent its own.
     pub fn new(model: &Model) -> Result<Self, Refusal> {
         let mut workspace = vec![0; ffi::WORKSPACE_LEN];
         model.prepare_into(&mut workspace)?;
