@@ -38,7 +38,7 @@ module _ (W : List ℕ) (B : List ℤ) (R : List ℕ) (budget : ℕ) where
       (λ z. absurd (n (e ∙ z))),
       (
         (λ A p f.
-        let s = stateOf (variablesOf W) (rowsIn W) B A [] in perform-refused s (callOf s 2 0 0 budget) (e ∙ same-fault p B R budget f) n),
+            let s = stateOf (variablesOf W) (rowsIn W) B A [] in perform-refused s (callOf s 2 0 0 budget) (e ∙ same-fault p B R budget f) n),
         (λ A p. p),
       ),
     ),
@@ -52,10 +52,10 @@ module _ (W : List ℕ) (B : List ℤ) (R : List ℕ) (budget : ℕ) where
       (λ _. q),
       (
         (λ A p f.
-        let n = variablesOf W in
-        let m = rowsIn W in
-        rw (q .answer A p, q .box A p)
-        (rows-propagated n m B A budget (sym (same-fault p B R budget f) ∙ z) (propagate budget n m A B) refl)),
+            let n = variablesOf W in
+            let m = rowsIn W in
+            rw (q .answer A p, q .box A p)
+            (rows-propagated n m B A budget (sym (same-fault p B R budget f) ∙ z) (propagate budget n m A B) refl)),
         q .prepared,
       ),
     ),

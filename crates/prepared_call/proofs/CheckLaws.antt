@@ -80,14 +80,18 @@ module _ {W : List ℕ} {A : Rows} (p : Prepared W A) (B : List ℤ) where
   unfolding modelFault modelChecks sizeChecks lengthChecks tableLengthChecks numberChecks tableByteChecks boxChecks first
   model-fault =
       let v = p .box in
-      rw (T→true (leb 1 n && leb n maxVariables && leb m maxRows) (size-test n m .1 (v .some, v .few, v .fewRows)),
-      T→true (eqb (length (A .coefs)) (m * n)) (eqb-test (length (A .coefs)) (m * n) .1 (v .coefsLen)),
-      T→true (eqb (length (A .rhs)) m) (eqb-test (length (A .rhs)) m .1 (v .rhsLen)),
-      T→true (eqb (length (A .kinds)) m) (eqb-test (length (A .kinds)) m .1 (v .kindsLen)),
-      and-true (eqb (length B) (2 * n)), and-true (eqb (length B) (2 * n)), and-true (eqb (length B) (2 * n)),
-      T→true (inRange minCoef maxCoef (A .coefs)) (inRange-all minCoef maxCoef (A .coefs) (omega zarith) (omega zarith) .1 (v .coefs)),
-      T→true (inRange minRhs maxRhs (A .rhs)) (inRange-all minRhs maxRhs (A .rhs) (omega zarith) (omega zarith) .1 (v .rhs)),
-      T→true (bits (A .kinds)) (bits-all (A .kinds) .1 (v .kinds)))
+      rw (
+        T→true (leb 1 n && leb n maxVariables && leb m maxRows) (size-test n m .1 (v .some, v .few, v .fewRows)),
+        T→true (eqb (length (A .coefs)) (m * n)) (eqb-test (length (A .coefs)) (m * n) .1 (v .coefsLen)),
+        T→true (eqb (length (A .rhs)) m) (eqb-test (length (A .rhs)) m .1 (v .rhsLen)),
+        T→true (eqb (length (A .kinds)) m) (eqb-test (length (A .kinds)) m .1 (v .kindsLen)),
+        and-true (eqb (length B) (2 * n)),
+        and-true (eqb (length B) (2 * n)),
+        and-true (eqb (length B) (2 * n)),
+        T→true (inRange minCoef maxCoef (A .coefs)) (inRange-all minCoef maxCoef (A .coefs) (omega zarith) (omega zarith) .1 (v .coefs)),
+        T→true (inRange minRhs maxRhs (A .rhs)) (inRange-all minRhs maxRhs (A .rhs) (omega zarith) (omega zarith) .1 (v .rhs)),
+        T→true (bits (A .kinds)) (bits-all (A .kinds) .1 (v .kinds)),
+      )
 
   -- and of the call's own, that of its budget
   own-first : (s : State) (budget : ℕ) → first (recordChecks (kindOf 2) s (callOf s 2 0 0 budget)) ≡ first (budgetChecks budget)

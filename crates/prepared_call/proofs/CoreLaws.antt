@@ -46,13 +46,13 @@ reasons-with R r = record { movers = R; infeasible = r }
 pub ran-is : (budget : ℕ) {W : List ℕ} {B : List ℤ} {D R : List ℕ} {p : PreparedEnd} {B′ seen : List ℤ} {D′ R′ : List ℕ}
     → ((A : Rows) → Prepared W A → Calm (variablesOf W) (rowsIn W) A B D) → length D′ ≡ 4
     → (Known (variablesOf W) (rowsIn W) W B D
-      → propagationOf (p .end) B′ ≡ propagateFrom budget 0 0 (variablesOf W) (rowsIn W) (decode (variablesOf W) (rowsIn W) W) B)
+    → propagationOf (p .end) B′ ≡ propagateFrom budget 0 0 (variablesOf W) (rowsIn W) (decode (variablesOf W) (rowsIn W) W) B)
     → (Known (variablesOf W) (rowsIn W) W B D → Calm (variablesOf W) (rowsIn W) (decode (variablesOf W) (rowsIn W) W) B′ D′)
     → (T (not (isNone (propagationOf (p .end) [] .ending))) → Looking (variablesOf W) (rowsIn W) W B′ seen D′)
     → (Known (variablesOf W) (rowsIn W) W B D
-      → R′ ≡ reasonsFrom budget (variablesOf W) (rowsIn W) (decode (variablesOf W) (rowsIn W) W) B R .movers)
+    → R′ ≡ reasonsFrom budget (variablesOf W) (rowsIn W) (decode (variablesOf W) (rowsIn W) W) B R .movers)
     → (Known (variablesOf W) (rowsIn W) W B D
-      → p .row ≡ reasonsFrom budget (variablesOf W) (rowsIn W) (decode (variablesOf W) (rowsIn W) W) B R .infeasible)
+    → p .row ≡ reasonsFrom budget (variablesOf W) (rowsIn W) (decode (variablesOf W) (rowsIn W) W) B R .infeasible)
     → Ran budget W B R p B′ D′ R′
 ran-is budget {W} {B} {D} {R} {p} taken l answer calm left movers row = record {
   valid = λ t. let v = left t in (v .sized .box, v .nonEmpty);
