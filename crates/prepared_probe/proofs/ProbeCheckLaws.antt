@@ -1,16 +1,15 @@
 -- The checks of a prepared probe: what one that is accepted knows, and that on prepared rows they come to the number of a probe's.
 use Prim.Native.Nat.{_*_, _<_, ℕ}
-use lib.Dec.{T, eqb, leb, ltb}
+use lib.Dec.{T, eqb, leb}
 use lib.IntN.{ℤ}
-use lib.ListN.{getD, length}
+use lib.ListN.{length}
 use mathlib.Core.Bool.{Bool, _&&_, _||_, false, true}
 use mathlib.Core.List.{List, _++_}
-use mathlib.Core.Logic.{_↔_}
 use mathlib.Core.Path.{_∙_, _≡_, refl}
 use native.Mathlib.Decide.{ℕ-discrete}
 use Rattle.call.specs.FieldChecks.{budgetChecks, probeChecks, variableChecks}
 use Rattle.integer.proofs.Parts.{zarith}
-use Rattle.integer.proofs.Tests.{T→true, all-three, eqb-test, leb-test, ltb-test}
+use Rattle.integer.proofs.Tests.{T→true, eqb-test, ltb-test}
 use Rattle.model.specs.Box.{isEmpty, isFree}
 use Rattle.model.specs.Checks.{bits, boxChecks, first, inRange, lengthChecks, modelChecks, modelFault, numberChecks, sizeChecks, table, tableByteChecks, tableLengthChecks}
 use Rattle.model.specs.Limits.{maxBound, maxCoef, maxRhs, maxRows, maxVariables, minBound, minCoef, minRhs}
@@ -19,24 +18,14 @@ use Rattle.model.specs.Rows.{Rows}
 use Rattle.model.specs.State.{State, stateOf}
 use Rattle.model.specs.Valid.{ValidBox, ValidTable}
 use Rattle.model.proofs.CheckLaws.{bits-all, first-go, first-none, first-stop, inRange-all, narrow-all, numbered, shape-test, size-test}
+use Rattle.prepared_box.proofs.OursLaws.{is-ours, ours-is}
 use Rattle.reducer.proofs.OpenCallLaws.{model-refuses, own-fault}
 use Rattle.semantics.specs.Call.{callOf, hasBudget, hasRow, hasTable, hasVariable, isUnknown, kindOf}
 use Rattle.semantics.specs.CallChecks.{callFault, lentTable, recordChecks}
 use Rattle.semantics.proofs.Accepted.{modelFaultOf}
-use Rattle.workspace.specs.Layout.{isOurs, ourMark, rowsIn, variablesOf, workspaceLen}
+use Rattle.workspace.specs.Layout.{isOurs, rowsIn, variablesOf}
 use Rattle.workspace.specs.Prepared.{Ours, Prepared}
 use Rattle.prepared_probe.specs.Checks.{lentChecks, preparedProbeChecks, probeFault}
-
-pub ours-test : (W : List ℕ) → T (isOurs W) ↔ Ours W
-unfolding isOurs
-ours-test W =
-    let d = all-three (eqb (length W) workspaceLen && eqb (getD W 0 0) ourMark && ltb 0 (variablesOf W)) (leb (variablesOf W) 128) (leb (rowsIn W) 120)
-    (all-three (eqb (length W) workspaceLen) (eqb (getD W 0 0) ourMark) (ltb 0 (variablesOf W))
-    (eqb-test (length W) workspaceLen) (eqb-test (getD W 0 0) ourMark) (ltb-test 0 (variablesOf W)))
-    (leb-test (variablesOf W) 128) (leb-test (rowsIn W) 120) in (
-      (λ t. let h = d .0 t in record { len = h .0 .0; mark = h .0 .1; some = h .0 .2; few = h .1; fewRows = h .2 }),
-      (λ o. d .1 ((o .len, o .mark, o .some), o .few, o .fewRows)),
-    )
 
 pub box-valid : (n : ℕ) (B : List ℤ) → length B ≡ 2 * n → first (boxChecks n B) ≡ 0 → ValidBox n B
 unfolding boxChecks
@@ -72,7 +61,7 @@ module _ (W : List ℕ) (B : List ℤ) (t : List ℕ) (k budget : ℕ) where
       let r = h .1 .1 .1 in
       let f = r .1 .1 .1 .1 in
       record {
-        ours = ours-test W .0 (h .0);
+        ours = ours-is (T→true (isOurs W) (h .0));
         box = box-valid n B l (first-none (boxChecks n B) tt .1 (r .0, (r .1 .0, (r .1 .1 .0, tt))));
         table = record { len = eqb-test (length t) (4 * (n * n)) .0 (h .1 .1 .0); bits = bits-all t .0 (r .1 .1 .1 .0) };
         variable = ltb-test k n .0 (f .0);
@@ -92,21 +81,25 @@ module _ (W : List ℕ) (B : List ℤ) (t : List ℕ) (k budget : ℕ) where
     lengths : (eqb (length B) (2 * n) && eqb (length (A .coefs)) (m * n) && eqb (length (A .rhs)) m && eqb (length (A .kinds)) m) ≡ eqb (length B) (2 * n)
     lengths =
         let v = P .box in
-        rw (T→true (eqb (length (A .coefs)) (m * n)) (eqb-test (length (A .coefs)) (m * n) .1 (v .coefsLen)),
-        T→true (eqb (length (A .rhs)) m) (eqb-test (length (A .rhs)) m .1 (v .rhsLen)),
-        T→true (eqb (length (A .kinds)) m) (eqb-test (length (A .kinds)) m .1 (v .kindsLen)))
+        rw (
+          T→true (eqb (length (A .coefs)) (m * n)) (eqb-test (length (A .coefs)) (m * n) .1 (v .coefsLen)),
+          T→true (eqb (length (A .rhs)) m) (eqb-test (length (A .rhs)) m .1 (v .rhsLen)),
+          T→true (eqb (length (A .kinds)) m) (eqb-test (length (A .kinds)) m .1 (v .kindsLen)),
+        )
         (and-true (eqb (length B) (2 * n)))
 
     lent-model : first (lentChecks W B t) ≡ modelFault (modelOf n m B A) (table t) true
     unfolding lentChecks first modelFault modelChecks sizeChecks lengthChecks tableLengthChecks boxChecks numberChecks tableByteChecks
     lent-model =
         let v = P .box in
-        rw (T→true (isOurs W) (ours-test W .1 (P .ours)),
-        T→true (leb 1 n && leb n maxVariables && leb m maxRows) (size-test n m .1 (v .some, v .few, v .fewRows)),
-        lengths,
-        T→true (inRange minCoef maxCoef (A .coefs)) (inRange-all minCoef maxCoef (A .coefs) (omega zarith) (omega zarith) .1 (v .coefs)),
-        T→true (inRange minRhs maxRhs (A .rhs)) (inRange-all minRhs maxRhs (A .rhs) (omega zarith) (omega zarith) .1 (v .rhs)),
-        T→true (bits (A .kinds)) (bits-all (A .kinds) .1 (v .kinds)))
+        rw (
+          is-ours (P .ours),
+          T→true (leb 1 n && leb n maxVariables && leb m maxRows) (size-test n m .1 (v .some, v .few, v .fewRows)),
+          lengths,
+          T→true (inRange minCoef maxCoef (A .coefs)) (inRange-all minCoef maxCoef (A .coefs) (omega zarith) (omega zarith) .1 (v .coefs)),
+          T→true (inRange minRhs maxRhs (A .rhs)) (inRange-all minRhs maxRhs (A .rhs) (omega zarith) (omega zarith) .1 (v .rhs)),
+          T→true (bits (A .kinds)) (bits-all (A .kinds) .1 (v .kinds)),
+        )
         refl
 
     abbrev s : State

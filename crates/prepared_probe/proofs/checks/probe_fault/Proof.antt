@@ -11,14 +11,15 @@ use mathlib.Core.Path.{_∙_, _≡_, refl, sym}
 use native.Mathlib.Nat.{mul-le-mul-right}
 use native.Mathlib.Omega.{arith}
 use Rattle.call.specs.FieldChecks.{probeChecks}
-use Rattle.integer.proofs.Tests.{eqb-test, test-false, test-true, told-false, told-true, true→T}
+use Rattle.integer.proofs.Tests.{eqb-test, test-false, test-true, told-false, told-true}
 use Rattle.model.specs.Checks.{bits, boxChecks, first, table, tableByteChecks}
 use Rattle.model.specs.Valid.{ValidBox}
 use Rattle.model.proofs.CheckLaws.{ends, fails, goes, past, stops}
+use Rattle.prepared_box.proofs.OursLaws.{ours-is}
 use Rattle.workspace.specs.Layout.{isOurs, variablesOf}
 use Rattle.workspace.specs.Prepared.{Ours}
 use Rattle.prepared_probe.specs.Checks.{lentChecks, preparedProbeChecks, probeFault}
-use Rattle.prepared_probe.proofs.ProbeCheckLaws.{box-valid, ours-test}
+use Rattle.prepared_probe.proofs.ProbeCheckLaws.{box-valid}
 use Rattle.prepared_probe.proofs.checks.probe_fault.Statement.{statement}
 use Rattle.prepared_probe.proofs.checks.probe_fault.Tie as tie
 
@@ -50,7 +51,7 @@ module _ (c : tie.Else1) where
   is-ours = told-true _ (c .before .is-ours .ensures) (c .if1 .left)
 
   ours : Ours W
-  ours = ours-test W .0 (true→T (isOurs W) is-ours)
+  ours = ours-is is-ours
 
   square : n * n ≤ 16_384
   square = let a = mul-le-mul-right n (ours .few) in omega (arith, ours .few)
