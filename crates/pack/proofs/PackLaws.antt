@@ -12,7 +12,7 @@ use native.Mathlib.Numerals.{add-one}
 use native.Mathlib.Omega.{arith}
 use Rattle.integer.proofs.IndexLaws.{getD-all}
 use Rattle.integer.proofs.Parts.{add-parts, sub-parts, zarith}
-use Rattle.integer.proofs.RangeLaws.{within!}
+use Rattle.integer.proofs.RangeLaws.{within! }
 use Rattle.integer.specs.Range.{Within}
 use Rattle.model.specs.Box.{at}
 use Rattle.model.specs.Limits.{maxCoef, maxRhs, minCoef, minRhs}

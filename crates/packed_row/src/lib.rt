@@ -105,8 +105,8 @@ fn propagate_form_packed(words: &[u32], sign: i32, b: i32, bounds: &mut [i32]) -
     RowPropagation::Tightened(tighten_bounds_packed(words, sign, rhs, least, bounds))
 }
 
-// Propagates the row with the given right side: an = row (kind 1) by its ≤ form and then, on the box that it left, by its
-// negated form.
+// Propagates the row with the given right side: an = row (kind 1) by its ≤ form and then, on the box that it left, by
+// its negated form.
 fn propagate_forms(words: &[u32], b: i32, kind: u32, bounds: &mut [i32]) -> RowPropagation
     requires { ⌜ ValidRow (length (now words)) (coefsFrom (now words) 0) b (now bounds) ⌝ }
     ensures { λ r.

@@ -45,10 +45,11 @@ pub fn one_pass(
     while r < m {
         match visit_at(n, m, ws, r, bounds, seen, dirty, reasons) {
             RowPropagation::Infeasible => {
+                let row = r as u32;
                 return PassEnd {
                     ended: true,
                     moved: moved,
-                    row: r as u32,
+                    row: row,
                 };
             }
             RowPropagation::Tightened(more) => {

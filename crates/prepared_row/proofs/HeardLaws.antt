@@ -1,7 +1,7 @@
 -- What the loops that note which bounds moved need: one bound, one variable, and what the whole says of the rows.
 use Prim.Native.Nat.{_*_, _+_, _-_, _%_, _<_, _≤_, max, ℕ}
 use lib.IntN.{pos, ℤ}
-use lib.ListN.{drop, getD, length, set, take}
+use lib.ListN.{drop, getD, length, take}
 use lib.Seq.{set-getD}
 use lib.Signed.{_<ℤ_, _≤ℤ_, ≤ℤ-refl}
 use mathlib.Core.List.{List}
@@ -12,7 +12,6 @@ use Rattle.integer.proofs.Parts.{zarith}
 use Rattle.model.specs.Box.{at, lower, upper, withBounds}
 use Rattle.model.proofs.BoxLaws.{box-ext}
 use Rattle.model.proofs.BoxLoops.{lower-withBounds, upper-withBounds, withBounds-other}
-use Rattle.packed_row.specs.Words.{coefsFrom}
 use Rattle.packed_row.proofs.PackedLaws.{packed-steps, skip-next, skip-start, skipAt, step-at}
 use Rattle.row_set.specs.Bits.{bitAt}
 use Rattle.workspace.specs.Layout.{fallOf, riseOf}

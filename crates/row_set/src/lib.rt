@@ -1,5 +1,5 @@
-// Sets of rows, as bits: row r is bit r % 32 of word r / 32, and four words hold the 120 rows of the largest model. What
-// a pass has to look at is one set, and a bound that moves adds the rows that hear of it, whatever their number.
+// Sets of rows, as bits: row r is bit r % 32 of word r / 32, and four words hold the 120 rows of the largest model.
+// What a pass has to look at is one set, and a bound that moves adds the rows that hear of it, whatever their number.
 ghost use mathlib.Core.Path.{_≡_};
 ghost use Prim.Native.Nat.{ℕ, _<_, _≤_, max};
 ghost use lib.ListN.{length};

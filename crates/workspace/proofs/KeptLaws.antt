@@ -60,9 +60,11 @@ module _ {p q : ℕ} {W X : List ℕ} (s : SameBut p q W X) where
   pub same-decode : q ≤ 264 → (n m : ℕ) → decode n m X ≡ decode n m W
   unfolding decode rowWords
   same-decode h n m =
-      rw (listTo-same (m * n) (λ k. at (coefsFrom (take n (drop (1_408 + k / n * n) X)) 0) (k % n)) (λ k. at (coefsFrom (take n (drop (1_408 + k / n * n) W)) 0) (k % n)) words,
-      listTo-same m (λ r. rhsOf (sideWord X r)) (λ r. rhsOf (sideWord W r)) (λ r k. ap rhsOf (side r)),
-      listTo-same m (λ r. sideWord X r % 2) (λ r. sideWord W r % 2) (λ r k. ap (λ (w : ℕ). w % 2) (side r)))
+      rw (
+        listTo-same (m * n) (λ k. at (coefsFrom (take n (drop (1_408 + k / n * n) X)) 0) (k % n)) (λ k. at (coefsFrom (take n (drop (1_408 + k / n * n) W)) 0) (k % n)) words,
+        listTo-same m (λ r. rhsOf (sideWord X r)) (λ r. rhsOf (sideWord W r)) (λ r k. ap rhsOf (side r)),
+        listTo-same m (λ r. sideWord X r % 2) (λ r. sideWord W r % 2) (λ r k. ap (λ (w : ℕ). w % 2) (side r)),
+      )
     where
       side : (r : ℕ) → sideWord X r ≡ sideWord W r
       side r = s .after (264 + r) (omega arith)
@@ -83,7 +85,7 @@ module _ {p q : ℕ} {W X : List ℕ} (s : SameBut p q W X) where
   same-before d k h l =
       ext-getD 0 _ _ (wide X (rw (s .len) l) ∙ sym (wide W l))
       (λ i b. let small = rw (wide X (rw (s .len) l)) at b in
-          getD-take k (drop d X) i 0 small ∙ getD-drop d X i 0 ∙ s .before (d + i) (omega arith) ∙ sym (getD-take k (drop d W) i 0 small ∙ getD-drop d W i 0))
+      getD-take k (drop d X) i 0 small ∙ getD-drop d X i 0 ∙ s .before (d + i) (omega arith) ∙ sym (getD-take k (drop d W) i 0 small ∙ getD-drop d W i 0))
     where
       wide : (L : List ℕ) → d + k ≤ length L → length (take k (drop d L)) ≡ k
       wide L b = length-take-le k (drop d L) (omega (arith, length-drop d L))

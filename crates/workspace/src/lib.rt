@@ -45,7 +45,8 @@ fn bound(word: u32) -> i32
 // The box that is kept.
 pub fn read_box(ws: &[u32], bounds: &mut [i32])
     requires { ⌜ (length (now ws) ≡ workspaceLen) × (length (now bounds) ≤ 256) ⌝ }
-    ensures { λ _. ⌜ ((n : ℕ) → length (now (bounds .entry)) ≡ 2 * n → now (bounds .exit) ≡ boxIn n (now (ws .entry))) ⌝ }
+    ensures { λ _.
+        ⌜ ((n : ℕ) → length (now (bounds .entry)) ≡ 2 * n → now (bounds .exit) ≡ boxIn n (now (ws .entry))) ⌝ }
 {
     let mut i = 0;
     while i < bounds.len() {

@@ -96,7 +96,7 @@ loop-again c =
     let t : 0 < j = omega arith in
     let few : zeros < 128 = omega (arith, s .pre .0) in
     let said = row-more (h .loop .ws) C place j w zeros t (omega arith) (omega (arith, s .pre, h .loop .inv .1 .len)) (h .loop .inv .2)
-        (coef-packed x zeros _ b (simp toZ-ofZ at (c .before .raised .ensures)) few) (digits-mod x few) in
+    (coef-packed x zeros _ b (simp toZ-ofZ at (c .before .raised .ensures)) few) (digits-mod x few) in
     (omega arith, same-inside (h .loop .inv .1) (place + (j - 1)) w (omega arith) (omega arith), said, said)
 
 add-zeros : tie.Need-add-zeros Inv-loop μ-loop

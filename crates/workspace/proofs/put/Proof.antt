@@ -64,7 +64,7 @@ returns c =
     let place = s .args .place in
     let k = length (s .args .numbers .now) in
     let wide : length (take k (drop place ws)) ≡ k =
-        length-take-le k (drop place ws) (omega (arith, length-drop place ws, h .loop .inv .1 .len, s .pre)) in (
+    length-take-le k (drop place ws) (omega (arith, length-drop place ws, h .loop .inv .1 .len, s .pre)) in (
       ext-getD 0 _ _ wide
           (λ q l. getD-take k (drop place ws) q 0 (omega arith) ∙ getD-drop place ws q 0 ∙ h .loop .inv .2 q (omega arith)),
       same-wider (omega arith) (h .loop .inv .1),

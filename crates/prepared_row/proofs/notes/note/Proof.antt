@@ -1,9 +1,9 @@
 -- `notes::note`: the invariant is `Noted`; a variable that differs is noted (`noted-next`), any other is passed over (`noted-still`).
 -- Assumes nothing.
-use Prim.Native.Nat.{_*_, _+_, _-_, _%_, _<_, _≤_, ℕ}
-use lib.ListN.{getD, length}
+use Prim.Native.Nat.{_-_, _<_, _≤_, ℕ}
+use lib.ListN.{length}
 use mathlib.Core.Logic.{⊎-elim}
-use mathlib.Core.Path.{_∙_, _≡_, refl}
+use mathlib.Core.Path.{_∙_}
 use native.Mathlib.Omega.{arith}
 use Rattle.prepared_row.proofs.HeardLaws.{Noted, noted-all, noted-first, noted-next, noted-still}
 use Rattle.prepared_row.proofs.notes.note.Statement.{statement}

@@ -8,7 +8,6 @@ use mir.Facts.{toZ-ofZ}
 use mir.Syntax.{w32}
 use mir.Val.{ofZ, toZ}
 use Rattle.model.specs.Box.{lower, upper, withBounds}
-use Rattle.prepared_row.specs.Heard.{Missed}
 use Rattle.prepared_row.proofs.HeardLaws.{deaf-read}
 use Rattle.prepared_row.proofs.notes.note_at.Statement.{statement}
 use Rattle.prepared_row.proofs.notes.note_at.Tie as tie

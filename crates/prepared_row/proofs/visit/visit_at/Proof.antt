@@ -2,7 +2,7 @@
 -- Assumes nothing.
 use Prim.Native.Nat.{ℕ}
 use borrow.Author.Needs.{needs}
-use mathlib.Core.Path.{_∙_, _≡_, ap₂, sym}
+use mathlib.Core.Path.{_∙_, ap₂, sym}
 use native.Mathlib.Omega.{arith}
 use Rattle.model.specs.Rows.{Row}
 use Rattle.row.specs.Kinds.{propagateRowOf}
