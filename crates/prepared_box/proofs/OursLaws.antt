@@ -21,7 +21,7 @@ ours-test W =
     let four = both (a && b && c) d three (leb-test (variablesOf W) 128) in
     let five = both (a && b && c && d) (leb (rowsIn W) 120) four (leb-test (rowsIn W) 120) in (
       (λ t. let h = five .0 t in
-      record { len = h .0 .0 .0; mark = h .0 .0 .1; some = h .0 .0 .2; few = h .0 .1; fewRows = h .1 }),
+          record { len = h .0 .0 .0; mark = h .0 .0 .1; some = h .0 .0 .2; few = h .0 .1; fewRows = h .1 }),
       (λ o. five .1 (((o .len, o .mark, o .some), o .few), o .fewRows)),
     )
 

@@ -45,8 +45,10 @@ taken-one {W} {old} {new} {D} {j} {box} D′ h e t f = record {
   within = λ k a b. let d : k ≡ j = omega arith in
       rw (e, d) (lower-withBounds old j (lower new j) (upper new j) h, upper-withBounds old j (lower new j) (upper new j) h);
   without = λ k w. let d : k ≡ j → ⊥ = ⊎-elim (λ a e. omega arith) (λ a e. omega arith) w in
-      rw e (withBounds-other old j (lower new j) (upper new j) (2 * k) (λ z. d (omega arith)) (λ z. omega arith),
-      withBounds-other old j (lower new j) (upper new j) (2 * k + 1) (λ z. omega arith) (λ z. d (omega arith)));
+      rw e (
+        withBounds-other old j (lower new j) (upper new j) (2 * k) (λ z. d (omega arith)) (λ z. omega arith),
+        withBounds-other old j (lower new j) (upper new j) (2 * k + 1) (λ z. omega arith) (λ z. d (omega arith)),
+      );
   heard = λ r l z. let w = f r l z in (w .0, λ k a b. let d : k ≡ j = omega arith in rw d (w .1));
 }
 

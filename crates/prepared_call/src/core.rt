@@ -11,6 +11,7 @@ use propagation::Propagation;
 use row_set::SET_WORDS;
 use workspace::keep_box;
 use workspace::keep_set;
+ghost use mathlib.Core.Path.{_≡_};
 ghost use lib.ListN.{length};
 ghost use Rattle.prepared_call.specs.Core.{Accepting, Keeping, Kept, Ran, Running};
 ghost use Rattle.prepared_call.specs.PreparedCall.{Propagates};

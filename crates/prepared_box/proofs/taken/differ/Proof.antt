@@ -52,9 +52,9 @@ loop-again c =
     let i = h .loop .i in (
       omega arith,
       λ e k a b.
-      let w = still _ _ _ e in
-      let now : at old i ≡ at new i = eq-read w32 (record { sfits = c .before .found .given }) (record { sfits = c .found2 .given }) (w .1) in
-      below-more (λ (q : ℕ). h .before .args .from ≤ q → at old q ≡ at new q) i (λ q l g. h .loop .inv .1 (w .0) q g l) (λ _. now) k b a,
+          let w = still _ _ _ e in
+          let now : at old i ≡ at new i = eq-read w32 (record { sfits = c .before .found .given }) (record { sfits = c .found2 .given }) (w .1) in
+          below-more (λ (q : ℕ). h .before .args .from ≤ q → at old q ≡ at new q) i (λ q l g. h .loop .inv .1 (w .0) q g l) (λ _. now) k b a,
     )
 
 returns : tie.Need-returns Inv-loop μ-loop

@@ -50,14 +50,14 @@ loop-again c =
       omega arith,
       omega arith,
       taken-join (i .0) (omega arith) (i .2)
-      (⊎-elim
-      (λ w.
-      let call = w .3 in
-      rw (w .7, w .8) (taken-one (call .last .1 .1 .1 .1 .0) (omega (arith, s h .pre .4, i .2 .len)) (call .ensures .0) (call .kept .1 .1 .1 .1 .0) (call .ensures .1)))
-      (λ w. rw (w .1, w .2)
-      (let e = c .before .differs-at .ensures (w .0 .left) in
-      taken-same (λ k a b. let d : k ≡ j h = omega arith in rw d (sym (e .0), sym (e .1)))))
-      (c .if1 .came)),
+          (⊎-elim
+          (λ w.
+          let call = w .3 in
+          rw (w .7, w .8) (taken-one (call .last .1 .1 .1 .1 .0) (omega (arith, s h .pre .4, i .2 .len)) (call .ensures .0) (call .kept .1 .1 .1 .1 .0) (call .ensures .1)))
+          (λ w. rw (w .1, w .2)
+          (let e = c .before .differs-at .ensures (w .0 .left) in
+          taken-same (λ k a b. let d : k ≡ j h = omega arith in rw d (sym (e .0), sym (e .1)))))
+          (c .if1 .came)),
     )
 
 same-length : tie.Need-same-length Inv-loop μ-loop
