@@ -32,7 +32,10 @@ use Rattle.semantics.proofs.CallLaws.{perform-accepted}
 use Rattle.semantics.proofs.Demand2.{demand-2}
 use Rattle.semantics.proofs.Preserved.{Preserves, step-preserves}
 use Rattle.semantics.proofs.RestAnswer.{rest-answer, rest-probe-moves}
-use Rattle.reducer.specs.OpenCalls.{Ends, Means, NoMeans, RestVerdict, performed, refusedRest, rest, tested}
+use Rattle.probing.specs.Results.{probingOf}
+use Rattle.probing.specs.declared.sides.Probing.{Probing}
+use Rattle.probing.specs.declared.sides.Probing.the-variants as probing
+use Rattle.reducer.specs.OpenCalls.{Ends, Means, NoMeans, RestVerdict, performed, probingAnswer, refusedRest, rest, tested}
 
 -- ---- what a call performs
 
@@ -74,11 +77,20 @@ module _ (n m : ℕ) (B : List ℤ) (A : Rows) (budget : ℕ) where
   unfolding stateOf callOf performed act kindOf withBox
   rows-propagated f w h = let s = stateOf n m B A [] in sym (perform-accepted s (callOf s 2 0 0 budget) f ∙ rw h)
 
-  pub variable-probed : (t : List ℕ) (variable : ℕ) → let s = stateOf n m B A t in
+  variable-probed : (t : List ℕ) (variable : ℕ) → let s = stateOf n m B A t in
       callFault s (callOf s 3 0 variable budget) ≡ 0 → (w : Probed) → w ≡ probe variable budget n m A B t
       → performed (probed (w .ending) (w .side0) (w .side1)) (stateOf n m (w .box) A (w .table)) ≡ perform s (callOf s 3 0 variable budget)
   unfolding stateOf callOf performed act kindOf withBox
   variable-probed t variable f w h = let s = stateOf n m B A t in sym (perform-accepted s (callOf s 3 0 variable budget) f ∙ rw h)
+
+  -- and the answer that is made of it
+  pub probing-performed : (t : List ℕ) (variable : ℕ) (p : Probing) (Q : List ℤ) (u : List ℕ) → let s = stateOf n m B A t in
+      callFault s (callOf s 3 0 variable budget) ≡ 0 → probingOf p Q u ≡ probe variable budget n m A B t
+      → performed (probingAnswer p) (stateOf n m Q A u) ≡ perform s (callOf s 3 0 variable budget)
+  unfolding probingOf
+  probing-performed t variable (probing.Infeasible s0 s1) Q u f e = variable-probed t variable f (probingOf (probing.Infeasible s0 s1) Q u) e
+  probing-performed t variable (probing.Fixed v s0 s1) Q u f e = variable-probed t variable f (probingOf (probing.Fixed v s0 s1) Q u) e
+  probing-performed t variable (probing.BothFeasible a s0 s1) Q u f e = variable-probed t variable f (probingOf (probing.BothFeasible a s0 s1) Q u) e
 
 -- ---- what its answer means, refused or not
 

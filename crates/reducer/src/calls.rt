@@ -20,7 +20,8 @@ ghost use Rattle.semantics.specs.Perform.{perform};
 ghost use Rattle.semantics.specs.Call.{callOf};
 ghost use Rattle.model.specs.Rows.{rowsOf};
 ghost use Rattle.model.specs.State.{stateOf};
-ghost use Rattle.reducer.specs.OpenCalls.{Ends, Means, performed, probeAnswer, propagateAnswer, rowAnswer};
+ghost use Rattle.reducer.specs.OpenCalls.{Ends, Means, performed, probeAnswer, probingAnswer};
+ghost use Rattle.reducer.specs.OpenCalls.{propagateAnswer, rowAnswer};
 
 // 01's visit: refused N, None, Narrowed with the number of bounds moved, Same.
 pub enum PropagateRowAnswer {
@@ -153,6 +154,21 @@ pub fn propagate(
     }
 }
 
+// What a probing says, as an answer.
+pub fn probe_answer(p: Probing) -> ProbeAnswer
+    ensures { λ r. ⌜ probeAnswer r ≡ probingAnswer p ⌝ }
+{
+    match p {
+        Probing::Infeasible(side0, side1) => ProbeAnswer::Infeasible(side0, side1),
+        Probing::Fixed(value, side0, side1) => ProbeAnswer::Fixed(value, side0, side1),
+        Probing::BothFeasible(added, side0, side1) => ProbeAnswer::BothFeasible(
+            added,
+            side0,
+            side1,
+        ),
+    }
+}
+
 // Probes the free binary variable `variable`, each side with `budget` passes (01's probe). Refused by 10, 13 to
 // 15.
 pub fn probe(
@@ -186,7 +202,7 @@ pub fn probe(
     if fault != 0 {
         return ProbeAnswer::Refused(fault);
     }
-    match probing::sides::probe(
+    probe_answer(probing::sides::probe(
         n,
         m,
         bounds,
@@ -196,13 +212,5 @@ pub fn probe(
         table,
         variable as usize,
         budget,
-    ) {
-        Probing::Infeasible(side0, side1) => ProbeAnswer::Infeasible(side0, side1),
-        Probing::Fixed(value, side0, side1) => ProbeAnswer::Fixed(value, side0, side1),
-        Probing::BothFeasible(added, side0, side1) => ProbeAnswer::BothFeasible(
-            added,
-            side0,
-            side1,
-        ),
-    }
+    ))
 }
