@@ -44,6 +44,7 @@ mod model;
 pub mod pages;
 pub mod plan;
 mod refusal;
+mod shared;
 mod ties;
 
 pub use allocations::{MAX_PROPOSALS, Verdict};
@@ -53,6 +54,7 @@ pub use model::{
     Call, Model, Row, RowKind, book_size, book_to_sparse, sparse_size, sparse_to_book,
 };
 pub use refusal::Refusal;
+pub use shared::Rows;
 pub use ties::{CircularTies, Tie, Ties};
 
 /// The version of this wrapper, which is that of the C header and of the library: `"0.1.0"`.
