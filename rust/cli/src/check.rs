@@ -1,6 +1,7 @@
 //! `astrolabe check`: proposals in a CSV file held against a model, and if one is outside, why, by names.
 
 use crate::command::{Command, run_all};
+use crate::csv;
 use crate::explain::{Names, grouped, refused};
 use crate::failure::{Failure, NONE};
 use crate::files;
@@ -38,8 +39,7 @@ struct Proposal {
 fn read_proposals(path: &Path, names: &Names) -> Result<Vec<Proposal>, Failure> {
     let bytes = files::read(path)?;
     let text = String::from_utf8_lossy(&bytes);
-    let lines = text.lines().enumerate().filter(|(_, line)| !line.trim().is_empty());
-    let mut lines = lines.map(|(at, line)| (at + 1, fields(line))).peekable();
+    let mut lines = csv::lines(&text).peekable();
     let named =
         lines.peek().filter(|(_, fields)| fields.iter().any(|word| word.parse::<i64>().is_err()));
     let order = match named.cloned() {
@@ -50,10 +50,6 @@ fn read_proposals(path: &Path, names: &Names) -> Result<Vec<Proposal>, Failure> 
         None => (0..names.columns.len()).collect(),
     };
     lines.map(|(at, fields)| proposal(path, at, &fields, &order)).collect()
-}
-
-fn fields(line: &str) -> Vec<String> {
-    line.split(',').map(|field| field.trim().trim_matches('"').to_string()).collect()
 }
 
 /// For each field of a line, the variable that it is for.

@@ -30,7 +30,7 @@ pub const COMMAND: Command = Command {
 
 fn convert(task: &Task) -> Result<Report, Failure> {
     let source = Source::read(&task.input, task.from)?;
-    files::write(&task.output, &source.bytes(&source.model, task.to)?)?;
+    files::write(&task.output, &source.bytes(&source.model, None, task.to)?)?;
     let (n, m) = (source.model.n(), source.model.m());
     let (variables, rows) = (counted(n, "variable"), counted(m, "row"));
     let text = format!("{variables}, {rows} -> {}", files::shown_output(&task.output));

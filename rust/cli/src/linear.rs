@@ -84,6 +84,12 @@ fn scaled(values: &[f64]) -> Result<(i64, Vec<i64>), f64> {
     last
 }
 
+/// The sum of two decimals, as the number nearest to it; none where no power of ten makes both whole.
+pub fn decimal_sum(one: f64, other: f64) -> Option<f64> {
+    let (power, whole) = scaled(&[one, other]).ok()?;
+    Some((whole[0] + whole[1]) as f64 / power as f64)
+}
+
 fn column_bounds(column: &Column) -> Result<[i64; 2], Failure> {
     let name = &column.name;
     if !column.integer {

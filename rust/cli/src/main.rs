@@ -9,6 +9,8 @@
 mod check;
 mod command;
 mod convert;
+mod csv;
+mod expand;
 mod explain;
 mod failure;
 mod files;
@@ -26,13 +28,15 @@ mod reduce;
 mod report;
 mod solve;
 mod source;
+mod tied;
 
 use command::{Command, print_line};
 use failure::Failure;
 use std::process::ExitCode;
 
-const COMMANDS: [Command; 6] = [
+const COMMANDS: [Command; 7] = [
     reduce::COMMAND,
+    expand::COMMAND,
     check::COMMAND,
     floor::COMMAND,
     plan::COMMAND,
@@ -84,6 +88,7 @@ const NOTES: &str = "\
 IN is a file, a folder, or - for standard input; OUT a file, for many files a folder, or - for standard output.
 F is book, sparse, mps or lp; without it the extension decides. mps and lp need a build with GLPK.
 --rounds N   at most N rounds          --jobs N   N files at a time
+--ties       tie variables that always equal another, or its opposite: OUT.ties says which
 --json       one object a line         --help     this
 
 Exit status: 0 done, 1 none (a model has no integer point), 2 refused, 3 cannot read or write. Of many files: the worst.

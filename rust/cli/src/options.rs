@@ -14,6 +14,7 @@ pub struct Options {
     pub rounds: Option<u64>,
     pub calls: Option<PathBuf>,
     pub jobs: usize,
+    pub ties: bool,
     pub json: bool,
     pub help: bool,
 }
@@ -61,6 +62,7 @@ fn option(
     };
     match name {
         "--json" => options.json = true,
+        "--ties" => options.ties = true,
         "--help" | "-h" => options.help = true,
         "-o" | "--output" => options.output = Some(value()?.into()),
         "--from" => options.from = Some(Format::by_name(&value()?.to_string_lossy())?),

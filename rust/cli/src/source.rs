@@ -74,17 +74,41 @@ impl Source {
         Err(without_glpk(&format!("read {}", files::shown(path)), format))
     }
 
-    /// The file of the reduced model (or of the model itself) in a format.
-    pub fn bytes(&self, reduced: &Model, format: Format) -> Result<Vec<u8>, Failure> {
+    /// The objective: the constant term and a coefficient for each column, all 0 of a book.
+    pub fn objective(&self) -> Vec<f64> {
+        #[cfg(glpk)]
+        if let Some((problem, _)) = &self.problem {
+            return problem.linear().objective;
+        }
+        vec![0.0; 1 + self.model.n()]
+    }
+
+    /// The file of the reduced model (or of the model itself) in a format; with an objective in the place of the file's where
+    /// ties put costs over.
+    pub fn bytes(
+        &self,
+        reduced: &Model,
+        objective: Option<&[f64]>,
+        format: Format,
+    ) -> Result<Vec<u8>, Failure> {
         match format {
             Format::Sparse => reduced.to_sparse_book().map_err(crate::explain::refused),
             Format::Book => {
                 reduced.to_book().map_err(|refusal| self.not_in_a_book(refusal, reduced))
             }
             #[cfg(glpk)]
-            Format::Mps | Format::Lp => self.problem_of(reduced).bytes(format),
+            Format::Mps | Format::Lp => {
+                let mut problem = self.problem_of(reduced);
+                if let Some(objective) = objective {
+                    problem.set_objective(objective);
+                }
+                problem.bytes(format)
+            }
             #[cfg(not(glpk))]
-            Format::Mps | Format::Lp => Err(without_glpk("write this format", format)),
+            Format::Mps | Format::Lp => {
+                let _ = objective; // books have none
+                Err(without_glpk("write this format", format))
+            }
         }
     }
 

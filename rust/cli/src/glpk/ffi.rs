@@ -70,6 +70,7 @@ unsafe extern "C" {
     pub fn glp_get_obj_name(p: *mut Prob) -> *const c_char;
     pub fn glp_get_obj_dir(p: *mut Prob) -> c_int;
     pub fn glp_get_obj_coef(p: *mut Prob, j: c_int) -> c_double;
+    pub fn glp_set_obj_coef(p: *mut Prob, j: c_int, value: c_double);
     pub fn glp_get_mat_row(
         p: *mut Prob,
         i: c_int,

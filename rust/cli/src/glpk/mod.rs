@@ -182,23 +182,11 @@ impl Problem {
         let linear = self.linear();
         for (row, line) in linear.rows.iter().enumerate().filter(|(_, line)| is_range(line)) {
             let more = problem.add_row(&unused_name(&linear, &line.name));
-            let mut columns = vec![0]; // GLPK counts from 1
-            columns.extend(line.entries.iter().map(|&(j, _)| place(j)));
-            let mut values = vec![0.0];
-            values.extend(line.entries.iter().map(|&(_, value)| value));
+            problem.set_entries(more, line.entries.iter().copied());
             let _guard = listen();
-            // SAFETY: the problem is ours and has both rows and the columns; the two lists have one number more than the
-            // count.
+            // SAFETY: the problem is ours and has both rows.
             unsafe {
                 ffi::glp_set_row_bnds(problem.prob, place(row), ffi::UP, 0.0, line.upper);
-                let count = line.entries.len() as c_int;
-                ffi::glp_set_mat_row(
-                    problem.prob,
-                    place(more),
-                    count,
-                    columns.as_ptr(),
-                    values.as_ptr(),
-                );
                 ffi::glp_set_row_bnds(problem.prob, place(more), ffi::LO, line.lower, 0.0);
             }
         }
@@ -210,37 +198,50 @@ impl Problem {
     fn with_named_objective(&self) -> Self {
         let mut problem = self.clone();
         let linear = self.linear();
-        let says_nothing = |line: &Line| line.lower.is_infinite() && line.upper.is_infinite();
-        let guard = listen();
-        // SAFETY: the problem is ours; the name is null or a string that ends with 0.
-        let name = unsafe { name_or(ffi::glp_get_obj_name(self.prob), "R", 0) };
-        drop(guard);
+        let name = self.objective_name();
         if linear.rows.iter().any(|line| says_nothing(line) || line.name == name) {
             return problem;
         }
-        let row = problem.add_row(&name);
+        let row = problem.add_row(&name); // free, as every new row
+        problem.set_entries(row, linear.objective[1..].iter().copied().enumerate());
+        problem
+    }
+
+    fn objective_name(&self) -> String {
+        let _guard = listen();
+        // SAFETY: the problem is ours; the name is null or a string that ends with 0.
+        unsafe { name_or(ffi::glp_get_obj_name(self.prob), "R", 0) }
+    }
+
+    /// Puts another objective, a constant and a coefficient for each column, in the place of its own; also in the row that an
+    /// MPS file has for it.
+    pub fn set_objective(&mut self, objective: &[f64]) {
+        let name = self.objective_name();
+        let rows = self.linear().rows;
+        let guard = listen();
+        for (j, &value) in objective.iter().enumerate() {
+            // SAFETY: the problem is ours and has the column; column 0 is the constant.
+            unsafe { ffi::glp_set_obj_coef(self.prob, place(j) - 1, value) };
+        }
+        drop(guard);
+        if let Some(row) = rows.iter().position(|line| says_nothing(line) && line.name == name) {
+            self.set_entries(row, objective[1..].iter().copied().enumerate());
+        }
+    }
+
+    /// Sets the coefficients of a row, by their columns; those that are 0 are left out.
+    fn set_entries(&mut self, row: usize, entries: impl Iterator<Item = (usize, f64)>) {
         let (mut columns, mut values) = (vec![0], vec![0.0]); // GLPK counts from 1
-        for (j, &value) in
-            linear.objective[1..].iter().enumerate().filter(|(_, value)| **value != 0.0)
-        {
+        for (j, value) in entries.filter(|(_, value)| *value != 0.0) {
             columns.push(place(j));
             values.push(value);
         }
+        let count = columns.len() as c_int - 1;
         let _guard = listen();
-        // SAFETY: the problem is ours and has the row, which is free, and the columns; the two lists have one number more
-        // than the count.
+        // SAFETY: the problem is ours and has the row and the columns; the two lists have one number more than the count.
         unsafe {
-            let count = columns.len() as c_int - 1;
-            ffi::glp_set_mat_row(
-                problem.prob,
-                place(row),
-                count,
-                columns.as_ptr(),
-                values.as_ptr(),
-            );
+            ffi::glp_set_mat_row(self.prob, place(row), count, columns.as_ptr(), values.as_ptr());
         }
-        drop(_guard);
-        problem
     }
 
     /// A model that came from a book: no objective, the names numbered.
@@ -291,24 +292,16 @@ impl Problem {
     }
 
     fn set_row(&mut self, row: usize, written: &Written) {
-        let nonzeros = written.coefs.iter().enumerate().filter(|(_, a)| **a != 0);
-        let (mut columns, mut values) = (vec![0], vec![0.0]); // GLPK counts from 1
-        for (j, &a) in nonzeros {
-            columns.push(place(j));
-            values.push(f64::from(a));
-        }
+        self.set_entries(row, written.coefs.iter().map(|&a| f64::from(a)).enumerate());
         let kind = match written.side {
             Side::AtMost => ffi::UP,
             Side::AtLeast => ffi::LO,
             Side::Equal => ffi::FX,
         };
-        let (count, bound) = (columns.len() as c_int - 1, f64::from(written.bound));
+        let bound = f64::from(written.bound);
         let _guard = listen();
-        // SAFETY: the problem is ours and has the row and the columns; the two lists have count + 1 numbers.
-        unsafe {
-            ffi::glp_set_mat_row(self.prob, place(row), count, columns.as_ptr(), values.as_ptr());
-            ffi::glp_set_row_bnds(self.prob, place(row), kind, bound, bound);
-        }
+        // SAFETY: the problem is ours and has the row.
+        unsafe { ffi::glp_set_row_bnds(self.prob, place(row), kind, bound, bound) };
     }
 
     /// The reduced model in the same columns, with the same objective: rows that changed are written anew, rows that were
@@ -417,6 +410,11 @@ impl Problem {
     }
 }
 
+/// Of a row without a bound, as the objective of an MPS file is.
+fn says_nothing(line: &Line) -> bool {
+    line.lower.is_infinite() && line.upper.is_infinite()
+}
+
 fn is_range(line: &Line) -> bool {
     line.lower.is_finite() && line.upper.is_finite() && line.lower != line.upper
 }
@@ -477,8 +475,7 @@ struct Told<'a> {
 fn by_names(linear: &Linear) -> Told<'_> {
     let name = |j: usize| linear.columns[j].name.as_str();
     let columns = linear.columns.iter().zip(&linear.objective[1..]);
-    let says = |row: &&Line| row.lower.is_finite() || row.upper.is_finite();
-    let rows = linear.rows.iter().filter(says).map(|row| {
+    let rows = linear.rows.iter().filter(|row| !says_nothing(row)).map(|row| {
         let entries = row.entries.iter().map(|&(j, value)| (name(j), value)).collect();
         (row.name.as_str(), (row.lower, row.upper, entries))
     });
