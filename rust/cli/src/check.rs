@@ -35,10 +35,15 @@ struct Proposal {
 }
 
 /// A line for each proposal, a number for each variable, with commas between: in the model's order, or in that of a first
-/// line with the variables' names.
+/// line with the variables' names. Or one proposal, as lines of name and value.
 fn read_proposals(path: &Path, names: &Names) -> Result<Vec<Proposal>, Failure> {
     let bytes = files::read(path)?;
     let text = String::from_utf8_lossy(&bytes);
+    if let Some(pairs) = csv::named_values(&text) {
+        let (header, values): (Vec<_>, Vec<_>) = pairs.into_iter().unzip();
+        let values: Vec<_> = values.into_iter().map(Option::unwrap_or_default).collect();
+        return Ok(vec![proposal(path, 1, &values, &order(path, &header, names)?)?]);
+    }
     let mut lines = csv::lines(&text).peekable();
     let named =
         lines.peek().filter(|(_, fields)| fields.iter().any(|word| word.parse::<i64>().is_err()));

@@ -66,9 +66,10 @@ impl Points {
     fn parsed(text: &str) -> Result<Self, String> {
         let said = |line| if str::starts_with(line, "#") { "" } else { line };
         let text = text.lines().map(said).collect::<Vec<_>>().join("\n");
-        let first = text.lines().find(|line| !line.trim().is_empty());
-        let is_csv = first.is_some_and(|line| line.contains(','));
-        if is_csv { Points::of_csv(&text) } else { Points::of_lines(&text) }
+        match csv::named_values(&text) {
+            Some(pairs) => Points::of_pairs(&pairs),
+            None => Points::of_csv(&text),
+        }
     }
 
     fn of_csv(text: &str) -> Result<Self, String> {
@@ -84,16 +85,14 @@ impl Points {
         Ok(Points { names, values, is_csv: true })
     }
 
-    fn of_lines(text: &str) -> Result<Self, String> {
-        let (mut names, mut values) = (vec![], vec![]);
-        for line in text.lines().map(str::trim).filter(|line| !line.is_empty()) {
-            let (name, value) = line
-                .rsplit_once(char::is_whitespace)
-                .ok_or_else(|| format!("{line} is no name with a value after it"))?;
-            names.push(name.trim_end().to_string());
-            values.push(whole(value)?);
-        }
-        Ok(Points { names, values: vec![values], is_csv: false })
+    fn of_pairs(pairs: &[(String, Option<String>)]) -> Result<Self, String> {
+        let names = pairs.iter().map(|(name, _)| name.clone()).collect();
+        let value = |(name, value): &(String, Option<String>)| match value {
+            Some(word) => whole(word),
+            None => Err(format!("{name} has no value after it")),
+        };
+        let values = vec![pairs.iter().map(value).collect::<Result<_, _>>()?];
+        Ok(Points { names, values, is_csv: false })
     }
 
     /// Gives each tied variable its value, whatever the solution has for it.
@@ -173,10 +172,10 @@ mod tests {
 
     #[test]
     fn what_cannot_be_read_is_told() {
-        let told = ["y 1", "x 0.5", "x", "x,y\n1"].map(|text| expanded(text).unwrap_err());
+        let told = ["y 1", "x 0.5", "x 1\ny", "x,y\n1"].map(|text| expanded(text).unwrap_err());
         assert_eq!(told[0], "it has no value for x");
         assert_eq!(told[1], "0.5 is no whole number of 32 bits");
-        assert_eq!(told[2], "x is no name with a value after it");
+        assert_eq!(told[2], "y has no value after it");
         assert_eq!(told[3], "line 2 has 1 numbers of 2");
         let mut circle = ties();
         circle[1].to = "z".to_string();

@@ -50,16 +50,15 @@ impl Tied {
 }
 
 /// The objective with the cost of j put over to k, where j is k (equal) or 1 − k: the same value at every point that meets the
-/// tie. None where a sum of two decimals is none that can be written exactly.
+/// tie. None where no power of ten makes the two costs whole, and where a constant term would be left: LP has none, and in MPS
+/// solvers do not agree on its sign.
 fn put_over(objective: &[f64], k: usize, j: usize, equal: bool) -> Option<Vec<f64>> {
     let mut new = objective.to_vec();
     let cost = std::mem::take(&mut new[1 + j]);
-    if equal {
-        new[1 + k] = decimal_sum(new[1 + k], cost)?;
-    } else {
-        new[1 + k] = decimal_sum(new[1 + k], -cost)?;
-        new[0] = decimal_sum(new[0], cost)?;
+    if !equal && cost != 0.0 {
+        return None;
     }
+    new[1 + k] = decimal_sum(new[1 + k], cost)?;
     Some(new)
 }
 
@@ -152,7 +151,8 @@ mod tests {
     #[test]
     fn costs_go_where_the_variable_goes() {
         assert_eq!(put_over(&[1.0, 0.1, 0.2], 0, 1, true), Some(vec![1.0, 0.3, 0.0]));
-        assert_eq!(put_over(&[1.0, 0.1, 0.2], 0, 1, false), Some(vec![1.2, -0.1, 0.0]));
+        assert_eq!(put_over(&[1.0, 0.1, 0.2], 0, 1, false), None);
+        assert_eq!(put_over(&[1.0, 0.1, 0.0], 0, 1, false), Some(vec![1.0, 0.1, 0.0]));
         assert_eq!(put_over(&[0.0, 1.0, 1.0 / 3.0], 0, 1, true), None);
     }
 
@@ -166,9 +166,9 @@ mod tests {
         });
         let mut model = Model::with_kinds(bounds, coefs, vec![0, 1, 5], kinds.to_vec()).unwrap();
         model.rounds(8).unwrap();
-        let mut tied = Tied::new(vec![0.0, 5.0, 2.5, 1.0]);
+        let mut tied = Tied::new(vec![0.0, 5.0, 2.5, 0.0]);
         assert_eq!(tied.tie_all(&mut model).unwrap(), 2);
-        assert_eq!(tied.objective, [1.0, 6.5, 0.0, 0.0]);
+        assert_eq!(tied.objective, [0.0, 7.5, 0.0, 0.0]);
         let names = ["x", "y", "z"].map(str::to_string);
         assert_eq!(named(&tied.list, &names), [tie("y", "x", true), tie("z", "x", false)]);
         assert_eq!(tied.tie_all(&mut model).unwrap(), 0);

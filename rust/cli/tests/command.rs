@@ -368,6 +368,38 @@ fn help_and_version_are_told() {
     assert!(folder.run("--help").1.contains("outside the proofs"));
 }
 
+#[test]
+fn ties_of_a_book_are_written_beside_it_and_read_back() {
+    let folder = Folder::new("tied");
+    // x = y as two rows, and 2x + 3y + z ≤ 5.
+    let coefs = vec![1, -1, 0, -1, 1, 0, 2, 3, 1];
+    let model = Model::new(vec![0, 1, 0, 1, 0, 1], coefs, vec![0, 0, 5]).unwrap();
+    folder.put("a.book", &model.to_book().unwrap());
+    let (status, told, _) = folder.run("reduce a.book -o b.book --ties");
+    assert!(status == 0 && told.ends_with("1 variable tied -> b.book\n"), "{told}");
+    let list = String::from_utf8(folder.get("b.book.ties")).unwrap();
+    assert_eq!(list.lines().skip(1).collect::<Vec<_>>(), ["x1 = x0"]);
+    let reduced = Model::from_book(&folder.get("b.book")).unwrap();
+    assert_eq!(reduced.rows().last().unwrap().coefs, [1, 0, 1]); // 5x + z ≤ 5, tightened
+    folder.put("points.csv", b"x0,x1,x2\n1,0,0\n0,1,1\n");
+    assert_eq!(folder.run("expand b.book.ties points.csv -o raw.csv").0, 0);
+    assert_eq!(folder.get("raw.csv"), b"x0,x1,x2\n1,1,0\n0,0,1\n");
+    assert_eq!(folder.run("check a.book raw.csv").0, 0);
+    let (status, out, told) = folder.run("expand b.book.ties points.csv");
+    assert_eq!((status, out.lines().count()), (0, 3));
+    assert_eq!(told, "points.csv: 2 solutions, 1 variable put back -> standard output\n");
+    for (words, sentence) in [
+        ("reduce a.book -o - --ties", "standard output has no place beside it"),
+        ("reduce a.book -o b.book", "b.book.ties is there, of an earlier file"),
+        ("expand b.book.ties", "expand takes a list of ties and a solution"),
+        ("expand a.book points.csv", "cannot read a.book:1: no tie"),
+        ("expand b.book.ties points.csv -o points.csv", "would be written over"),
+    ] {
+        let (status, _, told) = folder.run(words);
+        assert!(status == 3 && told.contains(sentence), "{words}: {told}");
+    }
+}
+
 fn example(name: &str) -> Vec<u8> {
     fs::read(Path::new(env!("CARGO_MANIFEST_DIR")).join("../../examples").join(name)).unwrap()
 }
@@ -507,6 +539,100 @@ mod with_glpk {
             let (got, _, told) = folder.run("reduce a.lp -o b.lp");
             assert!(got == status && told.contains(sentence), "{sentence}: {got} {told}");
             assert_eq!(folder.names("."), ["a.lp"]);
+        }
+    }
+
+    #[test]
+    fn ties_leave_the_optimum_and_are_read_back() {
+        let folder = Folder::new("ties");
+        folder.put("a.lp", &example("one_car.lp"));
+        for file in ["b.mps", "b.lp"] {
+            let (status, told, error) = folder.run(&format!("reduce a.lp -o {file} --ties"));
+            assert!(status == 0 && told.contains("2 variables tied -> "), "{told} {error}");
+            let list = String::from_utf8(folder.get(&format!("{file}.ties"))).unwrap();
+            assert_eq!(list.lines().skip(1).collect::<Vec<_>>(), ["b = a", "d = 1 - c"]);
+            let (status, told, error) = folder.run(&format!("solve {file} -o b.sol"));
+            assert!(status == 0 && told.contains("minimum 7.5,"), "{told} {error}");
+            let (status, told, error) = folder.run(&format!("expand {file}.ties b.sol -o raw.sol"));
+            assert!(status == 0 && told.contains("put back -> raw.sol"), "{told} {error}");
+            assert_eq!(folder.run("check a.lp raw.sol").1, "raw.sol:1: inside\n");
+        }
+        assert!(folder.run("solve a.lp").1.contains("minimum 7.5,"));
+        // A list of an earlier run is not left beside a file that it does not belong to.
+        let (status, _, error) = folder.run("reduce a.lp -o b.lp");
+        assert!(status == 3 && error.contains("b.lp.ties is there, of an earlier file"), "{error}");
+    }
+
+    #[test]
+    fn a_constant_in_the_objective_is_carried_along() {
+        let folder = Folder::new("constant");
+        let text = String::from_utf8(example("ranges.mps")).unwrap();
+        folder.put(
+            "r.mps",
+            text.replace("RHS\n    RHS ", "RHS\n    RHS       COST 5\n    RHS ").as_bytes(),
+        );
+        for (words, told) in [
+            ("solve r.mps", "minimum -3,"),
+            ("reduce r.mps --ties", " tied "),
+            ("solve r.reduced.mps", "minimum -3,"),
+        ] {
+            let (status, out, error) = folder.run(words);
+            assert!(status == 0 && out.contains(told), "{words}: {out} {error}");
+        }
+        let (status, _, error) = folder.run("convert r.mps -o r.lp");
+        assert!(status == 3 && error.contains("the format lp does not hold"), "{error}");
+    }
+
+    #[test]
+    fn ties_of_an_mps_file_put_its_objective_over() {
+        let folder = Folder::new("tiesmps");
+        folder.put("r.mps", &example("ranges.mps"));
+        let (status, told, error) = folder.run("reduce r.mps --ties");
+        assert!(status == 0 && told.contains("1 variable tied"), "{told} {error}");
+        let list = String::from_utf8(folder.get("r.reduced.mps.ties")).unwrap();
+        assert_eq!(list.lines().last(), Some("Z = Y"));
+        let (status, told, error) = folder.run("solve r.reduced.mps");
+        assert!(status == 0 && told.contains("minimum -8,"), "{told} {error}");
+    }
+
+    /// A model of bench/books as an LP file: its text has the objective, which the book has no place for.
+    fn lp_of_the_benchmark(name: &str) -> String {
+        let path = format!("{}/../../bench/books/{name}.txt", env!("CARGO_MANIFEST_DIR"));
+        let text = fs::read_to_string(path).unwrap();
+        let sum = |words: &[&str]| {
+            let terms = words.iter().map(|word| word.split_once(':').unwrap());
+            terms.map(|(k, a)| format!(" + {a} x{k}\n")).collect::<String>().replace("+ -", "- ")
+        };
+        let (mut objective, mut rows, mut n) = (String::new(), String::new(), 0);
+        for words in text.lines().map(|line| line.split_whitespace().collect::<Vec<_>>()) {
+            match words[..] {
+                ["v", "0", "1", count] => n = count.parse().unwrap(),
+                ["o", ref costs @ ..] => objective = sum(costs),
+                ["r", rhs, ref terms @ ..] => rows += &format!("{} <= {rhs}\n", sum(terms)),
+                _ => {}
+            }
+        }
+        let names: String = (0..n).map(|k: usize| format!(" x{k}\n")).collect();
+        format!("Minimize\n{objective}Subject To\n{rows}Binaries\n{names}End\n")
+    }
+
+    #[test]
+    fn models_of_miplib_have_their_optimum_and_relaxations() {
+        let folder = Folder::new("relaxations");
+        let known = [
+            ("p0033", "3089", ["2520.57", "2819.36", "2829.06", "2819.36"]),
+            ("lseu", "1120", ["834.68", "944.75", "944.75", "944.75"]),
+        ];
+        for (name, optimum, relaxations) in known {
+            folder.put("a.lp", lp_of_the_benchmark(name).as_bytes());
+            let (status, told, error) = folder.run("solve a.lp");
+            assert!(
+                status == 0 && told.contains(&format!("minimum {optimum}, the same four times")),
+                "{told} {error}"
+            );
+            for (line, value) in told.lines().skip(2).zip(relaxations) {
+                assert!(line.contains(value), "{value}: {line}");
+            }
         }
     }
 

@@ -193,13 +193,14 @@ impl Problem {
         problem
     }
 
-    /// The objective as a row that says nothing but its name, as GLPK has it of an MPS file: else its name would be lost in one.
-    /// A problem that has such a row keeps it.
+    /// The objective as a row that says nothing but its name, which GLPK then writes in the place of R0000000; not where there
+    /// is such a row already, nor where the objective has a constant term, which only GLPK's own row keeps.
     fn with_named_objective(&self) -> Self {
         let mut problem = self.clone();
         let linear = self.linear();
         let name = self.objective_name();
-        if linear.rows.iter().any(|line| says_nothing(line) || line.name == name) {
+        let taken = linear.rows.iter().any(|line| says_nothing(line) || line.name == name);
+        if taken || linear.objective[0] != 0.0 {
             return problem;
         }
         let row = problem.add_row(&name); // free, as every new row
@@ -213,19 +214,12 @@ impl Problem {
         unsafe { name_or(ffi::glp_get_obj_name(self.prob), "R", 0) }
     }
 
-    /// Puts another objective, a constant and a coefficient for each column, in the place of its own; also in the row that an
-    /// MPS file has for it.
+    /// Puts another objective, a constant and a coefficient for each column, in the place of its own.
     pub fn set_objective(&mut self, objective: &[f64]) {
-        let name = self.objective_name();
-        let rows = self.linear().rows;
-        let guard = listen();
+        let _guard = listen();
         for (j, &value) in objective.iter().enumerate() {
             // SAFETY: the problem is ours and has the column; column 0 is the constant.
             unsafe { ffi::glp_set_obj_coef(self.prob, place(j) - 1, value) };
-        }
-        drop(guard);
-        if let Some(row) = rows.iter().position(|line| says_nothing(line) && line.name == name) {
-            self.set_entries(row, objective[1..].iter().copied().enumerate());
         }
     }
 
