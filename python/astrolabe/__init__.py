@@ -25,20 +25,27 @@ two models may share their rows, each with a box of its own:
 >>> branch.propagate(1_000).ending, list(branch.bounds), list(box)
 ('converged', [1, 1, 0, 0], [0, 1, 0, 1])
 """
+from enum import IntEnum
 from typing import NamedTuple
 
 from . import plan
 from ._library import TRAILER_LEN, VERSION, Lent, Refusal, call, call_without_answer
 from .calls import Call
-from .ties import Ties
+from .shared import Rows
+from .ties import CircularTies, Ties
 
-__all__ = ["Call", "Clique", "Counts", "Model", "Probe", "Propagation", "Refusal", "Rest", "Rounds", "Row", "RowPropagation", "Side"]
-__all__ += ["Ties", "Verdict", "book_to_sparse", "sparse_size", "sparse_to_book"]
-__all__ += ["MAX_BUDGET", "MAX_ROWS", "MAX_VARIABLES", "MAX_WIDTH", "VERSION", "book_size", "plan"]
+__all__ = ["Call", "CircularTies", "Clique", "Counts", "Model", "Probe", "Propagation", "Refusal", "Rest", "Rounds", "Row", "RowKind"]
+__all__ += ["RowPropagation", "Rows", "Side", "Ties", "Verdict", "book_size", "book_to_sparse", "plan", "sparse_size", "sparse_to_book"]
+__all__ += ["MAX_BUDGET", "MAX_PROPOSALS", "MAX_ROWS", "MAX_VARIABLES", "MAX_WIDTH", "NO_LIMIT", "PAGE", "VERSION"]
 
-MAX_VARIABLES, MAX_ROWS, MAX_WIDTH, MAX_BUDGET = 128, 120, 4_096, 8_388_481
-NO_LIMIT = 2**64 - 1
-AT_MOST, EQUAL = 0, 1
+MAX_VARIABLES, MAX_ROWS, MAX_WIDTH, MAX_BUDGET, MAX_PROPOSALS = 128, 120, 4_096, 8_388_481, 64
+NO_LIMIT = 2**64 - 1  # of rounds
+PAGE = 4_860  # the bytes of a page
+
+
+class RowKind(IntEnum):
+    AT_MOST = 0
+    EQUAL = 1
 
 
 class RowPropagation(NamedTuple):
@@ -94,16 +101,23 @@ class Clique(NamedTuple):
     coefs: list
     rhs: int
 
+    def literals(self):
+        """Each variable of the clique with the value that it is meant at."""
+        return [(j, a > 0) for j, a in enumerate(self.coefs) if a]
+
 
 class Verdict(NamedTuple):
-    """What a proposal gets: inside; or outside at the lowest variable; or the lowest row that it breaks."""
-    inside: bool
+    """`ending` is inside; or outside, at the lowest variable; or breaks, the lowest row."""
+    ending: str
     variable: int | None = None
     row: int | None = None
 
+    def is_inside(self):
+        return self.ending == "inside"
+
 
 class Row(NamedTuple):
-    """`kind` is 0 for a <= row and 1 for an = row."""
+    """`kind` is a RowKind: 0 for a <= row and 1 for an = row."""
     coefs: list
     rhs: int
     kind: int
@@ -258,11 +272,15 @@ class Model:
         """The rows one after another.
 
         >>> next(Model([0, 1, 0, 1], [3, 2], [4]).rows())
-        Row(coefs=[3, 2], rhs=4, kind=0)
+        Row(coefs=[3, 2], rhs=4, kind=<RowKind.AT_MOST: 0>)
         """
         coefs = list(memoryview(self.coefs).cast("B").cast("i")) if self.m else []
         for i, (rhs, kind) in enumerate(zip(self.rhs, self.kinds)):
-            yield Row(coefs[i * self.n:(i + 1) * self.n], int(rhs), int(kind))
+            yield Row(coefs[i * self.n:(i + 1) * self.n], int(rhs), RowKind(kind))
+
+    def shared_rows(self):
+        """The rows, to be shared by many boxes without a copy."""
+        return Rows(self)
 
     def implies(self, k, v, j, w):
         """Whether "variable k is v" is recorded to imply "variable j is w"."""
@@ -351,7 +369,7 @@ class Model:
         told = Lent([0] * (2 * len(proposals)), "I")
         call_without_answer("check_allocations", *self._model(), *flat.pair, len(proposals), *told.pair)
         pairs = zip(told.owner[::2], told.owner[1::2])
-        return [(Verdict(True), Verdict(False, variable=i), Verdict(False, row=i))[case] for case, i in pairs]
+        return [(Verdict("inside"), Verdict("outside", variable=i), Verdict("breaks", row=i))[case] for case, i in pairs]
 
     def page_count(self):
         """The number of pages for the floor."""
@@ -359,7 +377,7 @@ class Model:
 
     def pages(self):
         """The bounds and what each variable implies at 1, as pages of 60 lines of ASCII text."""
-        pages = bytearray(4_860 * self.page_count())
+        pages = bytearray(PAGE * self.page_count())
         call_without_answer("write_pages", self.n, *self._bounds.pair, *self._table.pair, *Lent(pages, "B").pair)
         return bytes(pages)
 

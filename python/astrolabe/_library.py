@@ -48,7 +48,6 @@ _ARGUMENTS = {
     "book_trailer": _BUFFER + _ANSWER,
     "book_read": 5 * _BUFFER + _ANSWER,
     "book_write": _MODEL + _BUFFER,
-    # Of 02's requests, as their interface is fixed; a library before them is without, and is used all the same.
     "sparse_trailer": _BUFFER + _ANSWER,
     "sparse_read": 5 * _BUFFER + _ANSWER,
     "sparse_write": _MODEL + _BUFFER,
@@ -101,21 +100,38 @@ class Refusal(Exception):
 
 def _declared(library):
     for name, arguments in _ARGUMENTS.items():
-        function = getattr(library, "astrolabe_" + name, None)
-        if function is not None:
-            function.argtypes, function.restype = arguments, ctypes.c_uint32
+        function = getattr(library, "astrolabe_" + name)
+        function.argtypes, function.restype = arguments, ctypes.c_uint32
     return library
 
 
 _LIBRARY = _declared(_load())
 
 
+class _PyBuffer(ctypes.Structure):
+    """CPython's Py_buffer."""
+    _fields_ = [("buf", ctypes.c_void_p), ("obj", ctypes.c_void_p), ("len", ctypes.c_ssize_t), ("itemsize", ctypes.c_ssize_t),
+                ("readonly", ctypes.c_int), ("ndim", ctypes.c_int), ("format", ctypes.c_char_p), ("shape", ctypes.c_void_p),
+                ("strides", ctypes.c_void_p), ("suboffsets", ctypes.c_void_p), ("internal", ctypes.c_void_p)]
+
+
+class _Pointer(ctypes.c_void_p):
+    """Where a view's memory starts. It keeps the view, and with it the memory, as long as it is an argument itself."""
+
+    def __init__(self, view):
+        buffer = _PyBuffer()
+        ctypes.pythonapi.PyObject_GetBuffer(ctypes.py_object(view), ctypes.byref(buffer), 0)  # 0: PyBUF_SIMPLE
+        ctypes.pythonapi.PyBuffer_Release(ctypes.byref(buffer))
+        super().__init__(buffer.buf)
+        self.view = view
+
+
 class Lent:
     """A buffer of numbers of one size, lent as it is: the caller's memory is what the library reads and writes.
 
     `code` is array's: i for 32 bits with a sign, I without, H for 16, B for bytes. A list, a tuple or a range is put into an array
-    first. Whatever has the buffer protocol (array, bytearray, memoryview, numpy) is taken without copying, if its numbers
-    have that size and stand one after another. What cannot be written (bytes) is taken only where `written` is false.
+    first. Whatever has the buffer protocol (array, bytes, bytearray, memoryview, numpy) is taken without copying, if its
+    numbers have that size and stand one after another. What cannot be written (bytes) is taken only where `written` is false.
     """
 
     def __init__(self, source, code, written=True):
@@ -127,37 +143,27 @@ class Lent:
         self.length = view.nbytes // size
         if view.readonly and written:
             raise TypeError("this buffer cannot be written")
-        self.kept = self._kept(view)
-        if self.length and self._span()[0] % size:
+        self._pointer = _Pointer(view) if self.length else None
+        if self.length and self._pointer.value % size:
             raise TypeError(f"a buffer that does not start at a multiple of {size} bytes")
 
     @staticmethod
     def _formats(code):
         return {"i": ("i", "l"), "I": ("I", "L"), "H": ("H",), "B": ("B", "b", "?", "c")}[code]
 
-    def _kept(self, view):
-        """What ctypes passes as the pointer. It keeps the memory alive as long as it is an argument itself."""
-        if view.nbytes == 0:
-            return None
-        if not view.readonly:
-            return (ctypes.c_char * view.nbytes).from_buffer(self.owner)
-        whole = type(view.obj) is bytes and view.nbytes == len(view.obj)
-        return ctypes.c_char_p(view.obj if whole else bytes(view))
-
     def overlaps(self, other):
         if not self.length or not other.length:
             return False  # no memory at all
-        (mine, its), (mine_end, its_end) = zip(self._span(), other._span())
+        (mine, mine_end), (its, its_end) = self._span(), other._span()
         return mine < its_end and its < mine_end
 
     def _span(self):
-        start = ctypes.cast(self.kept, ctypes.c_void_p).value
-        return start, start + memoryview(self.owner).nbytes
+        return self._pointer.value, self._pointer.value + self._pointer.view.nbytes
 
     @property
     def pair(self):
         """Pointer and count, as two arguments of a call."""
-        return self.kept, self.length
+        return self._pointer, self.length
 
 
 def call(name, *arguments):

@@ -27,6 +27,16 @@ class Call(NamedTuple):
     def probe(cls, variable, budget):
         return cls(3, variable=variable, budget=budget)
 
+    @classmethod
+    def tighten_coefficient(cls, row, variable):
+        """Kind 4, which lists refuse by 18: make the call directly."""
+        return cls(4, row=row, variable=variable)
+
+    @classmethod
+    def remove_redundant_row(cls, row):
+        """Kind 5, which lists refuse by 18: make the call directly."""
+        return cls(5, row=row)
+
     @staticmethod
     def lent(calls):
         """The records as one list of numbers, four a record; a buffer of such numbers is taken as it is."""

@@ -15,6 +15,8 @@ from typing import NamedTuple
 from ._library import Lent, call
 from .calls import Call
 
+MAX_RECORDS = 1_000_000  # the most records of a list that is planned
+
 
 class Lengths(NamedTuple):
     """n and m of a book, and the length in elements of each buffer that they fix."""

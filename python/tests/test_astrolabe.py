@@ -7,18 +7,19 @@ from array import array
 from pathlib import Path
 
 import astrolabe
-from astrolabe import Call, Model, Refusal, Ties, _library, calls, plan, ties
+from astrolabe import Call, CircularTies, Clique, Model, Refusal, RowKind, Ties, Verdict, _library, calls, plan, shared, ties
 
 try:
     import numpy
 except ImportError:
     numpy = None
 
-HEADER = Path(__file__).resolve().parents[2] / "include" / "astrolabe.h"
+ROOT = Path(__file__).resolve().parents[2]
+HEADER = ROOT / "include" / "astrolabe.h"
 
 
 def load_tests(loader, tests, pattern):
-    for module in (astrolabe, calls, plan, ties):
+    for module in (astrolabe, calls, plan, shared, ties):
         tests.addTests(doctest.DocTestSuite(module, optionflags=doctest.IGNORE_EXCEPTION_DETAIL))
     return tests
 
@@ -50,6 +51,14 @@ class Buffers(unittest.TestCase):
             thread.join()
         self.assertEqual([list(box) for box in boxes], [[0, 1, 0, 1, 0, 0], [0, 0, 0, 0, 1, 1]])
 
+    def test_shared_rows_take_buffers_only(self):
+        rows = Model([0, 1] * 3, [2, 3, 4], [5]).shared_rows()
+        box, table = array("i", [0, 1, 0, 1, 1, 1]), bytearray(36)
+        self.assertEqual(rows.run(box, table, [Call.propagate(10)]).changed, 1)
+        self.assertEqual((rows.propagate_row(box, 0).ending, rows.is_probing_fixpoint(box).yes), ("unchanged", True))
+        with self.assertRaises(TypeError):
+            rows.propagate([0, 1] * 3, 10)
+
     def test_a_table_is_lent_and_reset(self):
         table = bytearray(16)
         model = Model([0, 1, 0, 1], [1, 1], [1], table=table)
@@ -72,8 +81,15 @@ class Buffers(unittest.TestCase):
 
     def test_a_book_is_read_from_whatever_holds_bytes(self):
         book = Model([0, 1, 0, 1], [3, 2], [4]).to_book()
-        for kept in (book, bytearray(book), memoryview(book), array("B", book)):
+        for kept in (book, bytearray(book), memoryview(book), array("B", book), memoryview(b"x" + book)[1:]):
             self.assertEqual(list(Model.from_book(kept).coefs), [3, 2])
+
+    def test_nothing_is_copied(self):
+        held = bytes(range(100))
+        whole = _library.Lent(held, "B", written=False)
+        part = _library.Lent(memoryview(held)[10:20], "B", written=False)
+        self.assertEqual((part.pair[0].value - whole.pair[0].value, part.length), (10, 10))
+        self.assertTrue(whole.overlaps(part))
 
     @unittest.skipUnless(numpy, "left out: numpy is not installed")
     def test_numpy_is_used_in_place(self):
@@ -123,7 +139,7 @@ class Refusals(unittest.TestCase):
 
 class Calls(unittest.TestCase):
     def test_an_equality_row(self):
-        model = Model([0, 1] * 3, [30, 25, 20], [45], [1])
+        model = Model([0, 1] * 3, [30, 25, 20], [45], [RowKind.EQUAL])
         self.assertEqual(model.probe(0, 1_000).value, 0)
         self.assertEqual(list(model.bounds), [0, 0, 1, 1, 1, 1])
 
@@ -135,7 +151,8 @@ class Calls(unittest.TestCase):
 
     def test_a_list_refuses_what_changes_rows(self):
         model = Model([0, 1, 0, 1], [3, 2], [4])
-        self.assertEqual(model.run([Call(4), Call(5), Call(9), Call.propagate(10)]), (3, 0, 0, 1))
+        retired = [Call.tighten_coefficient(0, 0), Call.remove_redundant_row(0)]
+        self.assertEqual(model.run([*retired, Call(9), Call.propagate(10)]), (3, 0, 0, 1))
         self.assertEqual(model.run(array("I", [2, 0, 0, 10])), (0, 0, 0, 1))
         self.assertEqual(model.run([]), (0, 0, 0, 0))
         self.assertEqual(check_of(lambda: model.run(array("I", [2, 0, 0]))), 5)
@@ -167,6 +184,7 @@ class Requests(unittest.TestCase):
         for variable in range(3):
             model.probe(variable, 1_000)
         self.assertEqual(model.cliques(), [([1, 1, 1], 1)])
+        self.assertEqual(Clique([1, 0, -1], 0).literals(), [(0, True), (2, False)])
 
     def test_ties(self):
         model = Model([0, 1] * 3, [1, -1, 0, 2, 3, 1], [0, 5], [1, 0])
@@ -175,13 +193,18 @@ class Requests(unittest.TestCase):
         self.assertEqual((model.tie(tied, 0, 1), list(model.coefs)), ("tied", [0, 0, 0, 5, 0, 1]))
         self.assertEqual((tied.literal(1), tied.expand([1, 0, 0])), ((0, True), [1, 1, 0]))
         self.assertEqual(model.tie(tied, 0, 1), "unchanged")
-        with self.assertRaises(ValueError):
-            Ties(array("H", [0, 6, 4])).expand([0, 0, 0])
+        with self.assertRaises(CircularTies) as circle:
+            Ties.from_places([0, 6, 4]).expand([0, 0, 0])
+        self.assertEqual(circle.exception.variable, 1)
+        self.assertEqual(check_of(lambda: Ties.from_places([0, 5])), 21)
+        stored = array("H", [6, 1, 0])
+        self.assertIs(Ties.from_places(stored).places, stored)
 
     def test_allocations(self):
         model = Model([0, 1, 0, 1], [3, 2], [4])
         verdicts = model.check_allocations([[1, 0], [0, 2], [1, 1]])
-        self.assertEqual(verdicts, [(True, None, None), (False, 1, None), (False, None, 0)])
+        self.assertEqual(verdicts, [Verdict("inside"), Verdict("outside", variable=1), Verdict("breaks", row=0)])
+        self.assertEqual([verdict.is_inside() for verdict in verdicts], [True, False, False])
         self.assertEqual(check_of(lambda: model.check_allocations([[0, 0]] * 65)), 22)
         self.assertEqual(check_of(lambda: model.check_allocations([[0]])), 5)
 
@@ -215,6 +238,36 @@ class Header(unittest.TestCase):
         text = HEADER.read_text(encoding="utf-8")
         for name, arguments in re.findall(r"^uint32_t astrolabe_(\w+)\((.*?)\);", text, re.M | re.S):
             self.assertEqual(arguments.count(",") + 1, len(_library._ARGUMENTS[name]), name)
+
+
+class Wrapper(unittest.TestCase):
+    """The module has the names of the Rust wrapper."""
+
+    # Rust's name, and what Python has in its place.
+    OTHERWISE = {
+        "new": "the class is called",
+        "with_kinds": "the class is called",
+        "bounds_mut": "the buffer is the caller's",
+        "table_mut": "the buffer is the caller's",
+        "Outcome": "the words infeasible, changed, unchanged",
+        "Tie": "the words tied, unchanged",
+    }
+
+    @unittest.skipUnless((ROOT / "rust/src").exists(), "left out: the wrapper is not beside this folder")
+    def test_every_public_name_is_there(self):
+        texts = [path.read_text(encoding="utf-8") for path in (ROOT / "rust/src").glob("*.rs") if path.name != "ffi.rs"]
+        item = r"^ *pub (?:const fn|fn|const|struct|enum) (\w+)"
+        names = {name for text in texts for name in re.findall(item, text, re.M)} - set(self.OTHERWISE)
+        owners = [astrolabe, plan, Model, Call, Ties, Refusal, Verdict, Clique, Refusal(1), Ties(1), Model([0, 1], [], [])]
+        missing = {name for name in names if not any(hasattr(owner, name) for owner in owners)}
+        self.assertEqual(missing, set())
+
+    @unittest.skipUnless((ROOT / "rust/src").exists(), "left out: the wrapper is not beside this folder")
+    def test_refusals_have_the_same_names(self):
+        text = (ROOT / "rust/src/refusal.rs").read_text(encoding="utf-8")
+        body = re.search(r"pub enum Refusal \{(.*?)^\}", text, re.M | re.S)[1]
+        rust = set(re.findall(r"^    (\w+)(?: = \d+)?,", body, re.M))
+        self.assertEqual(rust - {name for name, _ in _library._REASONS.values()}, set())
 
 
 if __name__ == "__main__":
