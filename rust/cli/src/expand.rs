@@ -168,6 +168,8 @@ mod tests {
     fn a_solution_gets_what_was_put_away() {
         assert_eq!(expanded("# a comment\nx 1.0\nz 7\n").unwrap(), "x 1\nz 0\ny 1\n");
         assert_eq!(expanded("y,x\n5,0\n5,1\n").unwrap(), "y,x,z\n0,0,1\n1,1,0\n");
+        let of_cbc = "Optimal - objective value 7.50000000\n      0 x                      1                     7.5\n";
+        assert_eq!(expanded(of_cbc).unwrap(), "x 1\nz 0\ny 1\n");
     }
 
     #[test]
