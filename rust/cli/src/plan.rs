@@ -63,10 +63,9 @@ fn lengths(model: &Model) -> Result<Lengths, Failure> {
     plan::lengths(&book[book.len() - 16..]).map_err(refused)
 }
 
-fn plan_of(model: &Model, calls: Option<&[Call]>) -> Result<Report, Failure> {
-    let l = lengths(model)?;
-    let width = plan::width(model.bounds()).map_err(refused)?;
-    let elements = [
+/// Each buffer with its length in elements.
+fn elements(l: &Lengths) -> [(&'static str, usize); 9] {
+    [
         ("bounds", l.bounds),
         ("coefs", l.coefs),
         ("rhs", l.rhs),
@@ -76,7 +75,13 @@ fn plan_of(model: &Model, calls: Option<&[Call]>) -> Result<Report, Failure> {
         ("clique_coefs", l.clique_coefs),
         ("clique_rhs", l.clique_rhs),
         ("book", l.book),
-    ];
+    ]
+}
+
+fn plan_of(model: &Model, calls: Option<&[Call]>) -> Result<Report, Failure> {
+    let l = lengths(model)?;
+    let width = plan::width(model.bounds()).map_err(refused)?;
+    let elements = elements(&l);
     let listed =
         elements.map(|(name, length)| format!("{name} {}", grouped(length as i64))).join(", ");
     let (total, budget) = (grouped(width.width.into()), grouped(width.budget.into()));

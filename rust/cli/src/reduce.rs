@@ -129,6 +129,16 @@ fn removed_rows(raw: &Model, reduced: &Model) -> usize {
         .count()
 }
 
+/// What changed: for machines, for people, how many.
+fn counts(raw: &Model, reduced: &Model) -> [(&'static str, &'static str, usize); 4] {
+    [
+        ("bounds", "bound", differing(raw.bounds(), reduced.bounds())),
+        ("rows_removed", "row", removed_rows(raw, reduced)),
+        ("coefficients", "coefficient", differing(raw.coefs(), reduced.coefs())),
+        ("implications", "implication", reduced.table().iter().filter(|&&byte| byte == 1).count()),
+    ]
+}
+
 fn report(
     raw: &Model,
     reduced: &Model,
@@ -140,18 +150,9 @@ fn report(
         Rounds::LimitReached { rounds, .. } => (rounds, true),
         Rounds::Unchanged { rounds, .. } | Rounds::Infeasible { rounds, .. } => (rounds, false),
     };
-    let counts = [
-        ("bounds", differing(raw.bounds(), reduced.bounds())),
-        ("rows_removed", removed_rows(raw, reduced)),
-        ("coefficients", differing(raw.coefs(), reduced.coefs())),
-        ("implications", reduced.table().iter().filter(|&&byte| byte == 1).count()),
-    ];
-    let [bounds, removed, coefficients, implications] = [
-        counted(counts[0].1, "bound"),
-        counted(counts[1].1, "row"),
-        counted(counts[2].1, "coefficient"),
-        counted(counts[3].1, "implication"),
-    ];
+    let counts = counts(raw, reduced);
+    let [bounds, removed, coefficients, implications] =
+        counts.map(|(_, noun, count)| counted(count, noun));
     let text = format!(
         "{}, {}; {}{}: {bounds} and {coefficients} changed, {removed} removed, {implications}{} -> {}",
         counted(raw.n(), "variable"),
@@ -169,7 +170,7 @@ fn report(
         ("rounds", Json::count(rounds as usize)),
         ("limit_reached", Json::Truth(more)),
     ];
-    fields.extend(counts.map(|(name, count)| (name, Json::count(count))));
+    fields.extend(counts.map(|(name, _, count)| (name, Json::count(count))));
     fields.extend(tied.map(|count| ("tied", Json::count(count))));
     Report::done(text, fields)
 }

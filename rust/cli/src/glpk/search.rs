@@ -50,25 +50,9 @@ impl Problem {
             infeasible: 0,
             refused: None,
         };
-        let guard = listen();
         let start = Instant::now();
-        // SAFETY: the problem is ours and has the row; the callback gets the state, which outlives the call, and GLPK
-        // is this thread's until then.
-        let (failed, relaxation) = unsafe {
-            ffi::glp_set_row_bnds(problem.prob, last_row, ffi::LO, 0.0, 0.0);
-            let failed = ffi::astrolabe_cli_simplex(problem.prob);
-            let solved = failed == 0 && ffi::glp_get_status(problem.prob) == ffi::OPT;
-            let relaxation = solved.then(|| ffi::glp_get_obj_val(problem.prob));
-            let info: *mut AtNode = &mut state;
-            let failed = if solved {
-                ffi::astrolabe_cli_intopt(problem.prob, at_node, info.cast())
-            } else {
-                failed
-            };
-            (failed, relaxation)
-        };
+        let (failed, relaxation) = problem.branch_and_cut(&mut state);
         let time = start.elapsed();
-        drop(guard);
         if let Some(refusal) = state.refused {
             return Err(crate::explain::refused(refusal));
         }
@@ -78,6 +62,23 @@ impl Problem {
         let point = relaxation.and_then(|_| problem.best_point(n));
         let AtNode { nodes, propagated, infeasible, .. } = state;
         Ok(Search { relaxation, point, nodes, propagated, infeasible, time })
+    }
+
+    /// The linear relaxation, then the search: the number that GLPK fails with, 0 where it does not, and the relaxation's value.
+    fn branch_and_cut(&mut self, state: &mut AtNode) -> (c_int, Option<f64>) {
+        let _guard = listen();
+        // SAFETY: the problem is ours and has the row; the callback gets the state, which outlives the call, and GLPK
+        // is this thread's until then.
+        unsafe {
+            ffi::glp_set_row_bnds(self.prob, state.last_row, ffi::LO, 0.0, 0.0);
+            let failed = ffi::astrolabe_cli_simplex(self.prob);
+            if failed != 0 || ffi::glp_get_status(self.prob) != ffi::OPT {
+                return (failed, None);
+            }
+            let relaxation = ffi::glp_get_obj_val(self.prob);
+            let info: *mut AtNode = state;
+            (ffi::astrolabe_cli_intopt(self.prob, at_node, info.cast()), Some(relaxation))
+        }
     }
 
     fn best_point(&self, n: usize) -> Option<Vec<f64>> {
