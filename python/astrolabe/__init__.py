@@ -364,10 +364,19 @@ class Model:
         return (None, "tied", "unchanged")[call("tie", *self._model(), *self._table.pair, *places.pair, k, j)[0]]
 
     def check_allocations(self, proposals):
-        """Holds up to 64 proposals, each a number for each variable, against the model."""
-        flat = Lent([number for proposal in proposals for number in proposal], "i", written=False)
-        told = Lent([0] * (2 * len(proposals)), "I")
-        call_without_answer("check_allocations", *self._model(), *flat.pair, len(proposals), *told.pair)
+        """Holds up to 64 proposals, each a number for each variable, against the model. They come as a list of proposals, or one
+        after another in a buffer of 32-bit numbers, which is used in place.
+
+        >>> model = Model([0, 1, 0, 1], [3, 2], [4])
+        >>> [verdict.ending for verdict in model.check_allocations([[1, 0], [0, 2], [1, 1]])]
+        ['inside', 'outside', 'breaks']
+        """
+        count = len(proposals) if isinstance(proposals, (list, tuple)) else None
+        numbers = proposals if count is None else [number for proposal in proposals for number in proposal]
+        flat = Lent(numbers, "i", written=False)
+        count = flat.length // self.n if count is None else count
+        told = Lent([0] * (2 * count), "I")
+        call_without_answer("check_allocations", *self._model(), *flat.pair, count, *told.pair)
         pairs = zip(told.owner[::2], told.owner[1::2])
         return [(Verdict("inside"), Verdict("outside", variable=i), Verdict("breaks", row=i))[case] for case, i in pairs]
 

@@ -205,6 +205,8 @@ class Requests(unittest.TestCase):
         verdicts = model.check_allocations([[1, 0], [0, 2], [1, 1]])
         self.assertEqual(verdicts, [Verdict("inside"), Verdict("outside", variable=1), Verdict("breaks", row=0)])
         self.assertEqual([verdict.is_inside() for verdict in verdicts], [True, False, False])
+        self.assertEqual(model.check_allocations(array("i", [1, 0, 0, 2, 1, 1])), verdicts)
+        self.assertEqual(check_of(lambda: model.check_allocations(array("i", [1, 0, 0]))), 5)
         self.assertEqual(check_of(lambda: model.check_allocations([[0, 0]] * 65)), 22)
         self.assertEqual(check_of(lambda: model.check_allocations([[0]])), 5)
 

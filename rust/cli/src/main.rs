@@ -28,6 +28,7 @@ mod reduce;
 mod report;
 mod solve;
 mod source;
+mod sparse;
 mod tied;
 
 use command::{Command, print_line};

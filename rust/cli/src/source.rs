@@ -4,7 +4,8 @@ use crate::explain::{Names, Numbers};
 use crate::failure::Failure;
 use crate::files;
 use crate::format::Format;
-use astrolabe::{Model, Refusal, RowKind, book_size};
+use crate::sparse;
+use astrolabe::{Model, Refusal, RowKind, book_size, sparse_size};
 use std::path::Path;
 
 #[cfg(glpk)]
@@ -38,7 +39,12 @@ impl Source {
     }
 
     fn of_sparse_book(book: &[u8]) -> Result<Self, Failure> {
-        let model = Model::from_sparse_book(book).map_err(|refusal| of_any_book(book, refusal))?;
+        let (n, m) = sparse_size(last_bytes(book)).unwrap_or((0, 0));
+        let names = Names::numbered(n, m);
+        let model = Model::from_sparse_book(book).map_err(|refusal| match refusal.check() {
+            1..=4 => of_any_book(book, refusal),
+            _ => sparse::explain(book, refusal, &names),
+        })?;
         Ok(Source::numbered(model))
     }
 
@@ -140,9 +146,8 @@ impl Source {
 
 /// The layout was accepted where a number is at fault, so the numbers can be read.
 fn of_book_refused(book: &[u8], refusal: Refusal, names: &Names) -> Failure {
-    let refused = of_any_book(book, refusal);
     match refusal.check() {
-        1..=4 => refused,
+        1..=4 => of_any_book(book, refusal),
         _ => Numbers::of_book(book, names.columns.len(), names.rows.len()).explain(refusal, names),
     }
 }
