@@ -563,6 +563,77 @@ mod with_glpk {
         assert!(status == 3 && error.contains("b.lp.ties is there, of an earlier file"), "{error}");
     }
 
+    /// Numbers that are the same in every run.
+    struct Numbers(u64);
+
+    impl Numbers {
+        fn below(&mut self, limit: u64) -> u64 {
+            self.0 = self.0.wrapping_mul(6_364_136_223_846_793_005).wrapping_add(1);
+            (self.0 >> 33) % limit
+        }
+    }
+
+    /// Six 0-1 variables, of which some are equal or opposite, costs in decimals, and rows.
+    fn tied_lp(numbers: &mut Numbers) -> String {
+        let mut text = "Minimize\n cost:".to_string();
+        for k in 0..6 {
+            let cost = [-2.5, -1.0, 0.0, 0.0, 0.1, 0.2, 1.0, 3.75][numbers.below(8) as usize];
+            text += &format!(" {cost:+} x{k}");
+        }
+        text += "\nSubject To\n";
+        for _ in 0..2 {
+            let k = numbers.below(5);
+            let pair = ["- x0 = 0", "+ x0 = 1"][numbers.below(2) as usize];
+            text += &format!(
+                " x{} {}\n",
+                k + 1,
+                pair.replace("x0", &format!("x{}", numbers.below(k + 1)))
+            );
+        }
+        for _ in 0..2 {
+            let term = |k| format!(" {:+} x{k}", numbers.below(11) as i64 - 3);
+            let sum: String = (0..6).map(term).collect();
+            text += &format!("{sum} >= {}\n", numbers.below(8));
+        }
+        text + "Binaries\n x0 x1 x2 x3 x4 x5\nEnd\n"
+    }
+
+    #[test]
+    fn ties_of_generated_models_leave_the_optimum() {
+        let folder = Folder::new("generated");
+        let (mut numbers, mut tied, mut solved) = (Numbers(31), 0, 0);
+        let optimum =
+            |told: &str| told.split(',').next().unwrap().split_once(": ").unwrap().1.to_string();
+        for _ in 0..60 {
+            folder.put("a.lp", tied_lp(&mut numbers).as_bytes());
+            let (status, raw, _) = folder.run("solve a.lp");
+            let reduced = folder.run("reduce a.lp -o b.mps --ties");
+            if (status, reduced.0) == (0, 0) {
+                tied += usize::from(!reduced.1.contains(" 0 variables tied"));
+                solved += 1;
+                assert_eq!(optimum(&folder.run("solve b.mps -o b.sol").1), optimum(&raw));
+                assert_eq!(folder.run("expand b.mps.ties b.sol -o raw.sol").0, 0);
+                assert_eq!(folder.run("check a.lp raw.sol").1, "raw.sol:1: inside\n");
+            } else {
+                assert_eq!((status, reduced.0), (1, 1), "{raw} {reduced:?}");
+            }
+        }
+        assert!(tied > 20 && solved < 60, "{tied} of {solved}");
+    }
+
+    #[test]
+    fn a_model_whose_rows_all_go_is_written() {
+        let folder = Folder::new("norows");
+        let text = "Minimize\n cost: - x + 2 y\nSubject To\n r: x - y = 0\n s: x + y <= 7\nBinaries\n x y\nEnd\n";
+        folder.put("a.lp", text.as_bytes());
+        for file in ["b.lp", "b.mps", "b.sparse", "b.book"] {
+            let (status, told, error) = folder.run(&format!("reduce a.lp -o {file} --ties"));
+            assert!(status == 0 && told.contains("2 rows removed"), "{file}: {told} {error}");
+            let (status, told, error) = folder.run(&format!("solve {file}"));
+            assert!(status == 0 && told.contains("minimum 0,"), "{file}: {told} {error}");
+        }
+    }
+
     #[test]
     fn a_constant_in_the_objective_is_carried_along() {
         let folder = Folder::new("constant");

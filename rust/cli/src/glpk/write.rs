@@ -6,7 +6,7 @@ use super::{
 use crate::failure::Failure;
 use crate::files;
 use crate::format::Format;
-use crate::linear::{Column, Linear};
+use crate::linear::{Column, Linear, Side, Written};
 use std::collections::BTreeMap;
 use std::ffi::c_int;
 use std::path::Path;
@@ -15,13 +15,14 @@ use std::ptr;
 impl Problem {
     /// The bytes of the file. It is read back and compared: a number or a name that the format cannot hold is an error.
     pub fn bytes(&self, format: Format) -> Result<Vec<u8>, Failure> {
-        if format == Format::Lp && self.linear().rows.iter().any(is_range) {
-            return self.without_ranges().bytes_of(format);
+        let mut problem = self.clone();
+        if format == Format::Lp {
+            problem.part_ranges();
+            problem.have_a_row();
+        } else {
+            problem.name_objective();
         }
-        if format == Format::Mps {
-            return self.with_named_objective().bytes_of(format);
-        }
-        self.bytes_of(format)
+        problem.bytes_of(format)
     }
 
     fn bytes_of(&self, format: Format) -> Result<Vec<u8>, Failure> {
@@ -72,35 +73,38 @@ impl Problem {
     }
 
     /// Each range as two rows, with the same numbers: LP has no ranges (GLPK would add a column for each).
-    fn without_ranges(&self) -> Self {
-        let mut problem = self.clone();
+    fn part_ranges(&mut self) {
         let linear = self.linear();
         for (row, line) in linear.rows.iter().enumerate().filter(|(_, line)| is_range(line)) {
-            let more = problem.add_row(&unused_name(&linear, &line.name));
-            problem.set_entries(more, line.entries.iter().copied());
+            let more = self.add_row(&unused_name(&linear, &line.name));
+            self.set_entries(more, line.entries.iter().copied());
             let _guard = listen();
             // SAFETY: the problem is ours and has both rows.
             unsafe {
-                ffi::glp_set_row_bnds(problem.prob, place(row), ffi::UP, 0.0, line.upper);
-                ffi::glp_set_row_bnds(problem.prob, place(more), ffi::LO, line.lower, 0.0);
+                ffi::glp_set_row_bnds(self.prob, place(row), ffi::UP, 0.0, line.upper);
+                ffi::glp_set_row_bnds(self.prob, place(more), ffi::LO, line.lower, 0.0);
             }
         }
-        problem
+    }
+
+    /// An LP file has at least one row: where all were removed, 0 ≤ 0.
+    fn have_a_row(&mut self) {
+        if self.linear().rows.is_empty() {
+            let row = self.add_row("no_row");
+            self.set_row(row, &Written { side: Side::AtMost, coefs: vec![], bound: 0 });
+        }
     }
 
     /// The objective as a row that says nothing but its name, which GLPK then writes in the place of R0000000; not where there
     /// is such a row already, nor where the objective has a constant term, which only GLPK's own row keeps.
-    fn with_named_objective(&self) -> Self {
-        let mut problem = self.clone();
+    fn name_objective(&mut self) {
         let linear = self.linear();
         let name = self.objective_name();
         let taken = linear.rows.iter().any(|line| says_nothing(line) || line.name == name);
-        if taken || linear.objective[0] != 0.0 {
-            return problem;
+        if !taken && linear.objective[0] == 0.0 {
+            let row = self.add_row(&name); // free, as every new row
+            self.set_entries(row, linear.objective[1..].iter().copied().enumerate());
         }
-        let row = problem.add_row(&name); // free, as every new row
-        problem.set_entries(row, linear.objective[1..].iter().copied().enumerate());
-        problem
     }
 
     fn objective_name(&self) -> String {
