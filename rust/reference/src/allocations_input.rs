@@ -6,8 +6,8 @@ use crate::book;
 use crate::checks;
 use crate::row::Rows;
 
-/// The longest book, a count, and 64 proposals of 128 numbers.
-const LONGEST: usize = 62_960 + 4 + 64 * 128 * 4;
+/// The longest book, a count, and 64 proposals of 128 numbers: what is longer is refused by 2, however it goes on.
+pub const LONGEST: usize = 62_960 + 4 + 64 * 128 * 4;
 
 /// A line for each proposal, or `refused N`.
 pub fn lines(input: &[u8]) -> String {
