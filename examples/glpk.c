@@ -44,6 +44,14 @@ static void stop(const char *what)
     exit(3);
 }
 
+static void stop_refused(uint32_t refused)
+{
+    if (refused) {
+        fprintf(stderr, "glpk: refused %u\n", (unsigned)refused);
+        exit(2);
+    }
+}
+
 /* A whole number of 32 bits, or the end of the program. The library has its own limits, which are narrower. */
 static int32_t whole(double value)
 {
@@ -98,10 +106,7 @@ static int reduce(Model *model)
     uint32_t refused = astrolabe_rounds(n, m, model->bounds, 2 * n, model->coefs, m * n, model->rhs, m,
                                         model->kinds, m, model->table, 4 * n * n, ROUNDS,
                                         answer, ASTROLABE_ANSWER_LEN);
-    if (refused) {
-        fprintf(stderr, "glpk: refused %u\n", (unsigned)refused);
-        exit(2);
-    }
+    stop_refused(refused);
     return answer[0] != ASTROLABE_ROUNDS_INFEASIBLE;
 }
 
@@ -140,28 +145,35 @@ static glp_prob *with_model(glp_prob *raw, const Model *model)
 }
 
 /*
- * Propagates the node's box and hands the narrower bounds back to GLPK. The rows are lent as they are at every node; the
- * prepared call (issue 30), which keeps what is known of the rows from node to node, takes this call's place.
+ * All that the library does at a node: it narrows the box. Whether there can be an integer point; moved says whether a bound
+ * did. The rows are lent as they are at every node; a prepared model (issue 30), which keeps what is known of the rows from
+ * node to node, is to take the place of this one call.
  */
+static int narrow(const Model *model, int32_t *box, int *moved)
+{
+    uint64_t answer[ASTROLABE_ANSWER_LEN];
+    size_t n = model->n, m = model->m;
+    uint32_t refused = astrolabe_propagate(n, m, box, 2 * n, model->coefs, m * n, model->rhs, m,
+                                           model->kinds, m, BUDGET, answer, ASTROLABE_ANSWER_LEN);
+    stop_refused(refused);
+    *moved = answer[2] > 0;
+    return answer[0] != ASTROLABE_PROPAGATE_INFEASIBLE;
+}
+
+/* Propagates the node's box and hands the narrower bounds back to GLPK. */
 static void propagate(const Model *model, glp_prob *problem, Search *search)
 {
     int32_t box[2 * MAX_N];
-    uint64_t answer[ASTROLABE_ANSWER_LEN];
-    size_t n = model->n, m = model->m;
+    int moved;
+    size_t n = model->n;
     for (size_t j = 0; j < n; j++) { /* whole: GLPK branches between whole numbers */
         box[2 * j] = (int32_t)glp_get_col_lb(problem, (int)j + 1);
         box[2 * j + 1] = (int32_t)glp_get_col_ub(problem, (int)j + 1);
     }
-    uint32_t refused = astrolabe_propagate(n, m, box, 2 * n, model->coefs, m * n, model->rhs, m,
-                                           model->kinds, m, BUDGET, answer, ASTROLABE_ANSWER_LEN);
-    if (refused) {
-        fprintf(stderr, "glpk: refused %u\n", (unsigned)refused);
-        exit(2);
-    }
-    if (answer[0] == ASTROLABE_PROPAGATE_INFEASIBLE) {
+    if (!narrow(model, box, &moved)) {
         search->infeasible++;
         glp_set_row_bnds(problem, search->last_row, GLP_LO, 1, 0);
-    } else if (answer[2] > 0) { /* bounds moved */
+    } else if (moved) {
         for (size_t j = 0; j < n; j++)
             set_bounds(problem, (int)j + 1, box[2 * j], box[2 * j + 1]);
     }

@@ -7,9 +7,10 @@ use crate::failure::{Failure, NONE};
 use crate::files;
 use crate::format::Format;
 use crate::json::Json;
+use crate::linear::Side;
 use crate::report::Report;
 use crate::source::Source;
-use astrolabe::{MAX_PROPOSALS, Model, RowKind, Verdict};
+use astrolabe::{MAX_PROPOSALS, Model, Verdict};
 use std::path::{Path, PathBuf};
 
 pub const COMMAND: Command = Command {
@@ -128,7 +129,7 @@ fn report(source: &Source, values: &[i32], verdict: Verdict) -> Report {
         }
         Verdict::Breaks { row } => {
             let name = &source.names.rows[row];
-            let text = breaks(&source.model, name, row, values);
+            let text = breaks(source, name, row, values);
             let fields =
                 vec![result("breaks"), ("row", Json::text(name)), ("number", Json::count(row))];
             Report { status: NONE, text, fields }
@@ -146,10 +147,16 @@ fn outside(model: &Model, name: &str, variable: usize, value: i32) -> String {
     format!("outside: {name} is {value}, from {lower} to {upper}")
 }
 
-/// The sum is of the row as the library has it: a row that says at least stands there with every sign turned.
-fn breaks(model: &Model, name: &str, row: usize, values: &[i32]) -> String {
-    let row = model.rows().nth(row).expect("a row of the model");
+/// The sum and the right-hand side are told as the file has the row.
+fn breaks(source: &Source, name: &str, row: usize, values: &[i32]) -> String {
+    let origin = source.origins[row];
+    let row = source.model.rows().nth(row).expect("a row of the model");
     let sum: i64 = row.coefs.iter().zip(values).map(|(&a, &x)| i64::from(a) * i64::from(x)).sum();
-    let word = if row.kind == RowKind::Equal { "must be" } else { "at most" };
-    format!("breaks row {name}: its sum is {}, {word} {}", grouped(sum), grouped(row.rhs.into()))
+    let word = match origin.side {
+        Side::AtMost => "at most",
+        Side::AtLeast => "at least",
+        Side::Equal => "must be",
+    };
+    let (sum, rhs) = (origin.told(sum), origin.told(row.rhs.into()));
+    format!("breaks row {name}: its sum is {sum}, {word} {rhs}")
 }

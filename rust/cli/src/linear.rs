@@ -43,11 +43,30 @@ pub enum Side {
     Equal,
 }
 
-/// Where a row of the model comes from: the row of the file and its side.
+/// Where a row of the model comes from: the row of the file, its side, and the power of ten that made it whole.
 #[derive(Clone, Copy, Debug, PartialEq, Eq)]
 pub struct Origin {
     pub row: usize,
     pub side: Side,
+    pub power: i64,
+}
+
+impl Origin {
+    /// Of the rows of a model that came from no file with sides and fractions.
+    pub fn of_rows(model: &Model) -> Vec<Self> {
+        let side = |kind| if kind == RowKind::Equal { Side::Equal } else { Side::AtMost };
+        let rows = model.kinds().iter().enumerate();
+        rows.map(|(row, &kind)| Origin { row, side: side(kind), power: 1 }).collect()
+    }
+
+    /// A number of the model's row as the row of the file has it.
+    pub fn told(&self, number: i64) -> String {
+        let number = if self.side == Side::AtLeast { -number } else { number };
+        match self.power {
+            1 => grouped(number),
+            power => (number as f64 / power as f64).to_string(),
+        }
+    }
 }
 
 /// A model with its names, and where its rows come from.
@@ -154,7 +173,7 @@ impl Rows {
             1 => line.name.clone(),
             power => format!("{} (times {} to be whole)", line.name, grouped(power)),
         });
-        self.origins.push(Origin { row, side });
+        self.origins.push(Origin { row, side, power });
         Ok(())
     }
 }
@@ -259,6 +278,13 @@ mod tests {
         assert_eq!(model.rhs(), [4, -10, 3, 2, -1]);
         assert_eq!(names.rows, ["most", "least", "equal", "range", "range"]);
         assert_eq!(origins.iter().map(|origin| origin.row).collect::<Vec<_>>(), [0, 1, 3, 4, 4]);
+    }
+
+    #[test]
+    fn a_number_is_told_as_the_file_has_it() {
+        let told = |side, power, number| Origin { row: 0, side, power }.told(number);
+        assert_eq!(told(Side::AtMost, 1, 5_000), "5,000");
+        assert_eq!(told(Side::AtLeast, 10, -7), "0.7");
     }
 
     #[test]

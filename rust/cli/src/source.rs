@@ -4,6 +4,7 @@ use crate::explain::{Names, Numbers};
 use crate::failure::Failure;
 use crate::files;
 use crate::format::Format;
+use crate::linear::Origin;
 use crate::sparse;
 use astrolabe::{Model, Refusal, RowKind, book_size, sparse_size};
 use std::path::Path;
@@ -11,14 +12,16 @@ use std::path::Path;
 #[cfg(glpk)]
 use crate::glpk::Problem;
 #[cfg(glpk)]
-use crate::linear::{self, Origin, Placed};
+use crate::linear::{self, Placed};
 
 pub struct Source {
     pub model: Model,
     pub names: Names,
-    /// Of MPS and LP: the problem as it was read, and where the model's rows are in it.
+    /// Where the model's rows are in the file.
+    pub origins: Vec<Origin>,
+    /// Of MPS and LP: the problem as it was read.
     #[cfg(glpk)]
-    pub problem: Option<(Problem, Vec<Origin>)>,
+    pub problem: Option<Problem>,
 }
 
 impl Source {
@@ -51,9 +54,11 @@ impl Source {
     /// A model from a book, which has no names.
     fn numbered(model: Model) -> Self {
         let names = Names::numbered(model.n(), model.m());
+        let origins = Origin::of_rows(&model);
         Source {
             model,
             names,
+            origins,
             #[cfg(glpk)]
             problem: None,
         }
@@ -72,7 +77,7 @@ impl Source {
             Problem::read(path, format)?
         };
         let Placed { model, names, origins } = linear::place(&problem.linear())?;
-        Ok(Source { model, names, problem: Some((problem, origins)) })
+        Ok(Source { model, names, origins, problem: Some(problem) })
     }
 
     #[cfg(not(glpk))]
@@ -83,7 +88,7 @@ impl Source {
     /// The objective: the constant term and a coefficient for each column, all 0 of a book.
     pub fn objective(&self) -> Vec<f64> {
         #[cfg(glpk)]
-        if let Some((problem, _)) = &self.problem {
+        if let Some(problem) = &self.problem {
             return problem.linear().objective;
         }
         vec![0.0; 1 + self.model.n()]
@@ -122,7 +127,7 @@ impl Source {
     #[cfg(glpk)]
     pub fn problem_of(&self, reduced: &Model) -> Problem {
         match &self.problem {
-            Some((problem, origins)) => problem.reduced(&self.model, reduced, origins),
+            Some(problem) => problem.reduced(&self.model, reduced, &self.origins),
             None => Problem::of_model(reduced, &self.names.columns, &self.names.rows),
         }
     }

@@ -622,6 +622,22 @@ mod with_glpk {
     }
 
     #[test]
+    fn a_broken_row_is_told_as_the_file_has_it() {
+        let folder = Folder::new("broken");
+        let rows = "least: 0.6 x + 0.5 y >= 0.7\n span: x + y <= 1\n exact: x - z = 0";
+        let text = format!("Minimize\n cost: x\nSubject To\n {rows}\nBinaries\n x y z\nEnd\n");
+        folder.put("a.lp", text.as_bytes());
+        folder.put("p.csv", b"x,y,z\n1,0,0\n0,1,0\n1,1,1\n");
+        let (status, told, _) = folder.run("check a.lp p.csv");
+        let lines = [
+            "p.csv:2: breaks row least: its sum is 0.6, at least 0.7",
+            "p.csv:3: breaks row least: its sum is 0.5, at least 0.7",
+            "p.csv:4: breaks row span: its sum is 2, at most 1",
+        ];
+        assert_eq!((status, told.lines().collect::<Vec<_>>()), (1, lines.to_vec()));
+    }
+
+    #[test]
     fn a_model_whose_rows_all_go_is_written() {
         let folder = Folder::new("norows");
         let text = "Minimize\n cost: - x + 2 y\nSubject To\n r: x - y = 0\n s: x + y <= 7\nBinaries\n x y\nEnd\n";

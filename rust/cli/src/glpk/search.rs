@@ -105,9 +105,14 @@ extern "C" fn at_node(tree: *mut ffi::Tree, info: *mut c_void) {
     }
 }
 
+/// All that the library does at a node: it narrows the box. The rows are lent as they are at every node; a prepared model
+/// (issue 30), which keeps what is known of the rows from node to node, is to take their place in this one call.
+fn narrow(rows: Rows, bounds: &mut [i32]) -> Result<Propagation, Refusal> {
+    rows.propagate(bounds, BUDGET)
+}
+
 impl AtNode<'_> {
-    /// Propagates the node's box and hands the narrower bounds back. (Issue 30's prepared model takes the place of the rows
-    /// here: it keeps what is known of them from node to node.)
+    /// Propagates the node's box and hands the narrower bounds back.
     ///
     /// # Safety
     /// The problem is the node's, and has the columns of the box and the last row.
@@ -124,7 +129,7 @@ impl AtNode<'_> {
         }
         let before = self.bounds.clone();
         self.propagated += 1;
-        match rows.propagate(&mut self.bounds, BUDGET) {
+        match narrow(rows, &mut self.bounds) {
             Err(refusal) => self.refused = Some(refusal),
             Ok(Propagation::Infeasible { .. }) => {
                 self.infeasible += 1;
