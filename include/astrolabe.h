@@ -24,6 +24,7 @@
  *                                 of the literal that holds just when variable j
  *                                 is 1. Start it with all 0
  *     calls    uint32_t   4 each  call records: kind, row, variable, budget       any
+ *     classes  uint8_t    1 each  what each record did: ASTROLABE_CLASS_..        0 .. 3
  *     proposals int32_t   n each  proposed allocations, one after the other       any
  *     verdicts uint32_t   2 each  what each proposal gets, see "Proposed
  *                                 allocations" below
@@ -395,6 +396,32 @@ uint32_t astrolabe_run(size_t n, size_t m,
                        uint8_t *table, size_t table_len,
                        const uint32_t *calls, size_t calls_len,
                        uint64_t *answer, size_t answer_len);
+
+/* Classes of the records of a list, in `classes`. Each is the place of its count in the answer. */
+#define ASTROLABE_CLASS_REFUSED 0    /* refused; it changed nothing */
+#define ASTROLABE_CLASS_INFEASIBLE 1 /* answered infeasible (01's None) */
+#define ASTROLABE_CLASS_CHANGED 2    /* changed a bound or a table byte */
+#define ASTROLABE_CLASS_UNCHANGED 3  /* changed nothing */
+
+/*
+ * Makes the calls of a list as astrolabe_run does, and also says what each record did: classes[i] is the
+ * class of record i, ASTROLABE_CLASS_... `classes_len` is calls_len / 4.
+ *
+ *     bounds, table   written   as the calls do
+ *     classes         written   a byte a record
+ *     answer[0..3]    as in astrolabe_run: answer[c] is how often class c occurs
+ *
+ * Refused as astrolabe_run is; a classes_len that is not the number of records is 5.
+ */
+uint32_t astrolabe_run_classes(size_t n, size_t m,
+                               int32_t *bounds, size_t bounds_len,
+                               const int32_t *coefs, size_t coefs_len,
+                               const int32_t *rhs, size_t rhs_len,
+                               const uint8_t *kinds, size_t kinds_len,
+                               uint8_t *table, size_t table_len,
+                               const uint32_t *calls, size_t calls_len,
+                               uint8_t *classes, size_t classes_len,
+                               uint64_t *answer, size_t answer_len);
 
 /* Cases of astrolabe_rounds, answer[0]. */
 #define ASTROLABE_ROUNDS_INFEASIBLE 0    /* 01's None: the box is empty now */

@@ -34,7 +34,7 @@ from .calls import Call
 from .shared import Rows
 from .ties import CircularTies, Ties
 
-__all__ = ["Call", "CircularTies", "Clique", "Counts", "Model", "Probe", "Propagation", "Refusal", "Rest", "Rounds", "Row", "RowKind"]
+__all__ = ["Call", "CircularTies", "Class", "Clique", "Counts", "Model", "Probe", "Propagation", "Refusal", "Rest", "Rounds", "Row", "RowKind"]
 __all__ += ["RowPropagation", "Rows", "Side", "Ties", "Verdict", "book_size", "book_to_sparse", "plan", "sparse_size", "sparse_to_book"]
 __all__ += ["MAX_BUDGET", "MAX_PROPOSALS", "MAX_ROWS", "MAX_VARIABLES", "MAX_WIDTH", "NO_LIMIT", "PAGE", "VERSION"]
 
@@ -80,6 +80,14 @@ class Rest(NamedTuple):
     yes: bool
     row: int | None = None
     variable: int | None = None
+
+
+class Class(IntEnum):
+    """What a call of a list did. Its number is the place of its count among the four."""
+    REFUSED = 0
+    INFEASIBLE = 1
+    CHANGED = 2
+    UNCHANGED = 3
 
 
 class Counts(NamedTuple):
@@ -350,6 +358,19 @@ class Model:
         """
         places = call("run", *self._model(), *self._table.pair, *Call.lent(calls).pair)
         return Counts(*places[:4])
+
+    def run_classes(self, calls):
+        """As run, and what each call did, in the list's order: the counts are the counts of these classes.
+
+        >>> model = Model([0, 5, 0, 5], [2, 0, -1, 1], [5, 0])
+        >>> counts, classes = model.run_classes([Call.propagate_row(1), Call.propagate_row(0), Call.propagate_row(7)])
+        >>> [one.name for one in classes], counts.changed
+        (['UNCHANGED', 'CHANGED', 'REFUSED'], 1)
+        """
+        lent = Call.lent(calls)
+        classes = Lent(bytearray(lent.length // 4), "B")
+        places = call("run_classes", *self._model(), *self._table.pair, *lent.pair, *classes.pair)
+        return Counts(*places[:4]), [Class(byte) for byte in classes.owner]
 
     def cliques(self):
         """The clique rows of the implication table; every integer point meets them."""

@@ -41,6 +41,7 @@ _ARGUMENTS = {
     "remove_redundant_row": _MODEL + _NUMBER + _ANSWER,
     "is_probing_fixpoint": _MODEL + _ANSWER,
     "run": _MODEL + 2 * _BUFFER + _ANSWER,
+    "run_classes": _MODEL + 3 * _BUFFER + _ANSWER,
     "rounds": _MODEL + _BUFFER + _LONG + _ANSWER,
     "plan_lengths": _BUFFER + _ANSWER,
     "plan_width": _SIZE + _BUFFER + _ANSWER,

@@ -42,3 +42,7 @@ class Rows:
     def run(self, bounds, table, calls):
         """As Model.run, on this box and this table."""
         return self._with(bounds, table).run(calls)
+
+    def run_classes(self, bounds, table, calls):
+        """As Model.run_classes, on this box and this table."""
+        return self._with(bounds, table).run_classes(calls)

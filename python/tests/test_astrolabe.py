@@ -7,7 +7,7 @@ from array import array
 from pathlib import Path
 
 import astrolabe
-from astrolabe import Call, CircularTies, Clique, Model, Refusal, RowKind, Ties, Verdict, _library, calls, plan, shared, ties
+from astrolabe import Call, CircularTies, Class, Clique, Model, Refusal, RowKind, Ties, Verdict, _library, calls, plan, shared, ties
 
 try:
     import numpy
@@ -54,7 +54,8 @@ class Buffers(unittest.TestCase):
     def test_shared_rows_take_buffers_only(self):
         rows = Model([0, 1] * 3, [2, 3, 4], [5]).shared_rows()
         box, table = array("i", [0, 1, 0, 1, 1, 1]), bytearray(36)
-        self.assertEqual(rows.run(box, table, [Call.propagate(10)]).changed, 1)
+        self.assertEqual(rows.run_classes(box, table, [Call.propagate(10)])[1], [Class.CHANGED])
+        self.assertEqual(rows.run(box, table, [Call.propagate(10)]).unchanged, 1)
         self.assertEqual((rows.propagate_row(box, 0).ending, rows.is_probing_fixpoint(box).yes), ("unchanged", True))
         with self.assertRaises(TypeError):
             rows.propagate([0, 1] * 3, 10)
@@ -155,6 +156,7 @@ class Calls(unittest.TestCase):
         self.assertEqual(model.run([*retired, Call(9), Call.propagate(10)]), (3, 0, 0, 1))
         self.assertEqual(model.run(array("I", [2, 0, 0, 10])), (0, 0, 0, 1))
         self.assertEqual(model.run([]), (0, 0, 0, 0))
+        self.assertEqual(model.run_classes([]), ((0, 0, 0, 0), []))
         self.assertEqual(check_of(lambda: model.run(array("I", [2, 0, 0]))), 5)
 
     def test_set_rhs_and_removal(self):

@@ -140,6 +140,28 @@ unsafe extern "C" {
         answer_len: usize,
     ) -> u32;
 
+    /// The same, and a byte a record: 0 refused, 1 infeasible, 2 changed, 3 unchanged.
+    pub fn astrolabe_run_classes(
+        n: usize,
+        m: usize,
+        bounds: *mut i32,
+        bounds_len: usize,
+        coefs: *const i32,
+        coefs_len: usize,
+        rhs: *const i32,
+        rhs_len: usize,
+        kinds: *const u8,
+        kinds_len: usize,
+        table: *mut u8,
+        table_len: usize,
+        calls: *const u32,
+        calls_len: usize,
+        classes: *mut u8,
+        classes_len: usize,
+        answer: *mut u64,
+        answer_len: usize,
+    ) -> u32;
+
     /// Answer: case (0 infeasible, 1 nothing changed, 2 limit reached), rounds.
     pub fn astrolabe_rounds(
         n: usize,

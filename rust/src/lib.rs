@@ -48,7 +48,7 @@ mod shared;
 mod ties;
 
 pub use allocations::{MAX_PROPOSALS, Verdict};
-pub use answer::{Counts, Outcome, Probe, Propagation, Rest, Rounds, RowPropagation, Side};
+pub use answer::{Class, Counts, Outcome, Probe, Propagation, Rest, Rounds, RowPropagation, Side};
 pub use clique::Clique;
 pub use model::{
     Call, Model, Row, RowKind, book_size, book_to_sparse, sparse_size, sparse_to_book,

@@ -1,6 +1,8 @@
 //! The model, in owned buffers, with a method for each call.
 
-use crate::answer::{Counts, Outcome, Places, Probe, Propagation, Rest, Rounds, RowPropagation};
+use crate::answer::{
+    Class, Counts, Outcome, Places, Probe, Propagation, Rest, Rounds, RowPropagation,
+};
 use crate::ffi;
 use crate::refusal::Refusal;
 use crate::ties::{Tie, Ties};
@@ -641,6 +643,37 @@ impl Model {
             calls.as_ptr().cast(),
             4 * calls.len()
         )
+    }
+
+    /// As [`run`](Model::run), and what each call did, in the list's order: the counts are the counts of these
+    /// classes.
+    ///
+    /// ```
+    /// use astrolabe::{Call, Class, Model};
+    ///
+    /// let mut model = Model::new(vec![0, 5, 0, 5], vec![2, 0, -1, 1], vec![5, 0])?;
+    /// let calls = [Call::propagate_row(1), Call::propagate_row(0), Call::propagate_row(7)];
+    /// let (counts, classes) = model.run_classes(&calls)?;
+    /// assert_eq!(classes, [Class::Unchanged, Class::Changed, Class::Refused]);
+    /// assert_eq!((counts.unchanged, counts.changed, counts.refused), (1, 1, 1));
+    /// # Ok::<(), astrolabe::Refusal>(())
+    /// ```
+    pub fn run_classes(&mut self, calls: &[Call]) -> Result<(Counts, Vec<Class>), Refusal> {
+        let mut classes = vec![Class::Refused; calls.len()];
+        // A Class is a byte, and the call writes bytes from 0 to 3 only, by the library's contract.
+        let counts = call!(
+            self.astrolabe_run_classes,
+            as_mut_ptr,
+            as_ptr,
+            as_ptr,
+            self.table.as_mut_ptr(),
+            self.table.len(),
+            calls.as_ptr().cast(),
+            4 * calls.len(),
+            classes.as_mut_ptr().cast(),
+            classes.len()
+        )?;
+        Ok((counts, classes))
     }
 
     /// Makes the rounds of the program `reduce`: propagate, remove redundant rows, tighten, probe; until

@@ -1,6 +1,6 @@
 //! Rows that many boxes share: a search keeps one copy of the rows and a box for each node.
 
-use crate::answer::{Counts, Probe, Propagation, Rest, RowPropagation};
+use crate::answer::{Class, Counts, Probe, Propagation, Rest, RowPropagation};
 use crate::ffi;
 use crate::model::{Call, Model, RowKind, answered, call};
 use crate::refusal::Refusal;
@@ -99,6 +99,31 @@ impl<'a> Rows<'a> {
     pub fn is_probing_fixpoint(self, bounds: &[i32]) -> Result<Rest, Refusal> {
         let model = self.with(bounds);
         call!(model.astrolabe_is_probing_fixpoint, as_ptr, as_ptr, as_ptr)
+    }
+
+    /// As [`Model::run_classes`], on this box and this table.
+    pub fn run_classes(
+        self,
+        bounds: &mut [i32],
+        table: &mut [u8],
+        calls: &[Call],
+    ) -> Result<(Counts, Vec<Class>), Refusal> {
+        let model = self.with(bounds);
+        let mut classes = vec![Class::Refused; calls.len()];
+        // A Class is a byte, and the call writes bytes from 0 to 3 only, by the library's contract.
+        let counts = call!(
+            model.astrolabe_run_classes,
+            as_mut_ptr,
+            as_ptr,
+            as_ptr,
+            table.as_mut_ptr(),
+            table.len(),
+            calls.as_ptr().cast(),
+            4 * calls.len(),
+            classes.as_mut_ptr().cast(),
+            classes.len()
+        )?;
+        Ok((counts, classes))
     }
 
     /// As [`Model::run`], on this box and this table.

@@ -1,7 +1,7 @@
 //! `include/astrolabe.h` and `src/ffi.rs` declare the same functions, and the header has the wrapper's version and limits: nothing else
 //! compares the two.
 
-use astrolabe::{Refusal, RowKind};
+use astrolabe::{Class, Refusal, RowKind};
 
 const HEADER: &str = include_str!("../../include/astrolabe.h");
 const FFI: &str = include_str!("../src/ffi.rs");
@@ -107,4 +107,8 @@ fn the_header_has_the_limits_and_numbers_of_the_wrapper() {
     assert_eq!(defined("REFUSED_VARIABLE_TOO_WIDE"), Refusal::VariableTooWide.check().to_string());
     assert_eq!(defined("ROW_KIND_AT_MOST"), (RowKind::AtMost as u8).to_string());
     assert_eq!(defined("ROW_KIND_EQUAL"), (RowKind::Equal as u8).to_string());
+    assert_eq!(defined("CLASS_REFUSED"), (Class::Refused as u8).to_string());
+    assert_eq!(defined("CLASS_INFEASIBLE"), (Class::Infeasible as u8).to_string());
+    assert_eq!(defined("CLASS_CHANGED"), (Class::Changed as u8).to_string());
+    assert_eq!(defined("CLASS_UNCHANGED"), (Class::Unchanged as u8).to_string());
 }

@@ -7,7 +7,7 @@
 
 use crate::checks::{self, Check};
 use crate::cliques as clique_rows;
-use crate::list;
+use crate::list::{self, Counts};
 use crate::pages;
 use crate::plan;
 use crate::probing::{self, Rest, Verdict};
@@ -245,8 +245,36 @@ pub fn run(
         let (records, rest) = calls.as_chunks();
         let lengths = [(rest.len(), 0), (places_lent, ANSWER)];
         check_model(n, m, bounds, coefs, rhs, kinds, Some(table), &lengths)?;
-        let counts = list::run(&mut State { n, bounds, coefs, rhs, kinds, table }, records);
-        Ok(places([counts.refused, counts.none, counts.changed, counts.unchanged]))
+        Ok(counts(list::run(&mut State { n, bounds, coefs, rhs, kinds, table }, records)))
+    })
+}
+
+fn counts(Counts { refused, none, changed, unchanged }: Counts) -> [u64; ANSWER] {
+    places([refused, none, changed, unchanged])
+}
+
+/// The same with a byte for each record: the number of what it did.
+pub fn run_classes(
+    n: usize,
+    m: usize,
+    bounds: &mut [i32],
+    coefs: &mut [i32],
+    rhs: &mut [i32],
+    kinds: &mut [u8],
+    table: &mut [u8],
+    calls: &[u32],
+    classes: &mut [u8],
+    answer: &mut [u64],
+) -> u32 {
+    reply(answer, |places_lent| {
+        let (records, rest) = calls.as_chunks();
+        let lengths = [(rest.len(), 0), (classes.len(), records.len()), (places_lent, ANSWER)];
+        check_model(n, m, bounds, coefs, rhs, kinds, Some(table), &lengths)?;
+        let told = list::classes(&mut State { n, bounds, coefs, rhs, kinds, table }, records);
+        for (byte, &class) in classes.iter_mut().zip(&told) {
+            *byte = class as u8;
+        }
+        Ok(counts(Counts::of(&told)))
     })
 }
 
