@@ -8,7 +8,7 @@ use crate::failure::Failure;
 
 pub const COMMAND: Command = Command {
     name: "solve",
-    usage: "solve MODEL [-o SOLUTION] [--from F] [--rounds N] [--json]",
+    usage: "solve MODEL.. [-o SOLUTION] [--from F] [--rounds N] [--json]",
     about: "GLPK's branch and cut: raw, reduced at the root, reduced at every node",
     options: &["-o", "--output", "--from", "--rounds"],
     run,
