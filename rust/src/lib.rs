@@ -48,6 +48,7 @@ pub mod pages;
 pub mod plan;
 mod prepared;
 mod refusal;
+mod shared;
 mod ties;
 
 pub use allocations::{MAX_PROPOSALS, Verdict};
@@ -58,6 +59,7 @@ pub use model::{
 };
 pub use prepared::{Bound, Moved, Prepared, Propagated};
 pub use refusal::Refusal;
+pub use shared::Rows;
 pub use ties::{CircularTies, Tie, Ties};
 
 /// The version of this wrapper, which is that of the C header and of the library: `"0.1.0"`.

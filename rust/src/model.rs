@@ -123,6 +123,7 @@ macro_rules! call {
         })
     };
 }
+pub(crate) use call;
 
 /// n and m of a book, from the 16 bytes of its trailer: what a reader of files needs first.
 ///
@@ -418,6 +419,21 @@ impl Model {
         &self.rhs
     }
 
+    /// Sets the right-hand side of one row, as a search does with the best value found so far. Panics where there is no
+    /// such row. What was tightened, removed or recorded before holds for the old row: where the new side is larger, start
+    /// from the raw model.
+    ///
+    /// ```
+    /// let mut model = astrolabe::Model::new(vec![0, 9], vec![2], vec![15])?; // 2x ≤ 15
+    /// model.set_rhs(0, 5);
+    /// model.propagate(1_000)?;
+    /// assert_eq!(model.bounds(), [0, 2]);
+    /// # Ok::<(), astrolabe::Refusal>(())
+    /// ```
+    pub fn set_rhs(&mut self, row: usize, rhs: i32) {
+        self.rhs[row] = rhs;
+    }
+
     /// The kinds.
     pub fn kinds(&self) -> &[RowKind] {
         &self.kinds
@@ -461,6 +477,16 @@ impl Model {
     /// The implication table: byte `p · 2n + q` is 1 when literal p implies literal q.
     pub fn table(&self) -> &[u8] {
         &self.table
+    }
+
+    /// The table, to be changed: one that was stored, or that of another box around this one.
+    pub fn table_mut(&mut self) -> &mut [u8] {
+        &mut self.table
+    }
+
+    /// Makes every byte of the table 0, as it was at the start.
+    pub fn reset_table(&mut self) {
+        self.table.fill(0);
     }
 
     /// Whether "variable k is v" is recorded to imply "variable j is w". Panics where there is no such
