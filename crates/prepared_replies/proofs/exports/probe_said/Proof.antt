@@ -1,15 +1,11 @@
 -- `prepared_replies::exports::probe_said`: a wrong answer length, or the answer of the open call, written. Assumes nothing.
 use Prim.Native.Nat.{ℕ}
 use borrow.Author.Needs.{needs}
-use lib.ListN.{getD, length}
-use mathlib.Core.List.{List}
 use mathlib.Core.Path.{_∙_, _≡_, ap, refl, sym}
-use Rattle.model.specs.Rows.{Rows}
 use Rattle.prepared_probe.specs.Checks.{probeFault}
 use Rattle.reducer.specs.OpenCalls.{performed, probeAnswer}
-use Rattle.replies.specs.Replies.{Reply, answerLength, callReply, returned, written}
+use Rattle.replies.specs.Replies.{Reply, callReply, returned, written}
 use Rattle.semantics.specs.Perform.{Performed}
-use Rattle.prepared_replies.specs.PreparedReplies.{Said, faultWith}
 use Rattle.prepared_replies.proofs.ReplyLaws.{call-accepted, call-refusal, fault-short, fault-whole, short-refused}
 use Rattle.prepared_replies.proofs.exports.probe_said.Statement.{statement}
 use Rattle.prepared_replies.proofs.exports.probe_said.Tie as tie
@@ -21,13 +17,14 @@ number s = probeFault (s .args .workspace .now) (s .args .bounds .now) (s .args 
 returns : tie.Need-returns
 returns c =
     let s = c .before .before .before .before in
-    let A = s .args .answer .now in (
-      (λ h. (sym (fault-short A (number s) (c .if1 .taken)), refl, refl, refl, refl)),
-      (
-        (λ z. absurd (short-refused A (number s) (c .if1 .taken) z)),
-        ((λ M P right. absurd (c .if1 .taken right)), (λ M P. P)),
-      ),
-    )
+    let A = s .args .answer .now in
+    let wrong = c .if1 .taken in
+    record {
+      refused = λ h. (sym (fault-short A (number s) wrong), refl, refl, refl, refl);
+      accepted = λ z. absurd (short-refused A (number s) wrong z);
+      defined = λ M P right. absurd (wrong right);
+      prepared = λ M P. P;
+    }
 
 probe-requires : tie.Need-probe-requires
 probe-requires c κs = search needs
@@ -59,24 +56,21 @@ returns-2 c =
     let put = c .before .before .put .ensures in
     let e = c .before .before .before .before .probe-reply .ensures in
     let a = probeAnswer (p .probe .result) in
-    let whole = fault-whole A (number s) (p .before .before .before .before .if1 .left) in (
-      (λ h.
+    let whole = fault-whole A (number s) (p .before .before .before .before .if1 .left) in
+    record {
+      refused =
+          λ h.
           let f = p .probe .ensures .0 (λ z. h (whole ∙ z)) in
           let said = call-refusal (f .0) A in
-          (put .0 ∙ ap returned e ∙ said .0 ∙ sym whole, put .1 ∙ ap (λ (q : Reply). written q A) e ∙ said .1, f .1, f .2, f .3)),
-      (
-        (λ z.
-            let ok = p .probe .ensures .1 .0 (sym whole ∙ z) in
-            put .0 ∙ ap returned e ∙ call-accepted a (ok .0)),
-        (
-          (λ M P right.
-              let d = p .probe .ensures .1 .1 .0 M P in
-              let q = e ∙ ap (λ (w : Performed). callReply (w .answer)) d in
-              (record { returns = put .0 ∙ ap returned q; writes = put .1 ∙ ap (λ (q : Reply). written q A) q }, ap (λ (w : Performed). w .state) d)),
-          p .probe .ensures .1 .1 .1,
-        ),
-      ),
-    )
+          (put .0 ∙ ap returned e ∙ said .0 ∙ sym whole, f .1, f .2, f .3, put .1 ∙ ap (λ (q : Reply). written q A) e ∙ said .1);
+      accepted = λ z. put .0 ∙ ap returned e ∙ call-accepted a (p .probe .ensures .1 .0 (sym whole ∙ z) .0);
+      defined =
+          λ M P right.
+          let d = p .probe .ensures .1 .1 .0 M P in
+          let q = e ∙ ap (λ (w : Performed). callReply (w .answer)) d in
+          (record { returns = put .0 ∙ ap returned q; writes = put .1 ∙ ap (λ (q : Reply). written q A) q }, ap (λ (w : Performed). w .state) d);
+      prepared = p .probe .ensures .1 .1 .1;
+    }
 
 pub probe-said-spec : {M : Type 1} → statement M
 probe-said-spec =

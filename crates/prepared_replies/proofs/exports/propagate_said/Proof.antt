@@ -3,17 +3,16 @@ use Prim.Native.Nat.{ℕ}
 use borrow.Author.Needs.{needs}
 use lib.ListN.{length}
 use native.Mathlib.Decide.{ℕ-discrete}
-use mathlib.Core.List.{List}
 use mathlib.Core.Path.{_∙_, _≡_, ap, refl, sym}
 use Rattle.model.specs.Rows.{Rows}
 use Rattle.prepared_call.specs.PreparedCall.{infeasibleRow, preparedAnswer, propagateFault}
 use Rattle.prepared_propagation.specs.Reasons.{Reasons, reasonsOf}
 use Rattle.reducer.specs.OpenCalls.{performed}
-use Rattle.replies.specs.Replies.{Reply, answerLength, returned, written}
+use Rattle.replies.specs.Replies.{Reply, returned, written}
 use Rattle.semantics.specs.Perform.{Performed}
 use Rattle.workspace.specs.Layout.{rowsIn, variablesOf}
 use Rattle.workspace.specs.Prepared.{Prepared}
-use Rattle.prepared_replies.specs.PreparedReplies.{Said, faultWith, preparedReply}
+use Rattle.prepared_replies.specs.PreparedReplies.{preparedReply}
 use Rattle.prepared_replies.proofs.ReplyLaws.{fault-short, fault-whole, prepared-accepted, prepared-refusal, row-unsaid, short-refused}
 use Rattle.prepared_replies.proofs.exports.propagate_said.Statement.{statement}
 use Rattle.prepared_replies.proofs.exports.propagate_said.Tie as tie
@@ -25,16 +24,15 @@ number s = propagateFault (s .args .workspace .now) (s .args .bounds .now) (s .a
 returns : tie.Need-returns
 returns c =
     let s = c .before .before .before .before in
-    let A = s .args .answer .now in (
-      (λ h. (sym (fault-short A (number s) (c .if1 .taken)), refl, refl, refl, refl)),
-      (
-        (λ z. absurd (short-refused A (number s) (c .if1 .taken) z)),
-        (
-          (λ M P fits right. absurd (c .if1 .taken right)),
-          ((λ M P z. absurd (short-refused A (number s) (c .if1 .taken) z)), (λ M P. P)),
-        ),
-      ),
-    )
+    let A = s .args .answer .now in
+    let wrong = c .if1 .taken in
+    record {
+      refused = λ h. (sym (fault-short A (number s) wrong), refl, refl, refl, refl);
+      accepted = λ z. absurd (short-refused A (number s) wrong z);
+      defined = λ M P fits right. absurd (wrong right);
+      reasons = λ M P z. absurd (short-refused A (number s) wrong z);
+      prepared = λ M P. P;
+    }
 
 propagate-requires : tie.Need-propagate-requires
 propagate-requires c κs = search needs
@@ -87,28 +85,22 @@ returns-2 c =
     let e = c .before .before .before .before .prepared-reply .ensures in
     let a = preparedAnswer (p .propagate .result) in
     let row = infeasibleRow (p .propagate .result) in
-    let whole = fault-whole A (number s) (p .before .before .before .before .if1 .left) in (
-      (λ h.
+    let whole = fault-whole A (number s) (p .before .before .before .before .if1 .left) in
+    record {
+      refused =
+          λ h.
           let f = p .propagate .ensures .0 (λ z. h (whole ∙ z)) in
           let said = prepared-refusal (f .0) row A in
-          (put .0 ∙ ap returned e ∙ said .0 ∙ sym whole, put .1 ∙ ap (λ (q : Reply). written q A) e ∙ said .1, f .1, f .2, f .3)),
-      (
-        (λ z.
-            let ok = p .propagate .ensures .1 .0 (sym whole ∙ z) in
-            put .0 ∙ ap returned e ∙ prepared-accepted a row (ok .told)),
-        (
-          (λ M P fits right.
-              let d = p .propagate .ensures .1 .1 .0 M P fits in
-              let same = same-row p M P in
-              let q = e ∙ same ∙ ap (λ (w : Performed). preparedReply (w .answer) (told p M)) d in
-              (record { returns = put .0 ∙ ap returned q; writes = put .1 ∙ ap (λ (q : Reply). written q A) q }, ap (λ (w : Performed). w .state) d)),
-          (
-            (λ M P z. ap (λ (w : Reasons). w .movers) (p .propagate .ensures .1 .0 (sym whole ∙ z) .reasons M P)),
-            p .propagate .ensures .1 .1 .1,
-          ),
-        ),
-      ),
-    )
+          (put .0 ∙ ap returned e ∙ said .0 ∙ sym whole, f .1, f .2, f .3, put .1 ∙ ap (λ (q : Reply). written q A) e ∙ said .1);
+      accepted = λ z. put .0 ∙ ap returned e ∙ prepared-accepted a row (p .propagate .ensures .1 .0 (sym whole ∙ z) .told);
+      defined =
+          λ M P fits right.
+          let d = p .propagate .ensures .1 .1 .0 M P fits in
+          let q = e ∙ same-row p M P ∙ ap (λ (w : Performed). preparedReply (w .answer) (told p M)) d in
+          (record { returns = put .0 ∙ ap returned q; writes = put .1 ∙ ap (λ (q : Reply). written q A) q }, ap (λ (w : Performed). w .state) d);
+      reasons = λ M P z. ap (λ (w : Reasons). w .movers) (p .propagate .ensures .1 .0 (sym whole ∙ z) .reasons M P);
+      prepared = p .propagate .ensures .1 .1 .1;
+    }
 
 pub propagate-said-spec : {M : Type 1} → statement M
 propagate-said-spec =
