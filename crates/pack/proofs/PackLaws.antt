@@ -6,7 +6,7 @@ use lib.IntN.{_+ℤ_, pos, ℤ}
 use lib.ListN.{drop, length, set, take}
 use lib.Seq.{drop-cons}
 use mathlib.Core.List.{List, [], _∷_}
-use mathlib.Core.Path.{_∙_, _≡_, ap, refl}
+use mathlib.Core.Path.{_∙_, _≡_, refl}
 use native.Mathlib.Nat.{mul-le-mul, mul-le-mul-right, suc-mul}
 use native.Mathlib.Numerals.{add-one}
 use native.Mathlib.Omega.{arith}

@@ -2,9 +2,8 @@
 use Prim.Native.Nat.{_*_, _+_, _/_, _%_, _<_, _≤_, _^_, ℕ}
 use lib.Dec.{eqb, eqb→eq}
 use lib.IntN.{pos, ℤ}
-use lib.ListN.{drop, getD, getD-replicate, length, length-drop, length-replicate, replicate, take}
-use lib.Seq.{ext-getD, getD-drop, getD-take, length-take-le}
-use mathlib.Core.Bool.{true}
+use lib.ListN.{drop, getD, getD-replicate, length, length-replicate, replicate}
+use lib.Seq.{ext-getD, getD-drop, getD-take}
 use mathlib.Core.List.{List}
 use mathlib.Core.Logic.{inr}
 use mathlib.Core.Path.{_∙_, _≡_, ap, refl, sym}
@@ -13,17 +12,17 @@ use native.Mathlib.Omega.{arith}
 use Rattle.integer.specs.Index.{all}
 use Rattle.integer.proofs.IndexLaws.{all-at, getD-all}
 use Rattle.integer.proofs.Parts.{zarith}
-use Rattle.model.specs.Box.{NonEmpty, at, lower, upper}
+use Rattle.model.specs.Box.{NonEmpty, at}
 use Rattle.model.specs.Model.{modelOf}
-use Rattle.model.specs.Rows.{Rows, isEquality, rowAt, rowOf}
+use Rattle.model.specs.Rows.{Rows, isEquality, rowOf}
 use Rattle.model.specs.Valid.{ValidModel}
 use Rattle.model.proofs.RowsLaws.{at-rowOf}
 use Rattle.packed_row.specs.Words.{coefsFrom, rhsOf}
 use Rattle.row_set.specs.Bits.{bitAt}
-use Rattle.row_set.specs.Readers.{Calm, Hearers}
+use Rattle.row_set.specs.Readers.{Hearers}
 use Rattle.workspace.specs.Kept.{SameBut}
 use Rattle.workspace.specs.Layout.{boundOf, boxIn, decode, dirtyOf, fallOf, listTo, ourMark, riseOf, rowWords, rowsIn, sideWord, variablesOf, workspaceLen}
-use Rattle.workspace.specs.Prepared.{Ours, Prepared}
+use Rattle.workspace.specs.Prepared.{Prepared}
 use Rattle.workspace.proofs.DecodeLaws.{box-at, length-box, length-listTo, listTo-at}
 use Rattle.workspace.proofs.KeptLaws.{same-join}
 use Rattle.prepare.specs.Written.{Column, Written}

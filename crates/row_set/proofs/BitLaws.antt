@@ -4,13 +4,12 @@ use lib.Arith.{digits-mod}
 use lib.Bits.{bitOr, bitXor, differ, or-shr, or-step, xor-shr, xor-step}
 use lib.Count.{trailingZeros, under}
 use lib.ListN.{getD, length, set}
-use lib.Pow.{pow-add, pow-lt, pow-pos, shl-exact, shl-shr, shr-lt, shr-shr}
+use lib.Pow.{pow-add, pow-lt, shl-exact, shl-shr, shr-lt, shr-shr}
 use lib.Seq.{getD-set-other, getD-set-same}
 use mathlib.Core.List.{List}
-use mathlib.Core.Logic.{_⊎_, inl, inr}
 use mathlib.Core.Path.{_∙_, _≡_, ap, refl, subst, sym}
 use native.Mathlib.Decide.{decLt, ℕ-discrete}
-use native.Mathlib.Nat.{div-eq-of-lt, div-one, mod-lt, mul-assoc, mul-mod-left, one-mul, pow-suc, zero-div, zero-lt-suc}
+use native.Mathlib.Nat.{div-eq-of-lt, div-one, mod-lt, mul-mod-left, one-mul, pow-suc, zero-div, zero-lt-suc}
 use native.Mathlib.Numerals.{add-one, one-add}
 use native.Mathlib.Omega.{arith}
 use Rattle.row_set.specs.Bits.{bitAt}

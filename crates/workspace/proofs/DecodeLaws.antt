@@ -4,21 +4,19 @@ use lib.Arith.{digits-div, digits-mod}
 use lib.IntN.{_+ℤ_, pos, ℤ}
 use lib.ListN.{drop, getD, length, length-drop, take}
 use lib.Seq.{ext-getD, getD-drop, getD-take, length-take-le}
-use mathlib.Core.List.{List, [], _∷_}
+use mathlib.Core.List.{List}
 use mathlib.Core.Path.{_∙_, _≡_, ap, ap₂, refl, sym}
-use native.Mathlib.Nat.{mod-lt, mul-le-mul-right, mul-le-mul-left, suc-mul}
+use native.Mathlib.Nat.{mul-le-mul-right, suc-mul}
 use native.Mathlib.Omega.{arith}
-use native.Mathlib.Decide.{decLt}
 use Rattle.integer.proofs.Parts.{add-parts, sub-parts, zarith, zify}
-use Rattle.model.specs.Box.{NonEmpty, at}
+use Rattle.model.specs.Box.{at}
 use Rattle.model.specs.Limits.{maxBound, maxCoef, maxRhs, minBound, minCoef, minRhs}
 use Rattle.model.specs.Model.{modelOf}
-use Rattle.model.specs.Rows.{Row, Rows, rowAt, rowOf}
+use Rattle.model.specs.Rows.{rowAt, rowOf}
 use Rattle.model.specs.Valid.{Between, ValidBox, ValidModel}
 use Rattle.packed_row.specs.Words.{Readable, coefsFrom, rhsOf, rowOfWords}
 use Rattle.packed_row.proofs.PackedLaws.{coefs-in, length-coefs, rhs-in}
 use Rattle.workspace.specs.Layout.{boundOf, boxIn, decode, listTo, rowIn, rowWords, sideWord}
-use Rattle.workspace.specs.Prepared.{Ours}
 
 -- ---- lists by their places
 

@@ -2,10 +2,10 @@
 -- stand elsewhere.
 use Prim.Native.Nat.{_*_, _+_, _/_, _%_, _<_, _≤_, suc, zero, ℕ}
 use lib.IntN.{ℤ}
-use lib.ListN.{drop, getD, length, length-drop, length-set, set, take}
+use lib.ListN.{drop, length, length-drop, length-set, set, take}
 use lib.Seq.{ext-getD, getD-drop, getD-set-other, getD-take, length-take-le}
 use mathlib.Core.List.{List}
-use mathlib.Core.Path.{_∙_, _≡_, ap, ap₂, refl, sym}
+use mathlib.Core.Path.{_∙_, _≡_, ap, refl, sym}
 use native.Mathlib.Omega.{arith}
 use Rattle.model.specs.Box.{NonEmpty, at}
 use Rattle.model.specs.Rows.{Rows}
@@ -13,8 +13,8 @@ use Rattle.model.specs.Valid.{ValidBox}
 use Rattle.packed_row.specs.Words.{coefsFrom, rhsOf}
 use Rattle.row_set.specs.Readers.{Calm}
 use Rattle.workspace.specs.Kept.{SameBut}
-use Rattle.workspace.specs.Layout.{boundOf, boxIn, decode, dirtyOf, fallOf, listTo, riseOf, rowWords, rowsIn, sideWord, variablesOf, workspaceLen}
-use Rattle.workspace.specs.Prepared.{Ours, Prepared}
+use Rattle.workspace.specs.Layout.{boxIn, decode, dirtyOf, fallOf, listTo, riseOf, rowWords, rowsIn, sideWord, variablesOf}
+use Rattle.workspace.specs.Prepared.{Prepared}
 
 pub listTo-same : {A : Type 0} (k : ℕ) (f g : ℕ → A) → ((i : ℕ) → i < k → f i ≡ g i) → listTo k f ≡ listTo k g
 unfolding listTo

@@ -1,11 +1,11 @@
 -- `pack::pack_row`: the words from coefficient j on say the rest of the row, whether its first zeros are skipped or not (`row-more`,
 -- `row-zero`). Assumes nothing.
-use Prim.Native.Nat.{_*_, _+_, _-_, _%_, _<_, _≤_, ℕ}
+use Prim.Native.Nat.{_*_, _+_, _-_, _<_, _≤_}
 use lib.Arith.{digits-mod}
-use lib.IntN.{_+ℤ_, pos, ℤ}
-use lib.ListN.{drop, length, set, take}
+use lib.IntN.{pos}
+use lib.ListN.{drop, length, take}
 use lib.Seq.{drop-length}
-use mathlib.Core.Path.{_∙_, _≡_, refl}
+use mathlib.Core.Path.{_≡_}
 use mir.Facts.{sfits-lit, toZ-ofZ}
 use mir.Syntax.{w32}
 use native.Mathlib.Omega.{arith}

@@ -3,7 +3,7 @@ use Prim.Native.Nat.{_*_, _+_, _-_, _<_, _≤_, ℕ}
 use borrow.Author.Count.{below-none}
 use borrow.Author.Needs.{needs}
 use lib.ListN.{length}
-use mathlib.Core.Path.{_∙_, _≡_, ap}
+use mathlib.Core.Path.{_∙_, _≡_}
 use native.Mathlib.Nat.{mul-le-mul-right}
 use native.Mathlib.Omega.{arith}
 use Rattle.model.specs.Rows.{rowOf}

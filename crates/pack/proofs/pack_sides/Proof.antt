@@ -1,10 +1,9 @@
 -- `pack::pack_sides`: so far the numbers say the right sides and the kinds, and nothing else was written. Assumes nothing.
 use Prim.Native.Nat.{_*_, _+_, _-_, _%_, _<_, _≤_, ℕ}
 use borrow.Author.Count.{below-more, below-none}
-use lib.IntN.{_+ℤ_, pos}
-use lib.ListN.{getD, length, set}
+use lib.ListN.{getD, set}
 use lib.Seq.{getD-set-other, getD-set-same}
-use mathlib.Core.Path.{_∙_, _≡_, ap}
+use mathlib.Core.Path.{_≡_}
 use mir.Facts.{toZ-ofZ}
 use mir.Syntax.{w32}
 use native.Mathlib.Omega.{arith}

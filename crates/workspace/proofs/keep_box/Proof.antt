@@ -7,7 +7,6 @@ use lib.Seq.{ext-getD, getD-set-other, getD-set-same}
 use mathlib.Core.Path.{_∙_, _≡_, ap, sym}
 use mir.Facts.{toZ-ofZ}
 use mir.Syntax.{w32}
-use mir.Val.{SFits}
 use native.Mathlib.Omega.{arith}
 use Rattle.integer.proofs.Parts.{zarith}
 use Rattle.integer.proofs.RangeLaws.{within-fits}

@@ -1,8 +1,7 @@
 -- `columns::gather`: the sets hold the rows so far that hear of the variable (`column-more`). Assumes nothing.
-use Prim.Native.Nat.{_*_, _+_, _-_, _<_, _≤_, ℕ}
+use Prim.Native.Nat.{_*_, _+_, _-_, _<_, _≤_}
 use borrow.Author.Count.{below-none}
-use lib.IntN.{pos}
-use lib.ListN.{getD, length}
+use lib.ListN.{length}
 use mathlib.Core.Path.{_∙_, _≡_, sym}
 use mir.Facts.{toZ-ofZ}
 use mir.Syntax.{w32}

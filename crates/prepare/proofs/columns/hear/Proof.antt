@@ -2,7 +2,7 @@
 use borrow.Author.Needs.{needs}
 use lib.Dec.{eqb}
 use lib.IntN.{pos}
-use lib.Signed.{_<ℤ_, _≤ℤ_}
+use lib.Signed.{_<ℤ_}
 use mathlib.Core.Bool.{false, true≢false}
 use mathlib.Core.Path.{_∙_, _≡_, ap, refl, sym}
 use mir.Facts.{sfits-lit, toZ-ofZ}

@@ -1,10 +1,8 @@
 -- `writing::write_head`: four numbers, each at its place. Assumes nothing.
 use borrow.Author.Needs.{needs}
-use lib.ListN.{getD, length, length-set, set}
+use lib.ListN.{length-set, set}
 use lib.Seq.{getD-set-other, getD-set-same}
-use mathlib.Core.List.{List}
 use mathlib.Core.Path.{_∙_}
-use Prim.Native.Nat.{ℕ}
 use native.Mathlib.Omega.{arith}
 use Rattle.workspace.specs.Layout.{ourMark}
 use Rattle.workspace.proofs.KeptLaws.{same-inside, same-none, same-wider}
