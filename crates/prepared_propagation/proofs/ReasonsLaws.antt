@@ -2,24 +2,26 @@
 use Prim.Native.Nat.{_+_, _-_, _<_, _≤_, suc, zero, ℕ}
 use lib.Dec.{T, T-not, ltb, lt→ltb, not-T}
 use lib.IntN.{ℤ}
+use lib.ListN.{replicate}
 use mathlib.Core.Bool.{false, not, true}
 use mathlib.Core.List.{List}
-use mathlib.Core.Path.{_∙_, _≡_, refl, sym}
+use mathlib.Core.Path.{_∙_, _≡_, sym}
 use native.Mathlib.Decide.{ℕ-discrete}
 use native.Mathlib.Numerals.{add-one}
 use native.Mathlib.Omega.{arith}
 use Rattle.integer.proofs.IndexLaws.{all-i}
 use Rattle.integer.proofs.Tests.{T→true}
+use Rattle.model.specs.Box.{isEmpty}
 use Rattle.model.specs.Rows.{Rows, rowAt}
 use Rattle.prepared_row.specs.Reasons.{rowReasons}
 use Rattle.row.specs.Kinds.{propagateRowOf}
 use Rattle.semantics.specs.Propagate.{passTo}
 use Rattle.semantics.proofs.LowestLaws.{lowest-is}
 use Rattle.semantics.proofs.PropagateLaws.{pass-ended}
-use Rattle.prepared_propagation.specs.Reasons.{Reasons, endingRow, noRow, reasonsFrom, reasonsTo}
+use Rattle.prepared_propagation.specs.Reasons.{Reasons, endingRow, noRow, reasonsFrom, reasonsOf, reasonsTo}
 
 module _ (n : ℕ) (A : Rows) (B : List ℤ) (R : List ℕ) where
-  reasons-suc : (r : ℕ) {P : List ℤ} → passTo n r A B .ended ≡ false → passTo n r A B .box ≡ P
+  pub reasons-suc : (r : ℕ) {P : List ℤ} → passTo n r A B .ended ≡ false → passTo n r A B .box ≡ P
       → reasonsTo n (suc r) A B R ≡ rowReasons r P (propagateRowOf n (rowAt n A r) P) (reasonsTo n r A B R)
   unfolding reasonsTo
   reasons-suc r e p = rw (e, p)
@@ -72,3 +74,14 @@ pub told-all : (budget made n m : ℕ) (A : Rows) (B : List ℤ) (R : List ℕ) 
     → W ≡ record { movers = R; infeasible = noRow }
 unfolding reasonsFrom
 told-all budget made n m A B R h w = let k : budget - made ≡ 0 = omega arith in sym w ∙ rw k
+
+-- ---- a call that fills the list
+
+module _ (budget n m : ℕ) (A : Rows) (B : List ℤ) (k : ℕ) where
+  pub reasons-empty : isEmpty n B ≡ true → reasonsOf budget n m A B k ≡ record { movers = replicate k noRow; infeasible = noRow }
+  unfolding reasonsOf
+  reasons-empty e = rw e
+
+  pub reasons-some : isEmpty n B ≡ false → reasonsOf budget n m A B k ≡ reasonsFrom budget n m A B (replicate k noRow)
+  unfolding reasonsOf
+  reasons-some e = rw e

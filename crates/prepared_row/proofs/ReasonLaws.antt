@@ -67,10 +67,21 @@ module _ (r : ℕ) (B : List ℤ) (v : PropagatedRow) (R : List ℕ) where
   unfolding rowReasons
   blames-none t = rw (T→true (isInfeasible (v .outcome)) t)
 
+  -- its numbers
+  module _ (f : T (not (isInfeasible (v .outcome)))) where
+    blames-is : rowReasons r B v R ≡ blame r B (v .box) R
+    unfolding rowReasons
+    blames-is = rw (T→false (isInfeasible (v .outcome)) f)
+
+    pub length-blames : length (rowReasons r B v R) ≡ length R
+    length-blames = ap length blames-is ∙ length-blame r B (v .box) R
+
+    pub blames-at : (i : ℕ) → i < length R → getD (rowReasons r B v R) i 0 ≡ reasonAt r B (v .box) R i
+    blames-at i h = ap (λ (S : List ℕ). getD S i 0) blames-is ∙ blame-at r B (v .box) R i h
+
   module _ (f : T (not (isInfeasible (v .outcome)))) {Q : List ℤ} (q : Q ≡ v .box) where
     pub blames-moved : {S : List ℕ} (seen : List ℤ) → seen ≡ B → S ≡ blame r seen Q R → S ≡ rowReasons r B v R
-    unfolding rowReasons
-    blames-moved seen e s = rw (T→false (isInfeasible (v .outcome)) f, ← q, ← e) s
+    blames-moved seen e s = (rw (e, q) at s) ∙ sym (blames-is f)
 
     pub blames-still : Q ≡ B → R ≡ rowReasons r B v R
     blames-still e = blames-moved B refl (rw e (blame-still r B R))
@@ -94,7 +105,7 @@ blamed-first ws r B Q v d = record {
 }
 
 -- number i is of variable i / 2
-half : (i : ℕ) → (i ≡ 2 * (i / 2)) ⊎ (i ≡ 2 * (i / 2) + 1)
+pub half : (i : ℕ) → (i ≡ 2 * (i / 2)) ⊎ (i ≡ 2 * (i / 2) + 1)
 half i = go (ℕ-discrete (i % 2) 0)
   where
     go : Dec (i % 2 ≡ 0) → (i ≡ 2 * (i / 2)) ⊎ (i ≡ 2 * (i / 2) + 1)
