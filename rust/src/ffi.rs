@@ -13,6 +13,12 @@
 /// The count of every answer buffer.
 pub const ANSWER_LEN: usize = 12;
 
+/// The count of every workspace of a prepared model.
+pub const WORKSPACE_LEN: usize = 16_768;
+
+/// No row: none moved a bound, or none was infeasible.
+pub const NO_ROW: u32 = u32::MAX;
+
 unsafe extern "C" {
     /// Answer: case (0 infeasible, 1 tightened, 2 unchanged), bounds moved.
     pub fn astrolabe_propagate_row(
@@ -177,6 +183,50 @@ unsafe extern "C" {
         ties_len: usize,
         k: u32,
         j: u32,
+        answer: *mut u64,
+        answer_len: usize,
+    ) -> u32;
+
+    /// No answer: the number says all. Writes the model into `workspace`, [`WORKSPACE_LEN`] numbers.
+    pub fn astrolabe_prepare(
+        n: usize,
+        m: usize,
+        bounds: *const i32,
+        bounds_len: usize,
+        coefs: *const i32,
+        coefs_len: usize,
+        rhs: *const i32,
+        rhs_len: usize,
+        kinds: *const u8,
+        kinds_len: usize,
+        workspace: *mut u32,
+        workspace_len: usize,
+    ) -> u32;
+
+    /// Answer: case (0 infeasible, 1 converged, 2 budget spent), passes, bounds moved, the infeasible row or
+    /// [`NO_ROW`]. `reasons` has a number for each bound, or none.
+    pub fn astrolabe_prepared_propagate(
+        workspace: *mut u32,
+        workspace_len: usize,
+        bounds: *mut i32,
+        bounds_len: usize,
+        budget: u32,
+        reasons: *mut u32,
+        reasons_len: usize,
+        answer: *mut u64,
+        answer_len: usize,
+    ) -> u32;
+
+    /// Answer: that of `astrolabe_probe`.
+    pub fn astrolabe_prepared_probe(
+        workspace: *mut u32,
+        workspace_len: usize,
+        bounds: *mut i32,
+        bounds_len: usize,
+        table: *mut u8,
+        table_len: usize,
+        variable: u32,
+        budget: u32,
         answer: *mut u64,
         answer_len: usize,
     ) -> u32;

@@ -641,6 +641,28 @@ impl Model {
         )
     }
 
+    /// Checks the model and writes it into a workspace, for [`Prepared`](crate::Prepared).
+    pub(crate) fn prepare_into(&self, workspace: &mut [u32]) -> Result<(), Refusal> {
+        // SAFETY: the pointers and counts are those of slices, no two of which overlap.
+        let returned = unsafe {
+            ffi::astrolabe_prepare(
+                self.n,
+                self.m,
+                self.bounds.as_ptr(),
+                self.bounds.len(),
+                self.coefs.as_ptr(),
+                self.coefs.len(),
+                self.rhs.as_ptr(),
+                self.rhs.len(),
+                self.kinds.as_ptr().cast(),
+                self.kinds.len(),
+                workspace.as_mut_ptr(),
+                workspace.len(),
+            )
+        };
+        Refusal::from_returned(returned)
+    }
+
     /// Ties variable j to variable k where the implications say that j always equals k, or always 1 − k: puts that
     /// into every row, so that no row has j any more, and records it in the list. From a table that calls on this
     /// model filled, and the list as they left it, the integer points that meet the ties too stay exactly what they

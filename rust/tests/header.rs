@@ -57,7 +57,7 @@ fn the_header_and_the_rust_declarations_agree() {
     let mut rust = declarations(FFI, "pub fn astrolabe_", ") -> u32;", str::to_string);
     c.sort();
     rust.sort();
-    assert_eq!(c.len(), 26);
+    assert_eq!(c.len(), 29);
     assert_eq!(c, rust);
 }
 
@@ -92,6 +92,8 @@ fn the_header_has_the_limits_and_numbers_of_the_wrapper() {
     assert_eq!(defined("MAX_ROWS"), astrolabe::MAX_ROWS.to_string());
     assert_eq!(defined("MAX_WIDTH"), astrolabe::MAX_WIDTH.to_string());
     assert_eq!(defined("ANSWER_LEN"), astrolabe::ffi::ANSWER_LEN.to_string());
+    assert_eq!(defined("WORKSPACE_LEN"), astrolabe::ffi::WORKSPACE_LEN.to_string());
+    assert_eq!(defined("NO_ROW"), format!("{}u", astrolabe::ffi::NO_ROW));
     assert_eq!(defined("MAX_PLANNED_RECORDS"), astrolabe::plan::MAX_RECORDS.to_string());
     assert_eq!(defined("MAX_BUDGET"), astrolabe::MAX_BUDGET.to_string());
     assert_eq!((defined("NO_LIMIT"), astrolabe::NO_LIMIT), ("UINT64_MAX", u64::MAX));
