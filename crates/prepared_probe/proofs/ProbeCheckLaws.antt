@@ -19,7 +19,7 @@ use Rattle.model.specs.State.{State, stateOf}
 use Rattle.model.specs.Valid.{ValidBox, ValidTable}
 use Rattle.model.proofs.CheckLaws.{bits-all, first-go, first-none, first-stop, inRange-all, narrow-all, numbered, shape-test, size-test}
 use Rattle.prepared_box.proofs.OursLaws.{is-ours, ours-is}
-use Rattle.reducer.proofs.OpenCallLaws.{model-refuses, own-fault}
+use Rattle.open_checks.proofs.RefusalLaws.{model-refuses, own-fault}
 use Rattle.semantics.specs.Call.{callOf, hasBudget, hasRow, hasTable, hasVariable, isUnknown, kindOf}
 use Rattle.semantics.specs.CallChecks.{callFault, lentTable, recordChecks}
 use Rattle.semantics.proofs.Accepted.{modelFaultOf}

@@ -1,9 +1,9 @@
 -- What a probe of a prepared model needs: the rows to look at in a side, what a side's and a probe's answer say, and what is kept.
-use Prim.Native.Nat.{_*_, _+_, _<_, _≤_, ℕ}
+use Prim.Native.Nat.{_*_, _+_, _<_, ℕ}
 use denote.Enum.Declared.{tagOf}
 use lib.Dec.{T, T-not}
-use lib.IntN.{pos, ℤ}
-use mathlib.Core.Bool.{Bool, _||_, false, not, true}
+use lib.IntN.{ℤ}
+use mathlib.Core.Bool.{_||_, false, not, true}
 use mathlib.Core.List.{List, [], _∷_}
 use mathlib.Core.Logic.{⊎-elim}
 use mathlib.Core.Path.{_∙_, _≡_, ap, refl, subst, sym}
@@ -18,7 +18,6 @@ use Rattle.model.specs.Rows.{Rows}
 use Rattle.model.specs.Valid.{Between, ValidBox}
 use Rattle.model.proofs.BoxLaws.{at-boxOf, empty-is, isEmpty→eq, nonEmpty-isn't}
 use Rattle.prepared_propagation.specs.Known.{Known}
-use Rattle.prepared_row.specs.Visit.{Sized}
 use Rattle.probing.specs.Results.{probingOf}
 use Rattle.probing.specs.declared.sides.Probing.{Probing}
 use Rattle.probing.specs.declared.sides.Probing.the-variants as probing

@@ -1,5 +1,5 @@
-// The checks of a prepared probe, in 01's order: those of what it is lent, then its own (13 to 15). The rows were checked
-// when they were prepared.
+// The checks of a prepared probe, in 01's order: those of what it is lent, then its own (13 to 15). The rows were
+// checked when they were prepared.
 use buffer_checks::is_bits;
 use call::checks::probe_fields_fault;
 use prepared_box::checks::box_fault;

@@ -1,8 +1,8 @@
-// The open call `probe` of a prepared model (01's probe): a model that `prepare` wrote into a workspace, a lent box and a
-// lent table. Only rows are looked at that may move a bound of a side. W, B and t are what is lent, W', B' and t' what is
-// left. Of any workspace: `refused` and `accepted`. Of one that is prepared for the rows A, whichever they are:
-// `defined`, the answer, the counts, the box and the table are those of `perform`, and `prepared`, it still is. What the
-// answer means is then that of `reducer::calls::probe` (`promised-ends`). A probe tells no reasons.
+// The open call `probe` of a prepared model (01's probe): a model that `prepare` wrote into a workspace, a lent box and
+// a lent table. Only rows are looked at that may move a bound of a side. W, B and t are what is lent, W', B' and t'
+// what is left. Of any workspace: `refused` and `accepted`. Of one that is prepared for the rows A, whichever they are:
+// `defined`, the answer, the counts, the box and the table are those of `perform`, and `prepared`, it still is. What
+// the answer means is then that of `reducer::calls::probe` (`promised-ends`). A probe tells no reasons.
 mod checks;
 mod sides;
 

@@ -33,9 +33,9 @@ ghost use Rattle.workspace.specs.Prepared.{Prepared};
 ghost use Rattle.prepared_probe.specs.Kept.{Keeps};
 ghost use Rattle.prepared_probe.specs.Sides.{Boxed, InRange, SideLeft};
 
-// A side, fixed already, is propagated: the rows to look at are those of the box that the workspace knows, and those that
-// hear of a bound in which the side differs from it. One that is infeasible is left empty, whatever the workspace holds:
-// `join` tells the sides apart by it.
+// A side, fixed already, is propagated: the rows to look at are those of the box that the workspace knows, and those
+// that hear of a bound in which the side differs from it. One that is infeasible is left empty, whatever the workspace
+// holds: `join` tells the sides apart by it.
 fn propagate_side(
     n: usize,
     m: usize,

@@ -13,7 +13,6 @@ use native.Mathlib.Omega.{arith}
 use Rattle.call.specs.FieldChecks.{probeChecks}
 use Rattle.integer.proofs.Tests.{eqb-test, test-false, test-true, told-false, told-true}
 use Rattle.model.specs.Checks.{bits, boxChecks, first, table, tableByteChecks}
-use Rattle.model.specs.Valid.{ValidBox}
 use Rattle.model.proofs.CheckLaws.{ends, fails, goes, past, stops}
 use Rattle.prepared_box.proofs.OursLaws.{ours-is}
 use Rattle.workspace.specs.Layout.{isOurs, variablesOf}

@@ -2,15 +2,13 @@
 -- rows. Assumes nothing.
 use borrow.Author.Needs.{needs}
 use lib.IntN.{ℤ}
-use mathlib.Core.Bool.{false, true}
+use mathlib.Core.Bool.{false}
 use mathlib.Core.List.{List, []}
 use mathlib.Core.Logic.{inl}
 use mathlib.Core.Path.{_∙_, _≡_, refl}
-use Prim.Native.Nat.{ℕ}
 use Rattle.integer.proofs.Tests.{false→T}
 use Rattle.model.specs.Box.{emptyBox}
 use Rattle.model.specs.Rows.{Rows}
-use Rattle.prepared_propagation.specs.Known.{Known}
 use Rattle.prepared_row.specs.Visit.{Looking}
 use Rattle.probing.proofs.ProbingLoops.{is-none, is-some}
 use Rattle.propagation.specs.Results.{propagationOf}

@@ -1,6 +1,6 @@
 -- `prepared_probe::sides::try_sides`: the sides stand in the fronts of their arrays, as the propagated fixes, and are joined. Assumes
 -- nothing.
-use Prim.Native.Nat.{_*_, _≤_, ℕ}
+use Prim.Native.Nat.{_*_}
 use borrow.Author.Needs.{needs}
 use lib.IntN.{ℤ}
 use lib.ListN.{drop, length, take}
