@@ -1,6 +1,6 @@
 // The calls that tell size and passes beforehand. They write nothing but the answer.
 use crate::ANSWER;
-use crate::books::trailer_fault;
+use book_replies::books::trailer_fault;
 use plan::buffers::lengths;
 use plan::list::passes;
 use plan::width;

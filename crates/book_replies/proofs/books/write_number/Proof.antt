@@ -1,9 +1,9 @@
--- `capi::books::write_number`: each case has its number. Assumes nothing.
+-- `book_replies::books::write_number`: each case has its number. Assumes nothing.
 use borrow.Author.Needs.{needs}
 use Rattle.book.specs.Answers.{writeAnswer}
 use Rattle.replies.specs.Replies.{bookReply, returned}
-use Rattle.capi.proofs.books.write_number.Statement.{statement}
-use Rattle.capi.proofs.books.write_number.Tie as tie
+use Rattle.book_replies.proofs.books.write_number.Statement.{statement}
+use Rattle.book_replies.proofs.books.write_number.Tie as tie
 
 enum-known-a : tie.Need-enum-known-a
 enum-known-a c = search needs

@@ -1,4 +1,4 @@
--- `capi::sparse_books::read_fault`: the checks before the lengths, else 5. Assumes nothing.
+-- `book_replies::sparse_books::read_fault`: the checks before the lengths, else 5. Assumes nothing.
 use mathlib.Core.Bool.{false}
 use mathlib.Core.Path.{refl}
 use Rattle.model.proofs.CheckLaws.{fails, goes, stops}
@@ -6,8 +6,8 @@ use Rattle.replies.specs.Replies.{wrongLength}
 use Rattle.sparse_layout.specs.SparseChecks.{sparseLayoutChecks}
 use Rattle.sparse_layout.proofs.SparseAcceptLaws.{sparse-layout-numbered}
 use borrow.Author.Needs.{needs}
-use Rattle.capi.proofs.sparse_books.read_fault.Statement.{statement}
-use Rattle.capi.proofs.sparse_books.read_fault.Tie as tie
+use Rattle.book_replies.proofs.sparse_books.read_fault.Statement.{statement}
+use Rattle.book_replies.proofs.sparse_books.read_fault.Tie as tie
 
 layout-fault-requires : tie.Need-layout-fault-requires
 layout-fault-requires c κs = search needs

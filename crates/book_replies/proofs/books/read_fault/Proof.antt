@@ -1,4 +1,4 @@
--- `capi::sparse_books::measure_fault`: the checks before the lengths, else 5. Assumes nothing.
+-- `book_replies::books::read_fault`: the checks before the lengths, else 5. Assumes nothing.
 use mathlib.Core.Bool.{false}
 use mathlib.Core.Path.{refl}
 use Rattle.model.proofs.CheckLaws.{fails, goes, stops}
@@ -6,8 +6,8 @@ use Rattle.replies.specs.Replies.{wrongLength}
 use Rattle.book.specs.BookChecks.{headChecks}
 use Rattle.book.proofs.AcceptLaws.{head-numbered}
 use borrow.Author.Needs.{needs}
-use Rattle.capi.proofs.sparse_books.measure_fault.Statement.{statement}
-use Rattle.capi.proofs.sparse_books.measure_fault.Tie as tie
+use Rattle.book_replies.proofs.books.read_fault.Statement.{statement}
+use Rattle.book_replies.proofs.books.read_fault.Tie as tie
 
 head-fault-requires : tie.Need-head-fault-requires
 head-fault-requires c κs = search needs
@@ -20,5 +20,5 @@ returns-2 : tie.Need-returns-2
 unfolding wrongLength
 returns-2 c = goes (headChecks _) _ (head-numbered _) (c .before .head-fault .ensures) (c .if1 .left) (fails false 5 _ refl)
 
-pub measure-fault-spec : {M : Type 1} → statement M
-measure-fault-spec = tie.close (tie.spec head-fault-requires returns returns-2)
+pub read-fault-spec : {M : Type 1} → statement M
+read-fault-spec = tie.close (tie.spec head-fault-requires returns returns-2)

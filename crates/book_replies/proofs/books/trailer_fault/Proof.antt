@@ -1,11 +1,11 @@
--- `capi::books::trailer_fault`: 1 is the only check of a trailer that comes before the lengths. Assumes nothing.
+-- `book_replies::books::trailer_fault`: 1 is the only check of a trailer that comes before the lengths. Assumes nothing.
 use borrow.Author.Tests.{le-leb, lt-leb}
 use mathlib.Core.Bool.{false}
 use mathlib.Core.Path.{refl}
 use Rattle.model.proofs.CheckLaws.{fails, past}
 use Rattle.replies.specs.Replies.{wrongLength}
-use Rattle.capi.proofs.books.trailer_fault.Statement.{statement}
-use Rattle.capi.proofs.books.trailer_fault.Tie as tie
+use Rattle.book_replies.proofs.books.trailer_fault.Statement.{statement}
+use Rattle.book_replies.proofs.books.trailer_fault.Tie as tie
 
 returns : tie.Need-returns
 unfolding wrongLength

@@ -1,10 +1,10 @@
--- `capi::sparse_books::length_reply`: each case has its numbers. Assumes nothing.
+-- `book_replies::sparse_books::length_reply`: each case has its numbers. Assumes nothing.
 use Rattle.replies.specs.Replies.{replyOf}
 use Rattle.sparse.specs.SparseCalls.{lengthAnswer}
-use Rattle.capi.specs.SparseExports.{lengthReply}
+use Rattle.book_replies.specs.SparseReplies.{lengthReply}
 use borrow.Author.Needs.{needs}
-use Rattle.capi.proofs.sparse_books.length_reply.Statement.{statement}
-use Rattle.capi.proofs.sparse_books.length_reply.Tie as tie
+use Rattle.book_replies.proofs.sparse_books.length_reply.Statement.{statement}
+use Rattle.book_replies.proofs.sparse_books.length_reply.Tie as tie
 
 enum-known-a : tie.Need-enum-known-a
 enum-known-a c = search needs
