@@ -15,7 +15,7 @@ ghost use Rattle.workspace.specs.Prepared.{Prepared};
 ghost use Rattle.prepared_box.specs.TakenBox.{Taken};
 
 // The variables of a block.
-const BLOCK: usize = 16;
+const BLOCK: usize = 32;
 
 // Whether a bound differs from place `from` on and below `to`.
 fn differ(old: &[i32], new: &[i32], from: usize, to: usize) -> bool
