@@ -1,5 +1,5 @@
-// The box that the workspace knows becomes the lent one, and the rows that hear of a bound that differs are to be looked
-// at too. Most bounds are the same: blocks of variables are compared first, each in a loop without a branch.
+// The box that the workspace knows becomes the lent one, and the rows that hear of a bound that differs are to be
+// looked at too. Most bounds are the same: blocks of variables are compared first, each in a loop without a branch.
 use prepared_row::notes::differs_at;
 use prepared_row::notes::note_at;
 use workspace::read_box;

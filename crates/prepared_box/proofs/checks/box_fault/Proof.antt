@@ -6,7 +6,6 @@ use lib.Dec.{T}
 use lib.IntN.{_+ℤ_, _-ℤ_, ℤ}
 use lib.ListN.{length}
 use lib.Signed.{_≤ℤ_, leZ}
-use mathlib.Core.Bool.{_||_, true}
 use mathlib.Core.List.{List}
 use mathlib.Core.Path.{_∙_, _≡_, sym}
 use native.Mathlib.Decide.{ℕ-discrete}

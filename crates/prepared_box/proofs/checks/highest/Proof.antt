@@ -1,9 +1,7 @@
 -- `checks::highest`: 28,671 and 4,096 are 32,767. Assumes nothing.
-use lib.Dec.{T}
 use lib.IntN.{_+ℤ_, pos, ℤ}
 use lib.Signed.{_<ℤ_, _≤ℤ_, leZ}
-use mathlib.Core.Bool.{false, true}
-use mathlib.Core.Path.{_∙_, _≡_, sym}
+use mathlib.Core.Path.{_≡_}
 use mir.Facts.{toZ-ofZ}
 use mir.Syntax.{w32}
 use mir.Val.{SFits}

@@ -1,5 +1,5 @@
 -- `checks::is_plain`: the flag is `all` of the tests made so far. Assumes nothing.
-use Prim.Native.Nat.{_*_, _+_, _/_, _-_, _≤_}
+use Prim.Native.Nat.{_/_, _-_, _≤_}
 use lib.ListN.{length}
 use mathlib.Core.Path.{_∙_, _≡_, refl}
 use mir.Facts.{toZ-ofZ}
