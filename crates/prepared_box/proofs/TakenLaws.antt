@@ -4,11 +4,11 @@ use Prim.Native.Nat.{_*_, _+_, _<_, _≤_, ℕ}
 use lib.IntN.{ℤ}
 use lib.ListN.{length}
 use mathlib.Core.List.{List}
-use mathlib.Core.Logic.{_⊎_, inl, inr, ⊎-elim}
+use mathlib.Core.Logic.{inl, inr, ⊎-elim}
 use mathlib.Core.Path.{_∙_, _≡_, refl, sym}
 use native.Mathlib.Decide.{decLt}
 use native.Mathlib.Omega.{arith}
-use Rattle.model.specs.Box.{NonEmpty, at, lower, upper, withBounds}
+use Rattle.model.specs.Box.{lower, upper, withBounds}
 use Rattle.model.specs.Rows.{Rows}
 use Rattle.model.proofs.BoxLaws.{box-ext}
 use Rattle.model.proofs.BoxLoops.{length-withBounds, lower-withBounds, upper-withBounds, withBounds-other}

@@ -1,5 +1,5 @@
-// The box that the workspace knows becomes the lent one, and the rows that hear of a bound that differs are to be looked
-// at too. Most bounds are the same: blocks of variables are compared first, each in a loop without a branch.
+// The box that the workspace knows becomes the lent one, and the rows that hear of a bound that differs are to be
+// looked at too. Most bounds are the same: blocks of variables are compared first, each in a loop without a branch.
 use prepared_row::notes::differs_at;
 use prepared_row::notes::note_at;
 use workspace::read_box;
@@ -15,7 +15,7 @@ ghost use Rattle.workspace.specs.Prepared.{Prepared};
 ghost use Rattle.prepared_box.specs.TakenBox.{Taken};
 
 // The variables of a block.
-const BLOCK: usize = 16;
+const BLOCK: usize = 32;
 
 // Whether a bound differs from place `from` on and below `to`.
 fn differ(old: &[i32], new: &[i32], from: usize, to: usize) -> bool

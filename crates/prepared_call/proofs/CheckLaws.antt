@@ -4,16 +4,14 @@ use Prim.Native.Nat.{_*_, ℕ}
 use lib.Dec.{T, eqb, eqb→eq, leb}
 use lib.IntN.{ℤ}
 use lib.ListN.{length}
-use mathlib.Core.Bool.{Bool, _&&_, _||_, cond, false, true}
-use mathlib.Core.List.{List, [], _++_, _∷_}
+use mathlib.Core.Bool.{Bool, _&&_, false, true}
+use mathlib.Core.List.{List, [], _∷_}
 use mathlib.Core.Logic.{⊎-elim, inl, inr}
 use mathlib.Core.Path.{_∙_, _≡_, ap, refl, sym}
-use native.Mathlib.Omega.{arith}
 use Rattle.call.specs.FieldChecks.{budgetChecks}
 use Rattle.integer.proofs.Parts.{zarith}
 use Rattle.integer.proofs.Tests.{T→true, and-l, and-r, eqb-test, or-cases, true→T}
-use Rattle.model.specs.Box.{isEmpty}
-use Rattle.model.specs.Checks.{bits, boxChecks, first, inRange, lengthChecks, modelChecks, modelFault, must, none, numberChecks, ordered, sizeChecks, tableByteChecks, tableLengthChecks}
+use Rattle.model.specs.Checks.{bits, boxChecks, first, inRange, lengthChecks, modelChecks, modelFault, must, none, numberChecks, sizeChecks, tableByteChecks, tableLengthChecks}
 use Rattle.model.specs.Limits.{maxBound, maxCoef, maxRhs, maxRows, maxVariables, minBound, minCoef, minRhs}
 use Rattle.model.specs.Model.{modelOf}
 use Rattle.model.specs.Rows.{Rows}

@@ -1,5 +1,5 @@
 -- An accepted call: what the passes came to is what the settle of the model comes to, and what is kept leaves the workspace prepared.
-use Prim.Native.Nat.{_*_, _+_, _<_, _≤_, suc, zero, ℕ}
+use Prim.Native.Nat.{_+_, suc, zero, ℕ}
 use lib.Dec.{T, T-not, ltb}
 use lib.IntN.{ℤ}
 use lib.ListN.{length, length-replicate, replicate, take}
@@ -22,14 +22,13 @@ use Rattle.propagation.specs.declared.Propagation.{Propagation}
 use Rattle.propagation.specs.declared.Propagation.the-variants as made
 use Rattle.row_set.specs.Readers.{Calm}
 use Rattle.semantics.specs.Perform.{Answer, propagated}
-use Rattle.semantics.specs.Propagate.{Propagated, converged, infeasible, isNone, lastLook, passTo, propagate, propagateFrom}
+use Rattle.semantics.specs.Propagate.{Propagated, converged, infeasible, isNone, passTo, propagate, propagateFrom}
 use Rattle.semantics.specs.Run.{answersNone, isRefused}
-use Rattle.workspace.specs.Layout.{boxIn, decode, rowsIn, variablesOf}
+use Rattle.workspace.specs.Layout.{decode, rowsIn, variablesOf}
 use Rattle.workspace.specs.Prepared.{Prepared}
 use Rattle.workspace.proofs.KeptLaws.{prepared-kept}
 use Rattle.prepared_call.specs.Core.{Accepting, Kept, Ran, Running}
 use Rattle.prepared_call.specs.PreparedCall.{Keeps, Propagates, infeasibleRow, preparedAnswer}
-use Rattle.prepared_call.specs.declared.PreparedPropagation.{PreparedPropagation}
 use Rattle.prepared_call.specs.declared.PreparedPropagation.the-variants as code
 
 -- ---- the passes

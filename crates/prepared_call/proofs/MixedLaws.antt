@@ -10,7 +10,7 @@ use mathlib.Core.Path.{_∙_, _≡_, ap, refl, subst, sym}
 use Rattle.model.specs.Rows.{Rows}
 use Rattle.model.specs.State.{State, stateOf, withBox}
 use Rattle.reducer.specs.OpenCalls.{performed}
-use Rattle.semantics.specs.Call.{Call, callOf, hasBudget, hasRow, hasTable, hasVariable, isUnknown, kindOf}
+use Rattle.semantics.specs.Call.{Call, callOf, hasTable, kindOf}
 use Rattle.semantics.specs.CallChecks.{callFault, lentTable, recordChecks}
 use Rattle.semantics.specs.Perform.{Answer, Performed, act, perform}
 use Rattle.semantics.specs.Run.{run, step}

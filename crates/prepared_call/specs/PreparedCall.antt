@@ -11,7 +11,7 @@ use Rattle.call.specs.FieldChecks.{budgetChecks}
 use Rattle.model.specs.Checks.{Check, boxChecks, first, must}
 use Rattle.model.specs.Rows.{Rows}
 use Rattle.model.specs.Valid.{ValidBox}
-use Rattle.prepared_propagation.specs.Reasons.{Reasons, noRow, reasonsOf}
+use Rattle.prepared_propagation.specs.Reasons.{noRow, reasonsOf}
 use Rattle.semantics.specs.Perform.{Answer, propagated, refused}
 use Rattle.semantics.specs.Propagate as ended
 use Rattle.semantics.specs.Run.{answersNone, isRefused}

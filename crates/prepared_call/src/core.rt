@@ -1,5 +1,5 @@
-// A prepared propagate call that is accepted: from the box that the workspace knows to the lent one, the passes, and what
-// is kept of them.
+// A prepared propagate call that is accepted: from the box that the workspace knows to the lent one, the passes, and
+// what is kept of them.
 use crate::PreparedPropagation;
 use model::MAX_BOX;
 use prepared_box::taken::take_box;

@@ -1,8 +1,8 @@
-// The prepared propagate call (01's settle), open to all: a model that `prepare` wrote into a workspace, and a lent box.
-// Only rows are looked at that may move a bound, given the box that the last call left. W is the workspace, B the box and
-// R the list of reasons before the call. Of any workspace: `refused`, and `accepted` as far as it does not ask for a
-// prepared one. Of one that is prepared for the rows A, whichever they are: `defined`, the answer, the counts and the box
-// are those of `perform` on the model with the lent box, and `prepared`, it still is prepared for them.
+// The prepared propagate call (01's settle), open to all: a model that `prepare` wrote into a workspace, and a lent
+// box. Only rows are looked at that may move a bound, given the box that the last call left. W is the workspace, B the
+// box before the call. Of any workspace: `refused`, and `accepted` as far as it does not ask for a prepared one. Of one
+// that is prepared for the rows A, whichever they are: `defined`, the answer, the counts and the box are those of
+// `perform` on the model with the lent box, and `prepared`, it still is prepared for them.
 mod checks;
 mod core;
 
@@ -30,7 +30,7 @@ pub enum PreparedPropagation {
     BudgetSpent(u32, u32),
 }
 
-// Propagates all rows in at most `budget` passes. Refused by 5 (workspace, 2n bounds, 0 or 2n reasons), 6, 7, 23 and 15.
+// Propagates all rows in at most `budget` passes. Refused by 5 (workspace, 2n bounds, 0 or 2n reasons), 6, 7, 23, 15.
 pub fn propagate(
     ws: &mut [u32],
     bounds: &mut [i32],

@@ -1,8 +1,7 @@
 -- `taken::take_all`: the invariant is `Taken` of the blocks so far; a block in which no bound differs is passed over (`taken-same`).
 -- Assumes nothing.
-use Prim.Native.Nat.{_*_, _+_, _-_, _<_, _≤_, ℕ}
-use lib.ListN.{length}
-use mathlib.Core.Path.{_∙_, _≡_, sym}
+use Prim.Native.Nat.{_*_, _+_, _-_, _≤_}
+use mathlib.Core.Path.{_∙_, _≡_}
 use native.Mathlib.Omega.{arith}
 use Rattle.prepared_box.specs.TakenBox.{Taken}
 use Rattle.prepared_box.proofs.TakenLaws.{taken-join, taken-none, taken-same}

@@ -1,7 +1,6 @@
 -- `taken::take_block`: the invariant is `Taken` of the variables so far; one that differs is noted (`taken-one`), any other is passed
 -- over (`taken-same`). Assumes nothing.
-use Prim.Native.Nat.{_*_, _+_, _-_, _<_, _≤_, ℕ}
-use lib.ListN.{length}
+use Prim.Native.Nat.{_-_, _≤_, ℕ}
 use mathlib.Core.Logic.{⊎-elim}
 use mathlib.Core.Path.{_∙_, _≡_, sym}
 use native.Mathlib.Omega.{arith}

@@ -1,13 +1,7 @@
 -- `taken::take_box`: from the box and the set that are kept, all variables get their new bounds (`taken-all`, `taken-calm`).
 -- Assumes nothing.
-use Prim.Native.Nat.{ℕ}
 use borrow.Author.Needs.{needs}
-use lib.IntN.{ℤ}
-use mathlib.Core.List.{List}
-use mathlib.Core.Path.{_≡_, sym}
-use Rattle.workspace.specs.Layout.{boxIn, dirtyOf}
 use Rattle.workspace.proofs.DecodeLaws.{length-box}
-use Rattle.prepared_box.specs.TakenBox.{Taken}
 use Rattle.prepared_box.proofs.TakenLaws.{taken-all, taken-calm}
 use Rattle.prepared_box.proofs.taken.take_box.Statement.{statement}
 use Rattle.prepared_box.proofs.taken.take_box.Tie as tie

@@ -2,8 +2,8 @@
 -- where that is not None (`empty-is-none`, `infeasible-is`, `converged-is`, `spent-is`). Assumes nothing.
 use Prim.Native.Nat.{ℕ}
 use borrow.Author.Needs.{needs}
-use lib.ListN.{length, replicate}
-use mathlib.Core.Bool.{false, true}
+use lib.ListN.{length}
+use mathlib.Core.Bool.{false}
 use mathlib.Core.Path.{_∙_, _≡_, refl, sym}
 use Rattle.model.specs.Box.{isEmpty}
 use Rattle.workspace.specs.Layout.{variablesOf}
