@@ -377,8 +377,8 @@ class Wrapper(unittest.TestCase):
         texts = [path.read_text(encoding="utf-8") for path in (ROOT / "rust/src").glob("*.rs") if path.name != "ffi.rs"]
         item = r"^ *pub (?:const fn|fn|const|struct|enum) (\w+)"
         names = {name for text in texts for name in re.findall(item, text, re.M)} - set(self.OTHERWISE)
-        owners = [astrolabe, plan, Model, Call, Ties, Refusal, Verdict, Clique, Refusal(1), Ties(1), Model([0, 1], [], []), Prepared]
-        owners += [Propagated]
+        owners = [astrolabe, plan, Model, Call, Ties, Refusal, Verdict, Clique, Prepared, Propagated, Refusal(1), Ties(1)]
+        owners.append(Model([0, 1], [], []))
         missing = {name for name in names if not any(hasattr(owner, name) for owner in owners)}
         self.assertEqual(missing, set())
 
