@@ -2,7 +2,7 @@
  * A real solver calls the library at every node: GLPK's branch and cut, three times side by side,
  *     raw                     the model as the file has it,
  *     reduced at the root     after astrolabe_rounds, with the same columns and the same objective,
- *     reduced at every node   the same, and astrolabe_propagate in GLPK's callback at GLP_IPREPRO.
+ *     reduced at every node   the same, prepared once and propagated in GLPK's callback at GLP_IPREPRO.
  * The optimum must be the same three times.
  *
  *     cc -std=c99 -Iinclude examples/glpk.c target/staticlib/libcapi.a -lglpk -lm -o glpk
@@ -30,9 +30,15 @@ typedef struct {
     uint8_t kinds[MAX_M], table[4 * MAX_N * MAX_N];
 } Model;
 
+/* A model that was prepared, for the calls at the nodes. */
+typedef struct {
+    size_t n;
+    uint32_t workspace[ASTROLABE_WORKSPACE_LEN];
+} Prepared;
+
 /* What the callback needs at a node. */
 typedef struct {
-    const Model *model; /* NULL: no propagation */
+    Prepared *prepared; /* NULL: no propagation */
     int last_row;       /* an empty row, 0 >= 0; made 0 >= 1 it ends a node that has no integer point */
     int nodes;
     unsigned infeasible;
@@ -144,33 +150,41 @@ static glp_prob *with_model(glp_prob *raw, const Model *model)
     return problem;
 }
 
+/* Prepares the rows for the nodes, once: from then on a call is lent the workspace and a box only. */
+static void prepare(Prepared *prepared, const Model *model)
+{
+    size_t n = model->n, m = model->m;
+    uint32_t refused = astrolabe_prepare(n, m, model->bounds, 2 * n, model->coefs, m * n, model->rhs, m,
+                                         model->kinds, m, prepared->workspace, ASTROLABE_WORKSPACE_LEN);
+    stop_refused(refused);
+    prepared->n = n;
+}
+
 /*
  * All that the library does at a node: it narrows the box. Whether there can be an integer point; moved says whether a bound
- * did. The rows are lent as they are at every node; a prepared model (issue 30), which keeps what is known of the rows from
- * node to node, is to take the place of this one call.
+ * did. GLPK goes through its nodes in an order of its own, and the workspace takes them in any. No reasons are asked for.
  */
-static int narrow(const Model *model, int32_t *box, int *moved)
+static int narrow(Prepared *prepared, int32_t *box, int *moved)
 {
     uint64_t answer[ASTROLABE_ANSWER_LEN];
-    size_t n = model->n, m = model->m;
-    uint32_t refused = astrolabe_propagate(n, m, box, 2 * n, model->coefs, m * n, model->rhs, m,
-                                           model->kinds, m, BUDGET, answer, ASTROLABE_ANSWER_LEN);
+    uint32_t refused = astrolabe_prepared_propagate(prepared->workspace, ASTROLABE_WORKSPACE_LEN, box, 2 * prepared->n,
+                                                    BUDGET, NULL, 0, answer, ASTROLABE_ANSWER_LEN);
     stop_refused(refused);
     *moved = answer[2] > 0;
     return answer[0] != ASTROLABE_PROPAGATE_INFEASIBLE;
 }
 
 /* Propagates the node's box and hands the narrower bounds back to GLPK. */
-static void propagate(const Model *model, glp_prob *problem, Search *search)
+static void propagate(Prepared *prepared, glp_prob *problem, Search *search)
 {
     int32_t box[2 * MAX_N];
     int moved;
-    size_t n = model->n;
+    size_t n = prepared->n;
     for (size_t j = 0; j < n; j++) { /* whole: GLPK branches between whole numbers */
         box[2 * j] = (int32_t)glp_get_col_lb(problem, (int)j + 1);
         box[2 * j + 1] = (int32_t)glp_get_col_ub(problem, (int)j + 1);
     }
-    if (!narrow(model, box, &moved)) {
+    if (!narrow(prepared, box, &moved)) {
         search->infeasible++;
         glp_set_row_bnds(problem, search->last_row, GLP_LO, 1, 0);
     } else if (moved) {
@@ -183,16 +197,16 @@ static void at_node(glp_tree *tree, void *info)
 {
     Search *search = info;
     glp_ios_tree_size(tree, NULL, NULL, &search->nodes);
-    if (glp_ios_reason(tree) == GLP_IPREPRO && search->model)
-        propagate(search->model, glp_ios_get_prob(tree), search);
+    if (glp_ios_reason(tree) == GLP_IPREPRO && search->prepared)
+        propagate(search->prepared, glp_ios_get_prob(tree), search);
 }
 
 /* One search, and its line. The optimum, or infinity where there is no integer point. */
-static double solve(const char *way, glp_prob *original, const Model *model)
+static double solve(const char *way, glp_prob *original, Prepared *prepared)
 {
     glp_prob *problem = glp_create_prob();
     glp_copy_prob(problem, original, GLP_ON);
-    Search search = {model, glp_add_rows(problem, 1), 0, 0};
+    Search search = {prepared, glp_add_rows(problem, 1), 0, 0};
     glp_set_row_bnds(problem, search.last_row, GLP_LO, 0, 0);
 
     glp_iocp options;
@@ -220,6 +234,7 @@ static double solve(const char *way, glp_prob *original, const Model *model)
 int main(int count, char **words)
 {
     static Model model;
+    static Prepared prepared;
     if (count != 2)
         stop("one MPS file, please");
     glp_term_out(GLP_OFF);
@@ -236,7 +251,8 @@ int main(int count, char **words)
     }
     glp_prob *reduced = with_model(raw, &model);
     double second = solve("reduced at the root", reduced, NULL);
-    double third = solve("reduced at every node", reduced, &model);
+    prepare(&prepared, &model);
+    double third = solve("reduced at every node", reduced, &prepared);
     glp_delete_prob(reduced);
     glp_delete_prob(raw);
     int same = (isinf(first) && isinf(second) && isinf(third)) ||

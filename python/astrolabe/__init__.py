@@ -30,12 +30,15 @@ from typing import NamedTuple
 
 from . import plan
 from ._library import TRAILER_LEN, VERSION, Lent, Refusal, call, call_without_answer
+from .answer import Class, Counts, Probe, Propagation, Rest, Rounds, RowPropagation, Side
 from .calls import Call
+from .prepared import Bound, Moved, Prepared, Propagated
 from .shared import Rows
 from .ties import CircularTies, Ties
 
-__all__ = ["Call", "CircularTies", "Class", "Clique", "Counts", "Model", "Probe", "Propagation", "Refusal", "Rest", "Rounds", "Row", "RowKind"]
-__all__ += ["RowPropagation", "Rows", "Side", "Ties", "Verdict", "book_size", "book_to_sparse", "plan", "sparse_size", "sparse_to_book"]
+__all__ = ["Bound", "Call", "CircularTies", "Class", "Clique", "Counts", "Model", "Moved", "Prepared", "Probe", "Propagated", "Propagation"]
+__all__ += ["Refusal", "Rest", "Rounds", "Row", "RowKind", "RowPropagation", "Rows", "Side", "Ties", "Verdict"]
+__all__ += ["book_size", "book_to_sparse", "plan", "sparse_size", "sparse_to_book"]
 __all__ += ["MAX_BUDGET", "MAX_PROPOSALS", "MAX_ROWS", "MAX_VARIABLES", "MAX_WIDTH", "NO_LIMIT", "PAGE", "VERSION"]
 
 MAX_VARIABLES, MAX_ROWS, MAX_WIDTH, MAX_BUDGET, MAX_PROPOSALS = 128, 120, 4_096, 8_388_481, 64
@@ -46,62 +49,6 @@ PAGE = 4_860  # the bytes of a page
 class RowKind(IntEnum):
     AT_MOST = 0
     EQUAL = 1
-
-
-class RowPropagation(NamedTuple):
-    """`ending` is infeasible, tightened or unchanged."""
-    ending: str
-    moved: int
-
-
-class Propagation(NamedTuple):
-    """`ending` is infeasible, converged or budget_spent."""
-    ending: str
-    passes: int
-    moved: int
-
-
-class Side(NamedTuple):
-    passes: int
-    spent: bool
-    moved: int
-
-
-class Probe(NamedTuple):
-    """`ending` is infeasible, fixed (then `value` says to what) or both_feasible (then `new_implications` counts)."""
-    ending: str
-    value: int
-    new_implications: int
-    sides: tuple
-
-
-class Rest(NamedTuple):
-    """Whether the box is a probing fixpoint; of a no, the row or the variable that shows it."""
-    yes: bool
-    row: int | None = None
-    variable: int | None = None
-
-
-class Class(IntEnum):
-    """What a call of a list did. Its number is the place of its count among the four."""
-    REFUSED = 0
-    INFEASIBLE = 1
-    CHANGED = 2
-    UNCHANGED = 3
-
-
-class Counts(NamedTuple):
-    refused: int
-    infeasible: int
-    changed: int
-    unchanged: int
-
-
-class Rounds(NamedTuple):
-    """`ending` is infeasible, unchanged or limit_reached; `spent` says whether a probe's side was spent in the last round."""
-    ending: str
-    rounds: int
-    spent: bool
 
 
 class Clique(NamedTuple):
@@ -290,6 +237,10 @@ class Model:
         """The rows, to be shared by many boxes without a copy."""
         return Rows(self)
 
+    def _prepare_into(self, workspace):
+        """Checks the model and writes it into a workspace, for Prepared."""
+        call_without_answer("prepare", *self._model(), *workspace.pair)
+
     def implies(self, k, v, j, w):
         """Whether "variable k is v" is recorded to imply "variable j is w"."""
         return memoryview(self.table).cast("B")[(2 * k + int(v)) * 2 * self.n + 2 * j + int(w)] == 1
@@ -310,8 +261,7 @@ class Model:
 
     def propagate(self, budget):
         """Propagates all rows until nothing moves or the budget's passes are made (01's settle)."""
-        case, passes, moved, *_ = call("propagate", *self._model(), budget)
-        return Propagation(("infeasible", "converged", "budget_spent")[case], passes, moved)
+        return Propagation.of(call("propagate", *self._model(), budget))
 
     def probe(self, variable, budget):
         """Probes a free binary variable, and records what each side implies.
@@ -320,10 +270,7 @@ class Model:
         >>> model.probe(0, 1_000).new_implications, model.implies(0, True, 1, False)
         (2, True)
         """
-        case, value, *places = call("probe", *self._model(), *self._table.pair, variable, budget)
-        sides = tuple(Side(places[i], places[i + 1] == 1, places[i + 2]) for i in (0, 3))
-        ending = ("infeasible", "fixed", "both_feasible")[case]
-        return Probe(ending, value if case == 1 else 0, value if case == 2 else 0, sides)
+        return Probe.of(call("probe", *self._model(), *self._table.pair, variable, budget))
 
     def tighten_coefficient(self, row, variable):
         """Tightens a coefficient (01's sharpen); it then holds for this box and those inside it only.

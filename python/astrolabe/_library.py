@@ -6,6 +6,8 @@ import os
 VERSION = "0.1.0"
 ANSWER_LEN = 12
 TRAILER_LEN = 16
+WORKSPACE_LEN = 16_768
+NO_ROW = 2**32 - 1
 
 _SONAME = "libastrolabe.so." + VERSION.rsplit(".", 1)[0]
 
@@ -43,6 +45,9 @@ _ARGUMENTS = {
     "run": _MODEL + 2 * _BUFFER + _ANSWER,
     "run_classes": _MODEL + 3 * _BUFFER + _ANSWER,
     "rounds": _MODEL + _BUFFER + _LONG + _ANSWER,
+    "prepare": _MODEL + _BUFFER,
+    "prepared_propagate": 2 * _BUFFER + _NUMBER + _BUFFER + _ANSWER,
+    "prepared_probe": 3 * _BUFFER + 2 * _NUMBER + _ANSWER,
     "plan_lengths": _BUFFER + _ANSWER,
     "plan_width": _SIZE + _BUFFER + _ANSWER,
     "plan_run": _SIZE + 2 * _BUFFER + _ANSWER,

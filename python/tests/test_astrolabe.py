@@ -1,5 +1,7 @@
 """The module's tests: `python3 -m unittest discover -s python/tests`, with `python` on PYTHONPATH. The doctests run too."""
+import copy
 import doctest
+import random
 import re
 import threading
 import unittest
@@ -7,7 +9,8 @@ from array import array
 from pathlib import Path
 
 import astrolabe
-from astrolabe import Call, CircularTies, Class, Clique, Model, Refusal, RowKind, Ties, Verdict, _library, calls, plan, shared, ties
+from astrolabe import Bound, Call, CircularTies, Class, Clique, Model, Prepared, Propagated, Refusal, RowKind, Ties, Verdict
+from astrolabe import _library, calls, plan, prepared, shared, ties
 
 try:
     import numpy
@@ -19,7 +22,7 @@ HEADER = ROOT / "include" / "astrolabe.h"
 
 
 def load_tests(loader, tests, pattern):
-    for module in (astrolabe, calls, plan, shared, ties):
+    for module in (astrolabe, calls, plan, prepared, shared, ties):
         tests.addTests(doctest.DocTestSuite(module, optionflags=doctest.IGNORE_EXCEPTION_DETAIL))
     return tests
 
@@ -219,6 +222,116 @@ class Requests(unittest.TestCase):
         self.assertEqual((model.page_count(), len(lines), lines[1].rstrip()), (1, 60, "     0       0       1 -1"))
 
 
+class PreparedModels(unittest.TestCase):
+    """The calls at every branch say, count and leave what the plain ones do."""
+
+    @staticmethod
+    def small():
+        """x + y + z <= 2, x >= y and 2x + 3z = 3, all binary."""
+        return Model([0, 1] * 3, [1, 1, 1, -1, 1, 0, 2, 0, 3], [2, 0, 3], [0, 0, 1])
+
+    def test_a_walk_down_and_up_is_that_of_the_plain_calls(self):
+        numbers, endings = random.Random(31), set()
+        for _ in range(40):
+            n, m = numbers.randint(1, 12), numbers.randint(0, 8)
+            coefs = [numbers.choice((0, 0, numbers.randint(-9, 9))) for _ in range(m * n)]
+            rhs, kinds = [numbers.randint(-5, 12) for _ in range(m)], [int(numbers.random() < 0.2) for _ in range(m)]
+            root = Model([0, 1] * n, coefs, rhs, kinds)
+            model, path = Prepared(root), [array("i", root.bounds)]
+            for _ in range(40):
+                box = array("i", path[-1])
+                j = numbers.randrange(n)
+                box[2 * j + numbers.randrange(2)] = box[2 * j + numbers.randrange(2)]
+                box[2 * j], box[2 * j + 1] = sorted(box[2 * j:2 * j + 2])
+                if numbers.random() < 0.1:
+                    model = model.copy()
+                ending = self.compare(numbers, root, model, box)
+                endings.add(ending)
+                if ending == "infeasible" or numbers.random() < 0.2:
+                    del path[numbers.randint(1, len(path)):]  # up, by any number of branches
+                else:
+                    path.append(box)
+        self.assertEqual(endings, {"converged", "budget_spent", "infeasible", "fixed", "both_feasible"})
+
+    def compare(self, numbers, root, model, box):
+        """One call on the box, plain and prepared; the ending."""
+        before, rows, budget = list(box), (root.coefs, root.rhs, root.kinds), numbers.choice((1, 1_000))
+        free = [k for k in range(root.n) if before[2 * k:2 * k + 2] == [0, 1]]
+        if free and numbers.random() < 0.3:
+            plain, table, variable = Model(before, *rows), bytearray(4 * root.n**2), numbers.choice(free)
+            told = model.probe(box, table, variable, budget)
+            self.assertEqual((told, list(box), table), (plain.probe(variable, budget), list(plain.bounds), plain.table))
+            return told.ending
+        plain = Model(before, *rows)
+        told = model.propagate(box, budget)
+        self.assertEqual((told.propagation, list(box)), (plain.propagate(budget), list(plain.bounds)))
+        self.assertEqual((told.infeasible_row, told.reasons), self.by_rows(Model(before, *rows), told.propagation.passes))
+        return told.propagation.ending
+
+    @staticmethod
+    def by_rows(model, passes):
+        """The infeasible row and the reasons, by the plain call on one row after another."""
+        reasons = array("I", [_library.NO_ROW] * (2 * model.n))
+        for row in [*range(model.m)] * passes:
+            before = list(model.bounds)
+            if model.propagate_row(row).ending == "infeasible":
+                return row, reasons
+            for i, (old, new) in enumerate(zip(before, model.bounds)):
+                reasons[i] = row if old != new else reasons[i]
+        return None, reasons
+
+    def test_reasons_and_the_infeasible_row(self):
+        model = Prepared(self.small())
+        box = array("i", [0, 1] * 3)
+        told = model.propagate(box, 1_000)  # row 2: z is 1 and x is 0; then row 1: y is 0
+        self.assertEqual(list(told.moved()), [(0, Bound.UPPER, 2), (1, Bound.UPPER, 1), (2, Bound.LOWER, 2)])
+        self.assertEqual((list(box), told.infeasible_row), ([0, 0, 0, 0, 1, 1], None))
+        box = array("i", [0, 1, 1, 1, 0, 1])  # up again: y is 1, so x is 1 by row 1, and row 2 cannot be met
+        told = model.propagate(box, 1_000)
+        self.assertEqual((told.propagation.ending, told.infeasible_row, next(told.moved())), ("infeasible", 2, (0, Bound.LOWER, 1)))
+        told = model.propagate(box, 1_000)  # the empty box
+        self.assertEqual((told.propagation, told.infeasible_row, list(told.moved())), (("infeasible", 1, 0), None, []))
+
+    def test_a_copy_goes_its_own_way_and_threads_have_one_each(self):
+        root = Prepared(self.small())
+        boxes = [array("i", [0, 1, v, v, 0, 1]) for v in (0, 1)]
+        kept = list(root._workspace.owner)
+        copies = [root.copy(), copy.deepcopy(root)]
+        threads = [threading.Thread(target=one.propagate, args=(box, 9)) for one, box in zip(copies, boxes)]
+        for thread in threads:
+            thread.start()
+        for thread in threads:
+            thread.join()
+        self.assertEqual([list(box) for box in boxes], [[0, 0, 0, 0, 1, 1], [1, 0] * 3])
+        self.assertEqual((list(root._workspace.owner), copies[0].n), (kept, 3))
+
+    def test_refusals_and_wrong_buffers(self):
+        crossed = self.small()
+        crossed.set_bounds(0, 2, 1)
+        self.assertEqual(check_of(lambda: Prepared(crossed)), 7)
+        model, table = Prepared(self.small()), bytearray(36)
+        cases = [(5, [0, 1, 0, 1], 1), (6, [0, 1, 0, 1, 0, 40_000], 0), (7, [0, 1, 0, 1, 1, 0], 0), (23, [0, 1, 0, 1, 0, 4_097], 0),
+                 (15, [0, 1] * 3, 0)]
+        for check, bounds, budget in cases:
+            box = array("i", bounds)
+            self.assertEqual((check_of(lambda: model.propagate(box, budget)), list(box)), (check, bounds))
+        box = array("i", [0, 1, 0, 0, 0, 1])
+        self.assertEqual([check_of(lambda: model.probe(box, table, k, 0)) for k in (3, 1, 0)], [13, 14, 15])
+        for wrong in ([0, 1] * 3, array("q", [0, 1] * 3), bytes(24)):
+            with self.assertRaises(TypeError):
+                model.propagate(wrong, 1)
+        shared_memory = bytearray(36)
+        with self.assertRaises(ValueError):
+            model.probe(memoryview(shared_memory)[:24].cast("i"), shared_memory, 0, 1)
+
+    def test_a_workspace_that_is_not_ours_is_refused(self):
+        for place in range(3):
+            model, box = Prepared(self.small()), array("i", [0, 1] * 3)
+            model._workspace.owner[place] ^= 2**31
+            self.assertEqual((check_of(lambda: model.propagate(box, 9)), list(box)), (5, [0, 1] * 3))
+            self.assertEqual(check_of(lambda: model.probe(box, bytearray(36), 0, 9)), 5)
+
+
 class Header(unittest.TestCase):
     """The module says what include/astrolabe.h says."""
 
@@ -229,6 +342,8 @@ class Header(unittest.TestCase):
         version = ".".join(constants["VERSION_" + part] for part in ("MAJOR", "MINOR", "PATCH"))
         self.assertEqual(version, astrolabe.VERSION)
         self.assertEqual(int(constants["ANSWER_LEN"]), _library.ANSWER_LEN)
+        self.assertEqual(int(constants["WORKSPACE_LEN"]), _library.WORKSPACE_LEN)
+        self.assertIn(f"#define ASTROLABE_NO_ROW {_library.NO_ROW}u\n", text)
         for name in ("MAX_VARIABLES", "MAX_ROWS", "MAX_WIDTH", "MAX_BUDGET"):
             self.assertEqual(int(constants[name]), getattr(astrolabe, name))
         refusals = {int(number) for name, number in constants.items() if name.startswith("REFUSED_")}
@@ -262,7 +377,8 @@ class Wrapper(unittest.TestCase):
         texts = [path.read_text(encoding="utf-8") for path in (ROOT / "rust/src").glob("*.rs") if path.name != "ffi.rs"]
         item = r"^ *pub (?:const fn|fn|const|struct|enum) (\w+)"
         names = {name for text in texts for name in re.findall(item, text, re.M)} - set(self.OTHERWISE)
-        owners = [astrolabe, plan, Model, Call, Ties, Refusal, Verdict, Clique, Refusal(1), Ties(1), Model([0, 1], [], [])]
+        owners = [astrolabe, plan, Model, Call, Ties, Refusal, Verdict, Clique, Prepared, Propagated, Refusal(1), Ties(1)]
+        owners.append(Model([0, 1], [], []))
         missing = {name for name in names if not any(hasattr(owner, name) for owner in owners)}
         self.assertEqual(missing, set())
 

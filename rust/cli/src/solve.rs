@@ -43,7 +43,7 @@ mod with_glpk {
     use crate::reduce::make_rounds;
     use crate::report::Report;
     use crate::source::Source;
-    use astrolabe::{Model, RowKind};
+    use astrolabe::{Model, Prepared, RowKind};
     use std::fmt::Write;
     use std::path::Path;
 
@@ -62,11 +62,12 @@ mod with_glpk {
         }
         let (before, after) = (source.problem_of(raw), source.problem_of(&reduced));
         let cliques = reduced.cliques().map_err(refused)?;
+        let prepared = Prepared::new(&reduced).map_err(refused)?;
         let searches = [
             before.search(None)?,
             after.search(None)?,
             after.with_cliques(&cliques).search(None)?,
-            after.search(Some(reduced.shared_rows()))?,
+            after.search(Some(prepared))?,
         ];
         let linear = before.linear();
         let values = searches.each_ref().map(|search| value(search, raw, &linear));

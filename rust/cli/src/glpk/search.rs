@@ -2,7 +2,7 @@
 
 use super::{Problem, complaint, ffi, listen, place};
 use crate::failure::Failure;
-use astrolabe::{Propagation, Refusal, Rows};
+use astrolabe::{Prepared, Propagation, Refusal};
 use std::ffi::{c_int, c_void};
 use std::time::{Duration, Instant};
 
@@ -21,8 +21,8 @@ pub struct Search {
 }
 
 /// What the callback needs at a node.
-struct AtNode<'a> {
-    rows: Option<Rows<'a>>,
+struct AtNode {
+    prepared: Option<Prepared>,
     bounds: Vec<i32>,
     /// An empty row, `0 ≥ 0`; made `0 ≥ 1` it ends a node whose box has no integer point.
     last_row: c_int,
@@ -36,13 +36,13 @@ struct AtNode<'a> {
 const BUDGET: u32 = 1_000;
 
 impl Problem {
-    /// Searches a copy of the problem; with `rows`, whose columns are the problem's, propagates at every node.
-    pub fn search(&self, rows: Option<Rows<'_>>) -> Result<Search, Failure> {
+    /// Searches a copy of the problem; with a prepared model, whose columns are the problem's, propagates at every node.
+    pub fn search(&self, prepared: Option<Prepared>) -> Result<Search, Failure> {
         let mut problem = self.clone();
         let n = self.linear().columns.len();
         let last_row = place(problem.add_row("astrolabe_node"));
         let mut state = AtNode {
-            rows,
+            prepared,
             bounds: vec![0; 2 * n],
             last_row,
             nodes: 0,
@@ -99,25 +99,25 @@ extern "C" fn at_node(tree: *mut ffi::Tree, info: *mut c_void) {
     unsafe {
         let state = &mut *info.cast::<AtNode>();
         ffi::glp_ios_tree_size(tree, std::ptr::null_mut(), std::ptr::null_mut(), &mut state.nodes);
-        if ffi::glp_ios_reason(tree) == ffi::IPREPRO && state.rows.is_some() {
+        if ffi::glp_ios_reason(tree) == ffi::IPREPRO && state.prepared.is_some() {
             state.propagate(ffi::glp_ios_get_prob(tree));
         }
     }
 }
 
-/// All that the library does at a node: it narrows the box. The rows are lent as they are at every node; a prepared model
-/// (issue 30), which keeps what is known of the rows from node to node, is to take their place in this one call.
-fn narrow(rows: Rows, bounds: &mut [i32]) -> Result<Propagation, Refusal> {
-    rows.propagate(bounds, BUDGET)
+/// All that the library does at a node: it narrows the box. The rows were prepared once, at the root; GLPK goes through its
+/// nodes in an order of its own, and the boxes may come in any.
+fn narrow(prepared: &mut Prepared, bounds: &mut [i32]) -> Result<Propagation, Refusal> {
+    Ok(prepared.propagate(bounds, BUDGET)?.propagation)
 }
 
-impl AtNode<'_> {
+impl AtNode {
     /// Propagates the node's box and hands the narrower bounds back.
     ///
     /// # Safety
     /// The problem is the node's, and has the columns of the box and the last row.
     unsafe fn propagate(&mut self, prob: *mut ffi::Prob) {
-        let Some(rows) = self.rows else { return };
+        let Some(prepared) = &mut self.prepared else { return };
         for (j, pair) in self.bounds.chunks_exact_mut(2).enumerate() {
             // Whole: the root's bounds are, and GLPK branches between whole numbers.
             pair.copy_from_slice(&unsafe {
@@ -129,7 +129,7 @@ impl AtNode<'_> {
         }
         let before = self.bounds.clone();
         self.propagated += 1;
-        match narrow(rows, &mut self.bounds) {
+        match narrow(prepared, &mut self.bounds) {
             Err(refusal) => self.refused = Some(refusal),
             Ok(Propagation::Infeasible { .. }) => {
                 self.infeasible += 1;
