@@ -1,5 +1,6 @@
 // The open calls that may change a row: coefficient tightening and the removal of a redundant row. What holds of the
-// open calls of `reducer` holds of these: any input, refused by the number of the first check that fails, then unchanged.
+// open calls of `reducer` holds of these: any input, refused by the number of the first check that fails, then
+// unchanged.
 use call::Call;
 use call::REMOVE_ROW;
 use call::TIGHTEN_COEFFICIENT;

@@ -1,5 +1,5 @@
-// Row r of a matrix, for callers with plain slices, which need no proof by hand: propagated, or tested whether that would
-// move anything, where it stands.
+// Row r of a matrix, for callers with plain slices, which need no proof by hand: propagated, or tested whether that
+// would move anything, where it stands.
 use row::propagation::RowPropagation;
 use row_propagation::moves;
 use row_view::coefficients;

@@ -1,6 +1,7 @@
-// A model in memory: n variables and m rows over flat lent buffers. bounds: l and u of each variable in turn, 2n; coefs:
-// row after row, m · n; rhs and kinds: m; table: 4n² bytes. Here are its limits, and no code: what a model, a box, a row
-// and a point are, and which checks a model passes. The checks are made in `buffer_checks` and `model_checks`.
+// A model in memory: n variables and m rows over flat lent buffers. bounds: l and u of each variable in turn, 2n;
+// coefs: row after row, m · n; rhs and kinds: m; table: 4n² bytes. Here are its limits, and no code: what a model, a
+// box, a row and a point are, and which checks a model passes. The checks are made in `buffer_checks` and
+// `model_checks`.
 pub const MAX_VARIABLES: usize = 128;
 
 pub const MAX_ROWS: usize = 120;

@@ -2,8 +2,8 @@
 // check that fails and then changes nothing; everything else is accepted. In the contracts `s` is the state before
 // the call and `r'` the state after it. `defined`: the answer and every lent buffer afterwards are what `perform`
 // gives for the call made of the very n, m, numbers and buffer lengths handed over. `meaning`: what the answer means
-// for the points; `ending`: that the call ended within its budget. Every call is refused by the model's checks first, 3,
-// 5, 6, 7, 23, 8, 9 and 16 (`model_fault`), and then by those that its own comment names.
+// for the points; `ending`: that the call ended within its budget. Every call is refused by the model's checks first,
+// 3, 5, 6, 7, 23, 8, 9 and 16 (`model_fault`), and then by those that its own comment names.
 use call::Call;
 use call::PROPAGATE;
 use call::PROPAGATE_ROW;

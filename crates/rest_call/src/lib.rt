@@ -1,5 +1,5 @@
-// The open call that tests for the probing fixpoint (01's rest call), for any input. `meaning`: what a yes means; `found`:
-// what a no means.
+// The open call that tests for the probing fixpoint (01's rest call), for any input. `meaning`: what a yes means;
+// `found`: what a no means.
 use reducer::calls::RestAnswer;
 use rest::Rest;
 use rest::test_rest;
