@@ -1,5 +1,5 @@
-// How a propagation of a prepared model ends whose budget's passes are made (02, C-15): a look at the rows that may move a
-// bound, which is no pass and moves nothing.
+// How a propagation of a prepared model ends whose budget's passes are made (02, C-15): a look at the rows that may
+// move a bound, which is no pass and moves nothing.
 use prepared_row::visit::moves_at;
 use propagation::Propagation;
 use row_set::next_row;
