@@ -1,6 +1,6 @@
 // Prepared models: a model is checked once and written into a lent workspace; then a call at every branch is lent the
-// workspace and bounds. What is said of the answer is said of a workspace that is prepared for the rows A, whichever they
-// are; what is said of refusals, of any.
+// workspace and bounds. What is said of the answer is said of a workspace that is prepared for some rows; what is said
+// of refusals, of any.
 use prepare::prepare;
 use prepared_replies::exports::probe_said;
 use prepared_replies::exports::propagate_said;
