@@ -1,6 +1,6 @@
 /*
  * A small branch and bound without the bound: all integer points of a model, found by a depth-first
- * search that propagates at each node.
+ * search that propagates a prepared model at each node.
  *
  *     cc -std=c99 -Wall -Wextra -Iinclude examples/branch.c target/staticlib/libcapi.a -o branch
  *     ./branch | diff examples/branch.expected -
@@ -32,6 +32,9 @@ static const int32_t rhs[M] = {55, 3, 1, 0};
 
 static const uint8_t kinds[M] = {ASTROLABE_ROW_KIND_EQUAL}; /* the others, 0, are ASTROLABE_ROW_KIND_AT_MOST */
 
+/* The prepared model. One is enough for the whole tree: the boxes of its calls may come in any order. */
+static uint32_t workspace[ASTROLABE_WORKSPACE_LEN];
+
 static unsigned nodes, solutions;
 
 /* The first variable that is not fixed, or N. */
@@ -51,18 +54,28 @@ static void print_solution(const Box box)
     putchar('\n');
 }
 
+/* The bounds that the propagation moved, each with the row that moved it last: "x2>=1 by row 0". */
+static void print_moved(const Box box, const uint32_t *reasons)
+{
+    for (size_t i = 0; i < 2 * N; i++)
+        if (reasons[i] != ASTROLABE_NO_ROW)
+            printf(", x%u%s%d by row %u", (unsigned)(i / 2), i % 2 == 0 ? ">=" : "<=", (int)box[i], (unsigned)reasons[i]);
+}
+
 /* Propagates one node and searches below it. The box is the node's own copy. 0, or a refusal. */
 static uint32_t search(Box box, unsigned depth)
 {
     uint64_t answer[ASTROLABE_ANSWER_LEN];
-    uint32_t refused = astrolabe_propagate(N, M, box, 2 * N, coefs, M * N, rhs, M, kinds, M, BUDGET,
-                                           answer, ASTROLABE_ANSWER_LEN);
+    uint32_t reasons[2 * N];
+    uint32_t refused = astrolabe_prepared_propagate(workspace, ASTROLABE_WORKSPACE_LEN, box, 2 * N, BUDGET,
+                                                    reasons, 2 * N, answer, ASTROLABE_ANSWER_LEN);
     if (refused)
         return refused;
 
     printf("%*snode %u: ", 2 * (int)depth, "", ++nodes);
     if (answer[0] == ASTROLABE_PROPAGATE_INFEASIBLE) {
-        printf("infeasible, passes %u, moved %u\n", (unsigned)answer[1], (unsigned)answer[2]);
+        printf("infeasible by row %u, passes %u, moved %u\n", (unsigned)answer[3], (unsigned)answer[1],
+               (unsigned)answer[2]);
         return ASTROLABE_OK;
     }
     size_t j = first_unfixed(box);
@@ -70,7 +83,9 @@ static uint32_t search(Box box, unsigned depth)
         print_solution(box);
         return ASTROLABE_OK;
     }
-    printf("branch on x%u, passes %u, moved %u\n", (unsigned)j, (unsigned)answer[1], (unsigned)answer[2]);
+    printf("branch on x%u, passes %u, moved %u", (unsigned)j, (unsigned)answer[1], (unsigned)answer[2]);
+    print_moved(box, reasons);
+    putchar('\n');
 
     /* x <= middle on one branch, x > middle on the other; each searches its own copy of the bounds. */
     int32_t middle = box[2 * j] + (box[2 * j + 1] - box[2 * j]) / 2;
@@ -122,7 +137,10 @@ int main(void)
 {
     Box box;
     memcpy(box, root, sizeof box);
-    uint32_t refused = search(box, 0);
+    uint32_t refused = astrolabe_prepare(N, M, root, 2 * N, coefs, M * N, rhs, M, kinds, M,
+                                         workspace, ASTROLABE_WORKSPACE_LEN);
+    if (!refused)
+        refused = search(box, 0);
     if (refused) {
         fprintf(stderr, "refused by check %u\n", (unsigned)refused);
         return 2;

@@ -8,7 +8,8 @@
  * THE MODEL. n variables (1 to 128) with whole bounds, m rows (0 to 120), each row
  *     sum of coefficient x variable <= right-hand side, or
  *     sum of coefficient x variable  = right-hand side, by its kind.
- * It lives in the caller's memory, in flat buffers; nothing is kept between calls.
+ * It lives in the caller's memory, in flat buffers; nothing is kept between calls but what a caller's workspace
+ * holds of a prepared model.
  *
  *     buffer   type       count   what                                            range of each number
  *     bounds   int32_t    2n      l0 u0 l1 u1 ..: lower and upper bounds;         -32,768 .. 32,767,
@@ -24,11 +25,14 @@
  *                                 of the literal that holds just when variable j
  *                                 is 1. Start it with all 0
  *     calls    uint32_t   4 each  call records: kind, row, variable, budget       any
+ *     classes  uint8_t    1 each  what each record did: ASTROLABE_CLASS_..        0 .. 3
  *     proposals int32_t   n each  proposed allocations, one after the other       any
  *     verdicts uint32_t   2 each  what each proposal gets, see "Proposed
  *                                 allocations" below
  *     book     uint8_t    16+     a model as a file, see "Books" below
  *     pages    uint8_t    4,860 each  a model on paper, see "Pages for the floor" below
+ *     workspace uint32_t  16,768  a prepared model, see "Prepared models" below   any
+ *     reasons  uint32_t   0 or 2n the row that moved each bound, see there
  *     answer   uint64_t   12      the answer; places that a call does not use
  *                                 are set to 0
  *
@@ -57,7 +61,7 @@
  *     1 2 3 4 19 20 22 5 6 7 23 8 9 16 17 10 21 11 18 12 13 14 15
  * Each function's comment lists the checks that it makes, in its order. On a refusal no lent number
  * changes, the answer's places among them. All that is lent is checked in every call, so a model can be
- * changed freely between calls.
+ * changed freely between calls; of a workspace see "Prepared models".
  *
  * THE CALLER'S FAULT, which no check can see and for which nothing is promised:
  *     - a pointer that is NULL, or does not point to as many elements as its count says, where the
@@ -111,6 +115,8 @@ extern "C" {
 #define ASTROLABE_ANSWER_LEN 12
 /* The bytes of a book's trailer. */
 #define ASTROLABE_TRAILER_LEN 16
+/* The count of every workspace of a prepared model, whatever n and m are. */
+#define ASTROLABE_WORKSPACE_LEN 16768
 
 /* ---------------------------------------------------------------------------------------------
  * Refusals: 01's "Checks in their order", and 02's. Each function's comment has those that apply to it,
@@ -359,6 +365,85 @@ uint32_t astrolabe_tie(size_t n, size_t m,
                        uint64_t *answer, size_t answer_len);
 
 /* ---------------------------------------------------------------------------------------------
+ * Prepared models, for a call at every branch. astrolabe_prepare checks a model once and writes its rows into a
+ * lent workspace; the two other calls are then lent the workspace and bounds only. They say, count and leave what
+ * astrolabe_propagate and astrolabe_probe do on the model that was prepared, with these bounds. What they save is
+ * work: bounds are compared with the last box that the workspace knows, and only rows are looked at that a bound
+ * which differs could make move another one.
+ *
+ * A WORKSPACE is ASTROLABE_WORKSPACE_LEN numbers of the caller's memory. Nothing else is kept anywhere: copy it by
+ * memcpy, write it to a file, throw it away. Two threads need two workspaces, since every call writes into its own;
+ * a copy goes on from where the original stood. A workspace that was prepared for a model stays prepared for that
+ * model through any number of calls, whatever bounds they are lent, also refused and infeasible ones: the bounds of
+ * a call need not lie inside those of the call before. To change a row, prepare again.
+ *
+ * ANY OTHER CONTENT. Whether a workspace was written by astrolabe_prepare is asked of its count and of its first
+ * three numbers only, and it is refused by 5 where they are not ours. Behind a head that is ours the numbers may be
+ * anything (a file that was cut and glued, memory that another part of the program wrote): then the call still
+ * reads and writes only what it is lent, and it ends; but nothing is promised of what it answers, nor of the bounds
+ * and the workspace after it. So keep a workspace as you keep a pointer.
+ */
+
+/* No row: in `reasons` and in answer[3] of astrolabe_prepared_propagate. */
+#define ASTROLABE_NO_ROW 4294967295u
+
+/*
+ * Checks a model and writes its rows into the workspace, whatever that held before. The bounds are checked as the rest
+ * is, and not kept: each call is lent its own. No answer: the returned number says all.
+ *
+ *     workspace   written   exactly ASTROLABE_WORKSPACE_LEN numbers
+ *
+ * Refused by 3 5 6 7 23 8 9 16, in this order; the workspace's count is 5, with the others.
+ */
+uint32_t astrolabe_prepare(size_t n, size_t m,
+                           const int32_t *bounds, size_t bounds_len,
+                           const int32_t *coefs, size_t coefs_len,
+                           const int32_t *rhs, size_t rhs_len,
+                           const uint8_t *kinds, size_t kinds_len,
+                           uint32_t *workspace, size_t workspace_len);
+
+/*
+ * Propagates all rows of the prepared model, as astrolabe_propagate does. Told beside it, where a list is lent for
+ * it: for each bound the row that moved it last. A search's analysis of a conflict begins at the row that was
+ * infeasible and goes back by the reasons.
+ *
+ *     workspace   written   stays prepared for its model
+ *     bounds      written   2n numbers, n being the prepared model's: narrowed, or made the empty box
+ *     reasons     written   0 numbers, and nothing is told; or 2n: number i is the row that moved bound i last,
+ *                           ASTROLABE_NO_ROW where no row did. An infeasible row moves nothing; where it ended the
+ *                           call, the reasons are those of the bounds that had moved before the box was made empty
+ *     answer[0]   ASTROLABE_PROPAGATE_..
+ *     answer[1]   the passes made
+ *     answer[2]   the bounds moved: these three as in astrolabe_propagate
+ *     answer[3]   of INFEASIBLE the row that was; ASTROLABE_NO_ROW where none was: the lent box was empty, or the
+ *                 call ended otherwise
+ *
+ * Refused by 5 (a workspace that is not ours, or a wrong count) 6 7 23 15, in this order.
+ */
+uint32_t astrolabe_prepared_propagate(uint32_t *workspace, size_t workspace_len,
+                                      int32_t *bounds, size_t bounds_len,
+                                      uint32_t budget,
+                                      uint32_t *reasons, size_t reasons_len,
+                                      uint64_t *answer, size_t answer_len);
+
+/*
+ * Probes a free binary variable of the prepared model, as astrolabe_probe does: its two sides, the table and the
+ * answer are those. It tells no reasons: a solver that wants those of a side propagates that side.
+ *
+ *     workspace   written   stays prepared for its model
+ *     bounds      written   2n numbers: the new box
+ *     table       written   4n^2 bytes: bytes go from 0 to 1, where both sides are feasible
+ *     answer      as in astrolabe_probe
+ *
+ * Refused by 5 (a workspace that is not ours, or a wrong count) 6 7 23 10 13 14 15, in this order.
+ */
+uint32_t astrolabe_prepared_probe(uint32_t *workspace, size_t workspace_len,
+                                  int32_t *bounds, size_t bounds_len,
+                                  uint8_t *table, size_t table_len,
+                                  uint32_t variable, uint32_t budget,
+                                  uint64_t *answer, size_t answer_len);
+
+/* ---------------------------------------------------------------------------------------------
  * Many calls at once
  */
 
@@ -395,6 +480,32 @@ uint32_t astrolabe_run(size_t n, size_t m,
                        uint8_t *table, size_t table_len,
                        const uint32_t *calls, size_t calls_len,
                        uint64_t *answer, size_t answer_len);
+
+/* Classes of the records of a list, in `classes`. Each is the place of its count in the answer. */
+#define ASTROLABE_CLASS_REFUSED 0    /* refused; it changed nothing */
+#define ASTROLABE_CLASS_INFEASIBLE 1 /* answered infeasible (01's None) */
+#define ASTROLABE_CLASS_CHANGED 2    /* changed a bound or a table byte */
+#define ASTROLABE_CLASS_UNCHANGED 3  /* changed nothing */
+
+/*
+ * Makes the calls of a list as astrolabe_run does, and also says what each record did: classes[i] is the
+ * class of record i, ASTROLABE_CLASS_... `classes_len` is calls_len / 4.
+ *
+ *     bounds, table   written   as the calls do
+ *     classes         written   a byte a record
+ *     answer[0..3]    as in astrolabe_run: answer[c] is how often class c occurs
+ *
+ * Refused as astrolabe_run is; a classes_len that is not the number of records is 5.
+ */
+uint32_t astrolabe_run_classes(size_t n, size_t m,
+                               int32_t *bounds, size_t bounds_len,
+                               const int32_t *coefs, size_t coefs_len,
+                               const int32_t *rhs, size_t rhs_len,
+                               const uint8_t *kinds, size_t kinds_len,
+                               uint8_t *table, size_t table_len,
+                               const uint32_t *calls, size_t calls_len,
+                               uint8_t *classes, size_t classes_len,
+                               uint64_t *answer, size_t answer_len);
 
 /* Cases of astrolabe_rounds, answer[0]. */
 #define ASTROLABE_ROUNDS_INFEASIBLE 0    /* 01's None: the box is empty now */

@@ -167,6 +167,7 @@ fn lent(folder: &str, line: &Line) -> Lent {
         table: vec![0; 4 * n * n],
         ties: vec![0; n],
         calls: (0..n as u32).flat_map(|k| [KIND_PROBE, 0, k, MAX_BUDGET]).collect(),
+        classes: vec![0; n],
         book,
         clique_coefs: vec![0; 2 * n * n],
         clique_rhs: vec![0; 2 * n],

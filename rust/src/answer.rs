@@ -79,6 +79,20 @@ pub struct Counts {
     pub unchanged: u64,
 }
 
+/// What a call of a list did. Its number is the place of its count among the four.
+#[derive(Clone, Copy, Debug, PartialEq, Eq, Hash)]
+#[repr(u8)] // the library writes a list of them as one of bytes
+pub enum Class {
+    /// Refused; it changed nothing.
+    Refused = 0,
+    /// Answered infeasible (01's None).
+    Infeasible = 1,
+    /// Changed a bound or a table byte.
+    Changed = 2,
+    /// Changed nothing.
+    Unchanged = 3,
+}
+
 /// Whether the box is a probing fixpoint (01's at rest), and what was found where it is not.
 #[derive(Clone, Copy, Debug, PartialEq, Eq, Hash)]
 pub enum Rest {

@@ -13,6 +13,12 @@
 /// The count of every answer buffer.
 pub const ANSWER_LEN: usize = 12;
 
+/// The count of every workspace of a prepared model.
+pub const WORKSPACE_LEN: usize = 16_768;
+
+/// No row: none moved a bound, or none was infeasible.
+pub const NO_ROW: u32 = u32::MAX;
+
 unsafe extern "C" {
     /// Answer: case (0 infeasible, 1 tightened, 2 unchanged), bounds moved.
     pub fn astrolabe_propagate_row(
@@ -140,6 +146,28 @@ unsafe extern "C" {
         answer_len: usize,
     ) -> u32;
 
+    /// The same, and a byte a record: 0 refused, 1 infeasible, 2 changed, 3 unchanged.
+    pub fn astrolabe_run_classes(
+        n: usize,
+        m: usize,
+        bounds: *mut i32,
+        bounds_len: usize,
+        coefs: *const i32,
+        coefs_len: usize,
+        rhs: *const i32,
+        rhs_len: usize,
+        kinds: *const u8,
+        kinds_len: usize,
+        table: *mut u8,
+        table_len: usize,
+        calls: *const u32,
+        calls_len: usize,
+        classes: *mut u8,
+        classes_len: usize,
+        answer: *mut u64,
+        answer_len: usize,
+    ) -> u32;
+
     /// Answer: case (0 infeasible, 1 nothing changed, 2 limit reached), rounds.
     pub fn astrolabe_rounds(
         n: usize,
@@ -177,6 +205,50 @@ unsafe extern "C" {
         ties_len: usize,
         k: u32,
         j: u32,
+        answer: *mut u64,
+        answer_len: usize,
+    ) -> u32;
+
+    /// No answer: the number says all. Writes the model into `workspace`, [`WORKSPACE_LEN`] numbers.
+    pub fn astrolabe_prepare(
+        n: usize,
+        m: usize,
+        bounds: *const i32,
+        bounds_len: usize,
+        coefs: *const i32,
+        coefs_len: usize,
+        rhs: *const i32,
+        rhs_len: usize,
+        kinds: *const u8,
+        kinds_len: usize,
+        workspace: *mut u32,
+        workspace_len: usize,
+    ) -> u32;
+
+    /// Answer: case (0 infeasible, 1 converged, 2 budget spent), passes, bounds moved, the infeasible row or
+    /// [`NO_ROW`]. `reasons` has a number for each bound, or none.
+    pub fn astrolabe_prepared_propagate(
+        workspace: *mut u32,
+        workspace_len: usize,
+        bounds: *mut i32,
+        bounds_len: usize,
+        budget: u32,
+        reasons: *mut u32,
+        reasons_len: usize,
+        answer: *mut u64,
+        answer_len: usize,
+    ) -> u32;
+
+    /// Answer: that of `astrolabe_probe`.
+    pub fn astrolabe_prepared_probe(
+        workspace: *mut u32,
+        workspace_len: usize,
+        bounds: *mut i32,
+        bounds_len: usize,
+        table: *mut u8,
+        table_len: usize,
+        variable: u32,
+        budget: u32,
         answer: *mut u64,
         answer_len: usize,
     ) -> u32;

@@ -19,17 +19,20 @@
 //! # }
 //! ```
 //!
-//! At each branch of a search, narrow the bounds and propagate; the library keeps no state of its own,
-//! so models can be cloned, sent to threads and thrown away at will:
+//! At each branch of a search, narrow the bounds and propagate. A [`Prepared`] model is checked once and looks only at rows
+//! that a changed bound concerns; it tells which row moved which bound. The library keeps no state of its own, so
+//! models, prepared or not, can be cloned, sent to threads and thrown away at will:
 //!
 //! ```
-//! # use astrolabe::{Model, Propagation};
+//! # use astrolabe::{Model, Prepared, Propagation};
 //! # fn main() -> Result<(), astrolabe::Refusal> {
 //! let root = Model::new(vec![0, 1, 0, 1, 0, 1], vec![2, 3, 4], vec![5])?;
-//! let mut branch = root.clone();
-//! branch.set_bounds(2, 1, 1); // variable 2 is 1: then 2x + 3y ≤ 1
-//! assert_eq!(branch.propagate(1_000)?, Propagation::Converged { passes: 2, moved: 2 });
-//! assert_eq!(branch.bounds(), [0, 0, 0, 0, 1, 1]);
+//! let mut prepared = Prepared::new(&root)?;
+//! let mut branch = root.bounds().to_vec();
+//! branch[4] = 1; // variable 2 is 1: then 2x + 3y ≤ 1
+//! let told = prepared.propagate(&mut branch, 1_000)?;
+//! assert_eq!(told.propagation, Propagation::Converged { passes: 2, moved: 2 });
+//! assert_eq!(branch, [0, 0, 0, 0, 1, 1]);
 //! # Ok(())
 //! # }
 //! ```
@@ -43,16 +46,20 @@ pub mod ffi;
 mod model;
 pub mod pages;
 pub mod plan;
+mod prepared;
 mod refusal;
+mod shared;
 mod ties;
 
 pub use allocations::{MAX_PROPOSALS, Verdict};
-pub use answer::{Counts, Outcome, Probe, Propagation, Rest, Rounds, RowPropagation, Side};
+pub use answer::{Class, Counts, Outcome, Probe, Propagation, Rest, Rounds, RowPropagation, Side};
 pub use clique::Clique;
 pub use model::{
     Call, Model, Row, RowKind, book_size, book_to_sparse, sparse_size, sparse_to_book,
 };
+pub use prepared::{Bound, Moved, Prepared, Propagated};
 pub use refusal::Refusal;
+pub use shared::Rows;
 pub use ties::{CircularTies, Tie, Ties};
 
 /// The version of this wrapper, which is that of the C header and of the library: `"0.1.0"`.

@@ -1,6 +1,8 @@
 //! The model, in owned buffers, with a method for each call.
 
-use crate::answer::{Counts, Outcome, Places, Probe, Propagation, Rest, Rounds, RowPropagation};
+use crate::answer::{
+    Class, Counts, Outcome, Places, Probe, Propagation, Rest, Rounds, RowPropagation,
+};
 use crate::ffi;
 use crate::refusal::Refusal;
 use crate::ties::{Tie, Ties};
@@ -121,6 +123,7 @@ macro_rules! call {
         })
     };
 }
+pub(crate) use call;
 
 /// n and m of a book, from the 16 bytes of its trailer: what a reader of files needs first.
 ///
@@ -416,6 +419,21 @@ impl Model {
         &self.rhs
     }
 
+    /// Sets the right-hand side of one row, as a search does with the best value found so far. Panics where there is no
+    /// such row. What was tightened, removed or recorded before holds for the old row: where the new side is larger, start
+    /// from the raw model.
+    ///
+    /// ```
+    /// let mut model = astrolabe::Model::new(vec![0, 9], vec![2], vec![15])?; // 2x ≤ 15
+    /// model.set_rhs(0, 5);
+    /// model.propagate(1_000)?;
+    /// assert_eq!(model.bounds(), [0, 2]);
+    /// # Ok::<(), astrolabe::Refusal>(())
+    /// ```
+    pub fn set_rhs(&mut self, row: usize, rhs: i32) {
+        self.rhs[row] = rhs;
+    }
+
     /// The kinds.
     pub fn kinds(&self) -> &[RowKind] {
         &self.kinds
@@ -459,6 +477,16 @@ impl Model {
     /// The implication table: byte `p · 2n + q` is 1 when literal p implies literal q.
     pub fn table(&self) -> &[u8] {
         &self.table
+    }
+
+    /// The table, to be changed: one that was stored, or that of another box around this one.
+    pub fn table_mut(&mut self) -> &mut [u8] {
+        &mut self.table
+    }
+
+    /// Makes every byte of the table 0, as it was at the start.
+    pub fn reset_table(&mut self) {
+        self.table.fill(0);
     }
 
     /// Whether "variable k is v" is recorded to imply "variable j is w". Panics where there is no such
@@ -617,6 +645,37 @@ impl Model {
         )
     }
 
+    /// As [`run`](Model::run), and what each call did, in the list's order: the counts are the counts of these
+    /// classes.
+    ///
+    /// ```
+    /// use astrolabe::{Call, Class, Model};
+    ///
+    /// let mut model = Model::new(vec![0, 5, 0, 5], vec![2, 0, -1, 1], vec![5, 0])?;
+    /// let calls = [Call::propagate_row(1), Call::propagate_row(0), Call::propagate_row(7)];
+    /// let (counts, classes) = model.run_classes(&calls)?;
+    /// assert_eq!(classes, [Class::Unchanged, Class::Changed, Class::Refused]);
+    /// assert_eq!((counts.unchanged, counts.changed, counts.refused), (1, 1, 1));
+    /// # Ok::<(), astrolabe::Refusal>(())
+    /// ```
+    pub fn run_classes(&mut self, calls: &[Call]) -> Result<(Counts, Vec<Class>), Refusal> {
+        let mut classes = vec![Class::Refused; calls.len()];
+        // A Class is a byte, and the call writes bytes from 0 to 3 only, by the library's contract.
+        let counts = call!(
+            self.astrolabe_run_classes,
+            as_mut_ptr,
+            as_ptr,
+            as_ptr,
+            self.table.as_mut_ptr(),
+            self.table.len(),
+            calls.as_ptr().cast(),
+            4 * calls.len(),
+            classes.as_mut_ptr().cast(),
+            classes.len()
+        )?;
+        Ok((counts, classes))
+    }
+
     /// Makes the rounds of the program `reduce`: propagate, remove redundant rows, tighten, probe; until
     /// a round changes nothing, `limit` rounds are made, or the model is infeasible. [`NO_LIMIT`](crate::NO_LIMIT)
     /// is never reached: the rounds of every model end below it.
@@ -639,6 +698,28 @@ impl Model {
             self.table.len(),
             limit
         )
+    }
+
+    /// Checks the model and writes it into a workspace, for [`Prepared`](crate::Prepared).
+    pub(crate) fn prepare_into(&self, workspace: &mut [u32]) -> Result<(), Refusal> {
+        // SAFETY: the pointers and counts are those of slices, no two of which overlap.
+        let returned = unsafe {
+            ffi::astrolabe_prepare(
+                self.n,
+                self.m,
+                self.bounds.as_ptr(),
+                self.bounds.len(),
+                self.coefs.as_ptr(),
+                self.coefs.len(),
+                self.rhs.as_ptr(),
+                self.rhs.len(),
+                self.kinds.as_ptr().cast(),
+                self.kinds.len(),
+                workspace.as_mut_ptr(),
+                workspace.len(),
+            )
+        };
+        Refusal::from_returned(returned)
     }
 
     /// Ties variable j to variable k where the implications say that j always equals k, or always 1 − k: puts that

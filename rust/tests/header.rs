@@ -1,7 +1,7 @@
 //! `include/astrolabe.h` and `src/ffi.rs` declare the same functions, and the header has the wrapper's version and limits: nothing else
 //! compares the two.
 
-use astrolabe::{Refusal, RowKind};
+use astrolabe::{Class, Refusal, RowKind};
 
 const HEADER: &str = include_str!("../../include/astrolabe.h");
 const FFI: &str = include_str!("../src/ffi.rs");
@@ -57,7 +57,7 @@ fn the_header_and_the_rust_declarations_agree() {
     let mut rust = declarations(FFI, "pub fn astrolabe_", ") -> u32;", str::to_string);
     c.sort();
     rust.sort();
-    assert_eq!(c.len(), 26);
+    assert_eq!(c.len(), 30);
     assert_eq!(c, rust);
 }
 
@@ -92,6 +92,8 @@ fn the_header_has_the_limits_and_numbers_of_the_wrapper() {
     assert_eq!(defined("MAX_ROWS"), astrolabe::MAX_ROWS.to_string());
     assert_eq!(defined("MAX_WIDTH"), astrolabe::MAX_WIDTH.to_string());
     assert_eq!(defined("ANSWER_LEN"), astrolabe::ffi::ANSWER_LEN.to_string());
+    assert_eq!(defined("WORKSPACE_LEN"), astrolabe::ffi::WORKSPACE_LEN.to_string());
+    assert_eq!(defined("NO_ROW"), format!("{}u", astrolabe::ffi::NO_ROW));
     assert_eq!(defined("MAX_PLANNED_RECORDS"), astrolabe::plan::MAX_RECORDS.to_string());
     assert_eq!(defined("MAX_BUDGET"), astrolabe::MAX_BUDGET.to_string());
     assert_eq!((defined("NO_LIMIT"), astrolabe::NO_LIMIT), ("UINT64_MAX", u64::MAX));
@@ -107,4 +109,8 @@ fn the_header_has_the_limits_and_numbers_of_the_wrapper() {
     assert_eq!(defined("REFUSED_VARIABLE_TOO_WIDE"), Refusal::VariableTooWide.check().to_string());
     assert_eq!(defined("ROW_KIND_AT_MOST"), (RowKind::AtMost as u8).to_string());
     assert_eq!(defined("ROW_KIND_EQUAL"), (RowKind::Equal as u8).to_string());
+    assert_eq!(defined("CLASS_REFUSED"), (Class::Refused as u8).to_string());
+    assert_eq!(defined("CLASS_INFEASIBLE"), (Class::Infeasible as u8).to_string());
+    assert_eq!(defined("CLASS_CHANGED"), (Class::Changed as u8).to_string());
+    assert_eq!(defined("CLASS_UNCHANGED"), (Class::Unchanged as u8).to_string());
 }

@@ -2,8 +2,8 @@
 
 use astrolabe::ffi::ANSWER_LEN;
 use astrolabe::{
-    Call, CircularTies, Model, Outcome, Probe, Propagation, Refusal, Rest, Rounds, Row, RowKind,
-    RowPropagation, Side, Tie, Ties, plan,
+    Call, CircularTies, Counts, Model, Outcome, Probe, Propagation, Refusal, Rest, Rounds, Row,
+    RowKind, RowPropagation, Side, Tie, Ties, plan,
 };
 use compare::lent::{Backend, Lent, Operation, Reference};
 use compare::models::{self, Family};
@@ -84,6 +84,10 @@ fn tie(answer: Tie) -> [u64; 1] {
     }
 }
 
+fn counts(counts: Counts) -> [u64; 4] {
+    [counts.refused, counts.infeasible, counts.changed, counts.unchanged]
+}
+
 fn call(model: &mut Model, ties: &mut Ties, operation: Operation, list: &[Call]) -> Said {
     match operation {
         Operation::Tie { k, j } => said(model.tie(ties, k, j), tie),
@@ -95,9 +99,8 @@ fn call(model: &mut Model, ties: &mut Ties, operation: Operation, list: &[Call])
         }
         Operation::RemoveRedundantRow { row } => said(model.remove_redundant_row(row), outcome),
         Operation::IsProbingFixpoint => said(model.is_probing_fixpoint(), rest),
-        Operation::Run => said(model.run(list), |counts| {
-            [counts.refused, counts.infeasible, counts.changed, counts.unchanged]
-        }),
+        Operation::Run => said(model.run(list), counts),
+        Operation::RunClasses => said(model.run_classes(list), |told| counts(told.0)),
         Operation::Rounds { limit } => said(model.rounds(limit), rounds),
         Operation::PlanWidth => said(plan::width(model.bounds()), width),
         Operation::PlanRun => said(plan::passes(model.bounds(), list), |told| {
@@ -150,6 +153,7 @@ fn methods_say_what_the_calls_say() {
                 Call { kind: 6, row, variable, budget },
             ];
             lent.calls = list.iter().flat_map(|c| [c.kind, c.row, c.variable, c.budget]).collect();
+            lent.classes = vec![0; list.len()];
             let [on_model @ .., _, _, _, _] = Operation::each(row, variable, budget, budget.into());
             let operation = rng.pick(&on_model);
             assert_eq!(
@@ -163,6 +167,29 @@ fn methods_say_what_the_calls_say() {
             assert_eq!(model.kinds(), kinds(&lent));
             assert_eq!(model.table(), lent.table);
         }
+    }
+}
+
+#[test]
+fn classes_are_those_of_the_reference() {
+    let mut rng = Rng::new(SEED);
+    for _ in 0..2_000 {
+        let family = rng.pick(&[Family::Tiny, Family::Binary, Family::Empty]);
+        let mut lent = models::model(&mut rng, family).with_table();
+        let mut model = wrapped(&lent);
+        let mut call = || Call {
+            kind: rng.pick(&[1, 2, 3, 3, 5, 6]),
+            row: rng.index(lent.m + 1) as u32,
+            variable: rng.index(lent.n + 1) as u32,
+            budget: rng.between(0, 20) as u32,
+        };
+        let list: Vec<Call> = (0..8).map(|_| call()).collect();
+        lent.calls = list.iter().flat_map(|c| [c.kind, c.row, c.variable, c.budget]).collect();
+        lent.classes = vec![0x5a; list.len()];
+        let answer = expected(&mut lent, Operation::RunClasses).expect("an accepted list");
+        let (told, classes) = model.run_classes(&list).expect("an accepted list");
+        assert_eq!(places(counts(told)), answer);
+        assert_eq!(classes.iter().map(|&class| class as u8).collect::<Vec<_>>(), lent.classes);
     }
 }
 

@@ -7,7 +7,7 @@ use book::layout::ROWS;
 use book::layout::VARIABLES;
 use book::layout::head_fault;
 use book::layout::trailer_u16;
-use book::reading::read;
+use book_reading::read;
 use bytes::integers::read_integers;
 use model::MAX_BOX;
 use model::MAX_MATRIX;

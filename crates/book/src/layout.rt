@@ -3,7 +3,7 @@ use bytes::read_u16;
 use bytes::read_u32;
 use bytes::write_u16;
 use bytes::write_u32;
-use model::size_fault;
+use model_checks::size_fault;
 ghost use mathlib.Core.Path.{_≡_};
 ghost use Prim.Native.Nat.{_<_, _≤_};
 ghost use lib.ListN.{length};

@@ -1,4 +1,5 @@
 pub mod ExportLaws
 pub mod BookLaws
 pub mod TieLaws
+pub mod ClassLaws
 pub mod CliqueLaws

@@ -9,6 +9,7 @@ use mathlib.Core.Bool.{cond}
 use mathlib.Core.List.{List, [], _∷_}
 use Rattle.book.specs.Answers.{readCall, trailerCall}
 use Rattle.book.specs.BookChecks.{headChecks}
+use Rattle.flat_list.specs.Classes.{runClasses}
 use Rattle.model.specs.Checks.{Check, must, sizeChecks}
 use Rattle.model.specs.Rows.{Rows}
 use Rattle.plan.specs.Answers.{lengthsCall, passesCall, widthCall}
@@ -50,6 +51,10 @@ restExport A s = answered A s (restReply (rest s)) s
 -- a flat list of numbers, four to a record
 unfoldable pub listExport : List ℕ → State → List ℕ → Exported
 listExport A s calls = let p = runList s calls in answered A s (listReply (p .answer)) (p .state)
+
+-- the same with C lent for the classes of its records
+unfoldable pub classesExport : List ℕ → State → List ℕ → List ℕ → Exported
+classesExport A s calls C = let p = runClasses s calls C .list in answered A s (listReply (p .answer)) (p .state)
 
 unfoldable pub roundsExport : List ℕ → State → ℕ → Exported
 roundsExport A s limit = let p = runRounds limit s in answered A s (roundsReply (p .answer)) (run s (p .calls))
@@ -99,3 +104,7 @@ lentTo A before after = cond (eqb (length A) answerLength) after before
 -- the tie list that a tie of k and j leaves
 unfoldable pub tiesExport : List ℕ → TiedState → ℕ → ℕ → List ℕ
 tiesExport A s k j = lentTo A (s .ties) (performTie s (tieCallOf s k j) .state .ties)
+
+-- the classes that a list leaves in C
+unfoldable pub classesLeft : List ℕ → State → List ℕ → List ℕ → List ℕ
+classesLeft A s calls C = lentTo A C (runClasses s calls C .classes)

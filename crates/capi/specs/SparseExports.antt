@@ -9,15 +9,11 @@ use Rattle.book.specs.BookChecks.{headChecks}
 use Rattle.model.specs.Checks.{must, sizeChecks}
 use Rattle.model.specs.Model.{Model}
 use Rattle.model.specs.Rows.{Rows}
-use Rattle.replies.specs.Replies.{Reply, bookReply, refusedBy, says}
+use Rattle.book_replies.specs.SparseReplies.{lengthReply}
+use Rattle.replies.specs.Replies.{bookReply}
 use Rattle.sparse_layout.specs.SparseChecks.{sparseLayoutChecks}
-use Rattle.sparse.specs.SparseCalls.{BytesNeeded, bytesAre, refusedLength, sparseLengthCall, sparseReadCall, sparseTrailerCall, toSparseLengthCall}
+use Rattle.sparse.specs.SparseCalls.{sparseLengthCall, sparseReadCall, sparseTrailerCall, toSparseLengthCall}
 use Rattle.capi.specs.Exports.{BookExported, bookAnswered}
-
--- "{bytes}"
-unfoldable pub lengthReply : BytesNeeded → Reply
-lengthReply (refusedLength number) = refusedBy number
-lengthReply (bytesAre count) = says (count ∷ [])
 
 -- the answer's length after 1 and before 3
 unfoldable pub sparseTrailerExport : List ℕ → List ℕ → BookExported

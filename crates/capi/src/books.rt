@@ -1,36 +1,19 @@
 // The calls on books.
 use crate::ANSWER;
-use book::SizesAnswer;
-use book::reading::read;
 use book::trailer;
-use book::writing::WriteAnswer;
-use book::writing::write;
-use replies::answers::sizes_reply;
+use book_reading::read;
+use book_replies::books::read_fault;
+use book_replies::books::trailer_fault;
+use book_replies::books::write_number;
+use book_writing::write;
+use call_replies::sizes_reply;
 use replies::reply::put;
-ghost use mathlib.Core.List.{_∷_, []};
 ghost use mathlib.Core.Path.{_≡_};
-ghost use lib.Dec.{leb};
-ghost use lib.ListN.{length};
-ghost use Rattle.model.specs.Checks.{must};
-ghost use Rattle.book.specs.Answers.{bookWritten, boundsRead, coefsRead, kindsRead, rhsRead, writeAnswer, writeCall};
+ghost use Rattle.book.specs.Answers.{bookWritten, boundsRead, coefsRead, kindsRead, rhsRead, writeCall};
 ghost use Rattle.model.specs.Model.{modelOf};
 ghost use Rattle.model.specs.Rows.{rowsOf};
-ghost use Rattle.book.specs.BookChecks.{headChecks};
-ghost use Rattle.replies.specs.Replies.{bookReply, returned, wrongLength};
+ghost use Rattle.replies.specs.Replies.{bookReply, returned};
 ghost use Rattle.capi.specs.Exports.{bookExported, lentTo, readExport, trailerExport};
-
-// The length of a book's trailer.
-const TRAILER: usize = 16;
-
-// The number by which a call on a trailer refuses an answer buffer of a wrong length: 1, else 5.
-pub fn trailer_fault(bytes: &[u8]) -> u32
-    ensures { λ r. ⌜ r ≡ wrongLength (must (leb 16 (length (now (bytes .entry)))) 1 ∷ []) ⌝ }
-{
-    if bytes.len() < TRAILER {
-        return 1;
-    }
-    5
-}
 
 // n and m of the 16 trailer bytes alone: {n, m}. Refused by 1, 5, 3, 4, in this order.
 #[no_mangle]
@@ -41,27 +24,6 @@ pub extern "C" fn astrolabe_book_trailer(bytes: &[u8], answer: &mut [u64]) -> u3
         return trailer_fault(bytes);
     }
     put(sizes_reply(trailer(bytes)), answer)
-}
-
-// The number by which reading refuses an answer buffer of a wrong length: 1 to 4, else 5. It is the number that
-// buffers of length 0 are refused by, since every book has a variable.
-fn read_fault(book: &[u8]) -> u32
-    ensures { λ r. ⌜ r ≡ wrongLength (headChecks (now (book .entry))) ⌝ }
-{
-    let mut bounds = [0i32; 1];
-    let mut coefs = [0i32; 1];
-    let mut rhs = [0i32; 1];
-    let mut kinds = [0u8; 1];
-    match read(
-        book,
-        &mut bounds[..0],
-        &mut coefs[..0],
-        &mut rhs[..0],
-        &mut kinds[..0],
-    ) {
-        SizesAnswer::Refused(number) => number,
-        SizesAnswer::Sizes { n: _, m: _ } => 5,
-    }
 }
 
 // Reads a book into lent buffers: {n, m}. The kinds become all 0. Refused by 1 to 7, 23, 8, 9.
@@ -99,15 +61,6 @@ pub extern "C" fn astrolabe_book_read(
         return read_fault(book);
     }
     put(sizes_reply(read(book, bounds, coefs, rhs, kinds)), answer)
-}
-
-pub fn write_number(a: WriteAnswer) -> u32
-    ensures { λ r. ⌜ r ≡ returned (bookReply (writeAnswer a)) ⌝ }
-{
-    match a {
-        WriteAnswer::Refused(number) => number,
-        WriteAnswer::Written => 0,
-    }
 }
 
 // Writes a model as a book; the number says all. Refused by the model's checks, then by 17.

@@ -1,27 +1,29 @@
 // The calls on a model in memory. Every call is refused by the model's checks first, 3, 5, 6, 7, 23, 8, 9 and 16, and
 // then by those that its own comment names. Only removing a row, a list and the rounds write kinds.
 use crate::ANSWER;
-use reducer::calls::is_probing_fixpoint;
+use call_replies::probe_reply;
+use call_replies::propagate_reply;
+use call_replies::remove_reply;
+use call_replies::rest_reply;
+use call_replies::rounds_reply;
+use call_replies::row_reply;
+use call_replies::run_reply;
+use call_replies::tighten_reply;
+use change_call::remove_redundant_row;
+use change_call::tighten_coefficient;
+use flat_list::run_classes;
 use reducer::calls::probe;
 use reducer::calls::propagate;
 use reducer::calls::propagate_row;
-use reducer::calls::remove_redundant_row;
-use reducer::calls::tighten_coefficient;
-use replies::answers::probe_reply;
-use replies::answers::propagate_reply;
-use replies::answers::remove_reply;
-use replies::answers::rest_reply;
-use replies::answers::rounds_reply;
-use replies::answers::row_reply;
-use replies::answers::run_reply;
-use replies::answers::tighten_reply;
 use replies::reply::answer_fault;
 use replies::reply::put;
+use rest_call::is_probing_fixpoint;
 ghost use mathlib.Core.List.{[]};
 ghost use mathlib.Core.Path.{_≡_};
 ghost use Rattle.model.specs.Rows.{rowsOf};
 ghost use Rattle.model.specs.State.{stateOf};
-ghost use Rattle.capi.specs.Exports.{callExport, exported, listExport, restExport, roundsExport};
+ghost use Rattle.capi.specs.Exports.{callExport, classesExport, classesLeft, exported, listExport, restExport};
+ghost use Rattle.capi.specs.Exports.{roundsExport};
 
 // 01's visit: {0 None | 1 Narrowed | 2 Same, moved}. Refused by 12.
 #[no_mangle]
@@ -214,6 +216,42 @@ pub extern "C" fn astrolabe_run(
     }
     put(
         run_reply(flat_list::run(n, m, bounds, coefs, rhs, kinds, table, calls)),
+        answer,
+    )
+}
+
+// As `astrolabe_run`; and a byte for each record says what it did: 0 refused, 1 none, 2 changed, 3 unchanged. Refused
+// by 5 where the bytes are not as many as the records.
+#[no_mangle]
+pub extern "C" fn astrolabe_run_classes(
+    n: usize,
+    m: usize,
+    bounds: &mut [i32],
+    coefs: &[i32],
+    rhs: &[i32],
+    kinds: &[u8],
+    table: &mut [u8],
+    calls: &[u32],
+    classes: &mut [u8],
+    answer: &mut [u64],
+) -> u32
+    ensures answered { λ r.
+        let A = rowsOf (now (coefs .entry)) (now (rhs .entry)) (now (kinds .entry)) in
+        let s = stateOf n m (now (bounds .entry)) A (now (table .entry)) in
+        let r' = stateOf n m (now (bounds .exit)) A (now (table .exit)) in
+        let C = now (classes .entry) in
+        ⌜ exported r (now (answer .exit)) r' ≡ classesExport (now (answer .entry)) s (now (calls .entry)) C ⌝ }
+    ensures classes_left { λ r.
+        let A = rowsOf (now (coefs .entry)) (now (rhs .entry)) (now (kinds .entry)) in
+        let s = stateOf n m (now (bounds .entry)) A (now (table .entry)) in
+        let C = now (classes .entry) in
+        ⌜ now (classes .exit) ≡ classesLeft (now (answer .entry)) s (now (calls .entry)) C ⌝ }
+{
+    if answer.len() != ANSWER {
+        return answer_fault(n, m);
+    }
+    put(
+        run_reply(run_classes(n, m, bounds, coefs, rhs, kinds, table, calls, classes)),
         answer,
     )
 }

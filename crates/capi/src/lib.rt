@@ -7,6 +7,7 @@ pub mod calls;
 pub mod clique_rows;
 pub mod pages;
 pub mod plans;
+pub mod prepared;
 pub mod sparse_books;
 pub mod tied;
 

@@ -1,12 +1,12 @@
 // The calls that tell size and passes beforehand. They write nothing but the answer.
 use crate::ANSWER;
-use crate::books::trailer_fault;
+use book_replies::books::trailer_fault;
 use plan::buffers::lengths;
 use plan::list::passes;
 use plan::width;
-use replies::plans::passes_reply;
-use replies::plans::put_plan;
-use replies::plans::width_reply;
+use plan_replies::passes_reply;
+use plan_replies::put_plan;
+use plan_replies::width_reply;
 use replies::reply::answer_fault;
 use replies::reply::put;
 ghost use mathlib.Core.Path.{_≡_};

@@ -1,9 +1,9 @@
 // The calls on sparse books, and from one edition to the other.
 use crate::ANSWER;
-use crate::books::write_number;
-use book::layout::head_fault;
-use replies::answers::sizes_reply;
-use replies::reply::Reply;
+use book_replies::books::write_number;
+use book_replies::sparse_books::length_reply;
+use book_replies::sparse_books::read_fault;
+use call_replies::sizes_reply;
 use replies::reply::answer_fault;
 use replies::reply::put;
 use sparse::conversion::to_first;
@@ -11,34 +11,21 @@ use sparse::conversion::to_sparse;
 use sparse::conversion::to_sparse_length;
 use sparse::reading::read;
 use sparse::trailer;
-use sparse::writing::LengthAnswer;
 use sparse::writing::length;
 use sparse::writing::write;
-use sparse_layout::reading::layout_fault;
 ghost use mathlib.Core.Path.{_≡_};
-ghost use Rattle.book.specs.BookChecks.{headChecks};
 ghost use Rattle.model.specs.Model.{modelOf};
 ghost use Rattle.model.specs.Rows.{rowsOf};
-ghost use Rattle.replies.specs.Replies.{bookReply, replyOf, returned, wrongLength};
-ghost use Rattle.sparse_layout.specs.SparseChecks.{sparseLayoutChecks};
-ghost use Rattle.sparse.specs.SparseCalls.{lengthAnswer, sparseBoundsRead, sparseCoefsRead, sparseKindsRead};
+ghost use Rattle.replies.specs.Replies.{bookReply, returned};
+ghost use Rattle.sparse.specs.SparseCalls.{sparseBoundsRead, sparseCoefsRead, sparseKindsRead};
 ghost use Rattle.sparse.specs.SparseCalls.{sparseRhsRead, sparseWriteCall, sparseWritten, toFirstCall, toFirstWritten};
 ghost use Rattle.sparse.specs.SparseCalls.{toSparseCall, toSparseWritten};
 ghost use Rattle.capi.specs.Exports.{bookExported, lentTo};
-ghost use Rattle.capi.specs.SparseExports.{lengthReply, sparseLengthExport, sparseReadExport};
+ghost use Rattle.capi.specs.SparseExports.{sparseLengthExport, sparseReadExport};
 ghost use Rattle.capi.specs.SparseExports.{sparseTrailerExport, toSparseLengthExport};
 
 // The length of a book's trailer.
 const TRAILER: usize = 16;
-
-fn length_reply(a: LengthAnswer) -> Reply
-    ensures { λ r. ⌜ replyOf r ≡ lengthReply (lengthAnswer a) ⌝ }
-{
-    match a {
-        LengthAnswer::Refused(number) => Reply::Refused(number),
-        LengthAnswer::Bytes(count) => Reply::Numbers(count as u64, 0, 0, 0),
-    }
-}
 
 // n and m of the 16 trailer bytes alone: {n, m}. Refused by 1, 5, 3, 4, in this order; 4 is of the offsets only.
 #[no_mangle]
@@ -53,17 +40,6 @@ pub extern "C" fn astrolabe_sparse_trailer(bytes: &[u8], answer: &mut [u64]) -> 
         return 5;
     }
     put(sizes_reply(trailer(bytes)), answer)
-}
-
-// The number by which reading a sparse book refuses an answer buffer of a wrong length: 1 to 4, 19 or 20, else 5.
-fn read_fault(book: &[u8]) -> u32
-    ensures { λ r. ⌜ r ≡ wrongLength (sparseLayoutChecks (now (book .entry))) ⌝ }
-{
-    let layout = layout_fault(book);
-    if layout != 0 {
-        return layout;
-    }
-    5
 }
 
 // Reads a sparse book into lent buffers: {n, m}. Refused by 1 to 4, 19, 20, 5 to 7, 23, 8, 9, 16, in this order.
@@ -151,17 +127,6 @@ pub extern "C" fn astrolabe_sparse_length(
     )
 }
 
-// The number by which measuring a first-edition book refuses an answer buffer of a wrong length: 1 to 4, else 5.
-fn measure_fault(book: &[u8]) -> u32
-    ensures { λ r. ⌜ r ≡ wrongLength (headChecks (now (book .entry))) ⌝ }
-{
-    let head = head_fault(book);
-    if head != 0 {
-        return head;
-    }
-    5
-}
-
 // How many bytes the sparse edition of a first-edition book has: {bytes}. Refused as the book's reading is.
 #[no_mangle]
 pub extern "C" fn astrolabe_book_to_sparse_length(book: &[u8], answer: &mut [u64]) -> u32
@@ -169,7 +134,7 @@ pub extern "C" fn astrolabe_book_to_sparse_length(book: &[u8], answer: &mut [u64
         ⌜ bookExported r (now (answer .exit)) ≡ toSparseLengthExport (now (answer .entry)) (now (book .entry)) ⌝ }
 {
     if answer.len() != ANSWER {
-        return measure_fault(book);
+        return book_replies::books::read_fault(book);
     }
     put(length_reply(to_sparse_length(book)), answer)
 }

@@ -1,8 +1,8 @@
 // The open call.
 use crate::listing::write_cliques;
-use model::is_bits;
-use model::is_product;
-use model::size_fault;
+use buffer_checks::is_bits;
+use buffer_checks::is_product;
+use model_checks::size_fault;
 ghost use mathlib.Core.Path.{_≡_};
 ghost use Prim.Native.Nat.{ℕ};
 ghost use Rattle.model.specs.Checks.{first};

@@ -1,16 +1,20 @@
 // Call lists (01's run sheet): many calls on one model. The model and the table are checked once, before the first
-// record; each call leaves them valid, so only a record's own checks are made after that.
-use call::Call;
+// record; each call leaves them valid, so only a record's own checks are made after that (`records`).
+use buffer_checks::is_product;
 use call::Counts;
-use call::count;
-use step::run_record;
+use model_checks::model_table_fault;
+use records::run_records;
 ghost use mathlib.Core.Path.{_≡_};
-ghost use Rattle.semantics.specs.CallList.{listFault, runList};
+ghost use Rattle.semantics.specs.CallList.{listFault, ran, runList};
 ghost use Rattle.model.specs.Rows.{rowsOf};
 ghost use Rattle.model.specs.State.{stateOf};
+ghost use Rattle.semantics.specs.Run as lists;
 ghost use Rattle.semantics.specs.TwoLists.{CountsAddUp, Demand3Lists, ListMeans};
 ghost use Rattle.semantics.specs.TwoRuns.{EveryModelHandedIn};
-ghost use Rattle.flat_list.specs.ListAnswers.{listRun};
+ghost use Rattle.flat_list.specs.Classes.{ClassesCounted, classesFault, runClasses};
+ghost use Rattle.flat_list.specs.ListAnswers.{classesRun, listAnswer, listRun};
+
+mod records;
 
 // 01's answer of a run sheet: refused N as a whole, or the four counts.
 pub enum RunAnswer {
@@ -35,7 +39,7 @@ fn list_fault(
         let s = stateOf n m (now (bounds .entry)) A (now (table .entry)) in
         ⌜ r ≡ listFault s (now (calls .entry)) ⌝ }
 {
-    model::model_table_fault(n, m, bounds, coefs, rhs, kinds, table, calls.len() % 4 == 0)
+    model_table_fault(n, m, bounds, coefs, rhs, kinds, table, calls.len() % 4 == 0)
 }
 
 // Runs a flat list of call records, four numbers each: kind, row, variable, budget. It goes on after a refused call. A
@@ -69,28 +73,60 @@ pub fn run(
     if fault != 0 {
         return RunAnswer::Refused(fault);
     }
-    let mut counts = Counts {
-        refused: 0,
-        infeasible: 0,
-        changed: 0,
-        unchanged: 0,
-    };
-    let records = calls.len() / 4;
-    let mut i = 0;
-    while i < records {
-        let kind = calls[4 * i];
-        let row = calls[4 * i + 1];
-        let variable = calls[4 * i + 2];
-        let budget = calls[4 * i + 3];
-        let call = Call {
-            kind,
-            row,
-            variable,
-            budget,
-        };
-        let class = run_record(n, m, bounds, coefs, rhs, kinds, table, call);
-        counts = count(counts, class);
-        i += 1;
+    let mut none: [u8; 0] = [];
+    RunAnswer::Ran(run_records(n, m, bounds, coefs, rhs, kinds, table, calls, &mut none))
+}
+
+// As `list_fault`; by 5 too where not a byte is lent for each record of four numbers.
+fn classes_fault(
+    n: usize,
+    m: usize,
+    bounds: &[i32],
+    coefs: &[i32],
+    rhs: &[i32],
+    kinds: &[u8],
+    table: &[u8],
+    calls: &[u32],
+    classes: &[u8],
+) -> u32
+    ensures { λ r.
+        let A = rowsOf (now (coefs .entry)) (now (rhs .entry)) (now (kinds .entry)) in
+        let s = stateOf n m (now (bounds .entry)) A (now (table .entry)) in
+        ⌜ r ≡ classesFault s (now (calls .entry)) (now (classes .entry)) ⌝ }
+{
+    let fits = is_product(calls.len(), 4, classes.len());
+    model_table_fault(n, m, bounds, coefs, rhs, kinds, table, fits)
+}
+
+// Runs a list as `run` does, and tells what each record did: a byte a record, 0 refused, 1 infeasible, 2 changed, 3
+// unchanged. `counted`: the four counts are the counts of these bytes.
+pub fn run_classes(
+    n: usize,
+    m: usize,
+    bounds: &mut [i32],
+    coefs: &[i32],
+    rhs: &[i32],
+    kinds: &[u8],
+    table: &mut [u8],
+    calls: &[u32],
+    classes: &mut [u8],
+) -> RunAnswer
+    ensures defined { λ r.
+        let A = rowsOf (now (coefs .entry)) (now (rhs .entry)) (now (kinds .entry)) in
+        let s = stateOf n m (now (bounds .entry)) A (now (table .entry)) in
+        let r' = stateOf n m (now (bounds .exit)) A (now (table .exit)) in
+        ⌜ classesRun r r' (now (classes .exit)) ≡ runClasses s (now (calls .entry)) (now (classes .entry)) ⌝ }
+    ensures meaning { λ r.
+        let A = rowsOf (now (coefs .entry)) (now (rhs .entry)) (now (kinds .entry)) in
+        let s = stateOf n m (now (bounds .entry)) A (now (table .entry)) in
+        let r' = stateOf n m (now (bounds .exit)) A (now (table .exit)) in
+        ⌜ ListMeans s (listRun r r') ⌝ }
+    ensures counted { λ r.
+        ⌜ ((k : lists.Counts) → listAnswer r ≡ ran k → ClassesCounted k (now (classes .exit))) ⌝ }
+{
+    let fault = classes_fault(n, m, bounds, coefs, rhs, kinds, table, calls, classes);
+    if fault != 0 {
+        return RunAnswer::Refused(fault);
     }
-    RunAnswer::Ran(counts)
+    RunAnswer::Ran(run_records(n, m, bounds, coefs, rhs, kinds, table, calls, classes))
 }

@@ -1,8 +1,8 @@
 // Which rows are clean in a box that is not to be moved: each row that is not known to be is tested, without a copy of
 // the box.
+use matrix_row::row_moves_at;
+use matrix_row::row_moves_at_by;
 use row_marks::index::know_steps;
-use row_view::row_moves_at;
-use row_view::row_moves_at_by;
 ghost use mathlib.Core.Path.{_≡_};
 ghost use Prim.Native.Nat.{_<_};
 ghost use Rattle.model.specs.Rows.{rowAt, rowsOf};

@@ -1,11 +1,11 @@
 // A row that is propagated or tested by what is known of it (crate `row_marks`): one not visited yet is read whole, any
 // other by its steps. `clean` finds the rows that are clean in a box.
+use matrix_row::propagate_row_at;
+use matrix_row::propagate_row_at_by;
 use row::propagation::RowPropagation;
 use row_marks::index::know_steps;
 use row_marks::marks::remark;
 use row_marks::marks::remark_all;
-use row_view::propagate_row_at;
-use row_view::propagate_row_at_by;
 ghost use mathlib.Core.Path.{_≡_};
 ghost use Prim.Native.Nat.{ℕ, _*_, _<_};
 ghost use Rattle.model.specs.Rows.{rowAt, rowsOf};

@@ -1,10 +1,10 @@
 // The two open calls.
 use crate::count::pages_needed;
 use crate::sheet::write_all;
-use model::box_fault;
-use model::is_bits;
-use model::is_product;
-use model::size_fault;
+use buffer_checks::is_bits;
+use buffer_checks::is_product;
+use model_checks::box_fault;
+use model_checks::size_fault;
 ghost use mathlib.Core.Path.{_≡_};
 ghost use lib.ListN.{length};
 ghost use Rattle.model.specs.Checks.{first};

@@ -1,8 +1,8 @@
 // The total width of a box, and a budget that no propagation from it spends.
 use boxes::is_empty;
-use model::box_fault;
-use model::is_product;
-use model::size_fault;
+use buffer_checks::is_product;
+use model_checks::box_fault;
+use model_checks::size_fault;
 ghost use mathlib.Core.Path.{_≡_};
 ghost use Prim.Native.Nat.{ℕ, _<_, _≤_};
 ghost use lib.IntN.{pos, _-ℤ_};

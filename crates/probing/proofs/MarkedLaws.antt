@@ -97,7 +97,7 @@ marked-all {n} {m} {B} {A} v p t = record {
 
 -- ---- after a probe
 
-probing-box : (r : Probing) (Q : List ℤ) (t : List ℕ) → probingOf r Q t .box ≡ Q
+pub probing-box : (r : Probing) (Q : List ℤ) (t : List ℕ) → probingOf r Q t .box ≡ Q
 unfolding probingOf
 probing-box (probing.Infeasible s0 s1) Q t = refl
 probing-box (probing.Fixed v s0 s1) Q t = refl

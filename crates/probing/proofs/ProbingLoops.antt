@@ -73,7 +73,7 @@ fix-model k v p f h b = record {
 
 -- ---- a side's answer
 
-box-is : (s : Propagation) (S : List ℤ) → propagationOf s S .box ≡ S
+pub box-is : (s : Propagation) (S : List ℤ) → propagationOf s S .box ≡ S
 unfolding propagationOf
 box-is (Infeasible p k) S = refl
 box-is (Converged p k) S = refl

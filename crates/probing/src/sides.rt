@@ -180,7 +180,7 @@ fn survivor<'a>(zero: &'a [i32], one: &'a [i32], len: usize) -> &'a [i32]
 }
 
 // What the two propagated sides come to. A side that is infeasible is set aside before the hull or the fixing.
-fn join<'a>(
+pub fn join<'a>(
     n: usize,
     k: usize,
     s0: Propagation,
@@ -324,7 +324,7 @@ fn finish_probe<'a>(
 }
 
 // A side that was not tried: the box is empty already.
-fn untried() -> Side
+pub fn untried() -> Side
     ensures { λ r. ⌜ r ≡ record { passes = 0; spent = false; moved = 0 } ⌝ }
 {
     Side {

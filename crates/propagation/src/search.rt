@@ -1,8 +1,8 @@
 // The search for a row whose propagation would change a box that is not to be moved (02, C-13 and C-15): what a row
 // would do is found without doing it, so nothing is written and no box is copied.
 use crate::Propagation;
+use matrix_row::row_moves_at;
 use row_marks::marks::next_row;
-use row_view::row_moves_at;
 ghost use mathlib.Core.Path.{_≡_};
 ghost use Prim.Native.Nat.{_≤_};
 ghost use lib.ListN.{length};

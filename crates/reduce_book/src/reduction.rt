@@ -1,6 +1,6 @@
 // From a book to an answer, in memory: the text of the answer, in either form, is `outputAs` of the book.
 use book::SizesAnswer;
-use book::reading::read;
+use book_reading::read;
 use rounds::RoundsAnswer;
 ghost use mathlib.Core.Path.{_≡_};
 ghost use Rattle.model.specs.Rows.{rowsOf};

@@ -3,12 +3,11 @@
 use Prim.Native.Nat.{_<_, ℕ}
 use lib.Dec.{T, eqb}
 use lib.IntN.{ℤ}
-use mathlib.Core.Bool.{Bool, cond, false, not, true}
+use mathlib.Core.Bool.{false, not}
 use mathlib.Core.List.{List, []}
 use mathlib.Core.Logic.{_↔_, ⊎-elim}
-use mathlib.Core.Path.{_∙_, _≡_, ap, refl, subst, sym}
-use Rattle.integer.proofs.Tests.{T→false, cond-ind, decide, eqb-test, neqb→ne, test-false, test-true}
-use Rattle.model.specs.Checks.{first, none}
+use mathlib.Core.Path.{_∙_, _≡_, ap, subst, sym}
+use Rattle.integer.proofs.Tests.{T→false, cond-ind, decide, eqb-test, neqb→ne, test-false}
 use Rattle.model.specs.Rows.{Rows, rowAt, setRow}
 use Rattle.model.specs.Valid.{ValidModel}
 use Rattle.model.proofs.CheckLaws.{fault-none}
@@ -16,7 +15,7 @@ use Rattle.row.specs.Outcome.{Outcome}
 use Rattle.row_change.specs.KindChanges.{ChangedRow}
 use Rattle.row.specs.Kinds.{propagateRowOf}
 use Rattle.row.specs.Propagation.{PropagatedRow}
-use Rattle.semantics.specs.CallChecks.{callFault, lentTable, recordChecks}
+use Rattle.semantics.specs.CallChecks.{callFault}
 use Rattle.semantics.specs.Convergence.{ProbeMoves, RestAnswered, RestMeans}
 use Rattle.semantics.specs.Demand2.{CallMeans, Demand2, EndsAs, EndsGreatest}
 use Rattle.semantics.specs.Perform.{Answer, Performed, act, perform, probed, propagated, propagatedRow, refused}
@@ -25,35 +24,18 @@ use Rattle.semantics.specs.Probe.{Probed, probe}
 use Rattle.semantics.specs.Propagate.{Propagated, propagate}
 use Rattle.semantics.specs.RestTest.{Rest, atRest, byRow, byVariable, restFault, restOf}
 use Rattle.semantics.specs.Run.{answersNone, isRefused, step}
-use Rattle.semantics.specs.Call.{Call, Kind, callOf, hasRow, hasTable, kindOf}
+use Rattle.semantics.specs.Call.{Call, callOf, hasRow, kindOf}
 use Rattle.model.specs.State.{State, stateOf, withBox, withRow}
 use Rattle.model.specs.Model.{modelOf}
-use Rattle.semantics.proofs.Accepted.{accepted, fault-of-own, modelFaultOf}
+use Rattle.semantics.proofs.Accepted.{accepted}
 use Rattle.semantics.proofs.CallLaws.{perform-accepted}
 use Rattle.semantics.proofs.Demand2.{demand-2}
 use Rattle.semantics.proofs.Preserved.{Preserves, step-preserves}
 use Rattle.semantics.proofs.RestAnswer.{rest-answer, rest-probe-moves}
-use Rattle.reducer.specs.OpenCalls.{Ends, Means, NoMeans, RestVerdict, performed, refusedRest, rest, tested}
-
--- ---- the number that refuses
-
--- of a call on s that is lent all of it; f is what the checks of the model (and table) come to
-module _ (s : State) (kind row variable budget : ℕ) {f : ℕ} (h : f ≡ modelFaultOf (kindOf kind) s) where
-  fault-is : callFault s (callOf s kind row variable budget)
-      ≡ cond (eqb f 0) (first (recordChecks (kindOf kind) s (callOf s kind row variable budget))) f
-  unfolding callOf
-  fault-is = fault-of-own s (callOf s kind row variable budget) refl refl refl ∙ rw h
-
-  pub model-refuses : (f ≡ 0 → ⊥) → f ≡ callFault s (callOf s kind row variable budget)
-  model-refuses n = sym (fault-is ∙ rw (test-false (eqb f 0) (eqb-test f 0) n))
-
-  pub own-fault : {r : ℕ} → f ≡ 0 → r ≡ first (recordChecks (kindOf kind) s (callOf s kind row variable budget))
-      → r ≡ callFault s (callOf s kind row variable budget)
-  own-fault z e = e ∙ sym (fault-is ∙ rw (test-true (eqb f 0) (eqb-test f 0) z))
-
-pub no-table : (k : Kind) (s : State) → T (not (hasTable k)) → lentTable k s ≡ none
-unfolding lentTable
-no-table k s t = rw (T→false (hasTable k) t)
+use Rattle.probing.specs.Results.{probingOf}
+use Rattle.probing.specs.declared.sides.Probing.{Probing}
+use Rattle.probing.specs.declared.sides.Probing.the-variants as probing
+use Rattle.reducer.specs.OpenCalls.{Ends, Means, NoMeans, RestVerdict, performed, probingAnswer, refusedRest, rest, tested}
 
 -- ---- what a call performs
 
@@ -95,11 +77,20 @@ module _ (n m : ℕ) (B : List ℤ) (A : Rows) (budget : ℕ) where
   unfolding stateOf callOf performed act kindOf withBox
   rows-propagated f w h = let s = stateOf n m B A [] in sym (perform-accepted s (callOf s 2 0 0 budget) f ∙ rw h)
 
-  pub variable-probed : (t : List ℕ) (variable : ℕ) → let s = stateOf n m B A t in
+  variable-probed : (t : List ℕ) (variable : ℕ) → let s = stateOf n m B A t in
       callFault s (callOf s 3 0 variable budget) ≡ 0 → (w : Probed) → w ≡ probe variable budget n m A B t
       → performed (probed (w .ending) (w .side0) (w .side1)) (stateOf n m (w .box) A (w .table)) ≡ perform s (callOf s 3 0 variable budget)
   unfolding stateOf callOf performed act kindOf withBox
   variable-probed t variable f w h = let s = stateOf n m B A t in sym (perform-accepted s (callOf s 3 0 variable budget) f ∙ rw h)
+
+  -- and the answer that is made of it
+  pub probing-performed : (t : List ℕ) (variable : ℕ) (p : Probing) (Q : List ℤ) (u : List ℕ) → let s = stateOf n m B A t in
+      callFault s (callOf s 3 0 variable budget) ≡ 0 → probingOf p Q u ≡ probe variable budget n m A B t
+      → performed (probingAnswer p) (stateOf n m Q A u) ≡ perform s (callOf s 3 0 variable budget)
+  unfolding probingOf
+  probing-performed t variable (probing.Infeasible s0 s1) Q u f e = variable-probed t variable f (probingOf (probing.Infeasible s0 s1) Q u) e
+  probing-performed t variable (probing.Fixed v s0 s1) Q u f e = variable-probed t variable f (probingOf (probing.Fixed v s0 s1) Q u) e
+  probing-performed t variable (probing.BothFeasible a s0 s1) Q u f e = variable-probed t variable f (probingOf (probing.BothFeasible a s0 s1) Q u) e
 
 -- ---- what its answer means, refused or not
 

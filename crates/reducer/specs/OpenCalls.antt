@@ -3,7 +3,7 @@ use Prim.Native.Nat.{_≤_, ℕ}
 use lib.Dec.{T, eqb}
 use lib.IntN.{ℤ}
 use mathlib.Core.Bool.{cond}
-use mathlib.Core.List.{List}
+use mathlib.Core.List.{List, []}
 use mathlib.Core.Logic.{_↔_, _≢_}
 use mathlib.Core.Path.{_≡_}
 use Rattle.model.specs.Box.{emptyBox}
@@ -20,7 +20,8 @@ use Rattle.semantics.specs.Propagate as ended
 use Rattle.semantics.specs.RestTest.{Rest, atRest, byRow, byVariable, restFault, restOf}
 use Rattle.semantics.specs.Run.{answersNone}
 use Rattle.model.specs.State.{State}
-use Rattle.probing.specs.Results.{reportOf}
+use Rattle.probing.specs.Results.{probingOf, reportOf}
+use Rattle.probing.specs.declared.sides.Probing.{Probing}
 use Rattle.reducer.specs.declared.calls.PropagateRowAnswer.{PropagateRowAnswer}
 use Rattle.reducer.specs.declared.calls.PropagateRowAnswer.the-variants as row
 use Rattle.reducer.specs.declared.calls.PropagateAnswer.{PropagateAnswer}
@@ -59,6 +60,10 @@ probeAnswer (probes.Refused number) = refused number
 probeAnswer (probes.Infeasible s0 s1) = probed semantic.infeasible (reportOf s0) (reportOf s1)
 probeAnswer (probes.Fixed v s0 s1) = probed (semantic.fixed v) (reportOf s0) (reportOf s1)
 probeAnswer (probes.BothFeasible added s0 s1) = probed (semantic.bothFeasible added) (reportOf s0) (reportOf s1)
+
+-- of a probe that was accepted, what its probing says
+abbrev pub probingAnswer : Probing → Answer
+probingAnswer p = let w = probingOf p [] [] in probed (w .ending) (w .side0) (w .side1)
 
 -- sharpen: refused N, None, Sharpened, Same
 unfoldable pub tightenAnswer : TightenAnswer → Answer

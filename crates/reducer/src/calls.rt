@@ -2,38 +2,26 @@
 // check that fails and then changes nothing; everything else is accepted. In the contracts `s` is the state before
 // the call and `r'` the state after it. `defined`: the answer and every lent buffer afterwards are what `perform`
 // gives for the call made of the very n, m, numbers and buffer lengths handed over. `meaning`: what the answer means
-// for the points, and of the rest call what a yes means; `ending`: that the call ended within its budget; `found`: what
-// a no of the rest call means. Every call is refused by the model's checks first, 3, 5, 6, 7, 23, 8, 9 and 16
-// (`model_fault`), and then by those that its own comment names.
-use crate::checks::call_fault;
-use crate::checks::probe_fault;
+// for the points; `ending`: that the call ended within its budget. Every call is refused by the model's checks first,
+// 3, 5, 6, 7, 23, 8, 9 and 16 (`model_fault`), and then by those that its own comment names.
 use call::Call;
 use call::PROPAGATE;
 use call::PROPAGATE_ROW;
-use call::REMOVE_ROW;
-use call::TIGHTEN_COEFFICIENT;
+use matrix_row::propagate_row_at;
+use open_checks::call_fault;
+use open_checks::probe_fault;
 use probing::sides::Probing;
 use probing::sides::Side;
 use propagation::Propagation;
-use rest::Rest;
-use rest::test_rest;
 use row::propagation::RowPropagation;
-use row_change::redundancy::RowRemoval;
-use row_change::tightening::CoefficientTightening;
-use row_view::changes::remove_redundant_row_at;
-use row_view::changes::tighten_coefficient_at;
-use row_view::propagate_row_at;
 ghost use mathlib.Core.List.{[]};
-ghost use mathlib.Core.Logic.{_↔_};
 ghost use mathlib.Core.Path.{_≡_};
 ghost use Rattle.semantics.specs.Perform.{perform};
-ghost use Rattle.semantics.specs.Points.{AtRest};
-ghost use Rattle.semantics.specs.RestTest.{atRest, restFault};
 ghost use Rattle.semantics.specs.Call.{callOf};
 ghost use Rattle.model.specs.Rows.{rowsOf};
 ghost use Rattle.model.specs.State.{stateOf};
-ghost use Rattle.reducer.specs.OpenCalls.{Ends, Means, NoMeans, performed, probeAnswer, propagateAnswer};
-ghost use Rattle.reducer.specs.OpenCalls.{removeAnswer, rest, restVerdict, rowAnswer, tested, tightenAnswer};
+ghost use Rattle.reducer.specs.OpenCalls.{Ends, Means, performed, probeAnswer, probingAnswer};
+ghost use Rattle.reducer.specs.OpenCalls.{propagateAnswer, rowAnswer};
 
 // 01's visit: refused N, None, Narrowed with the number of bounds moved, Same.
 pub enum PropagateRowAnswer {
@@ -166,6 +154,21 @@ pub fn propagate(
     }
 }
 
+// What a probing says, as an answer.
+pub fn probe_answer(p: Probing) -> ProbeAnswer
+    ensures { λ r. ⌜ probeAnswer r ≡ probingAnswer p ⌝ }
+{
+    match p {
+        Probing::Infeasible(side0, side1) => ProbeAnswer::Infeasible(side0, side1),
+        Probing::Fixed(value, side0, side1) => ProbeAnswer::Fixed(value, side0, side1),
+        Probing::BothFeasible(added, side0, side1) => ProbeAnswer::BothFeasible(
+            added,
+            side0,
+            side1,
+        ),
+    }
+}
+
 // Probes the free binary variable `variable`, each side with `budget` passes (01's probe). Refused by 10, 13 to
 // 15.
 pub fn probe(
@@ -199,7 +202,7 @@ pub fn probe(
     if fault != 0 {
         return ProbeAnswer::Refused(fault);
     }
-    match probing::sides::probe(
+    probe_answer(probing::sides::probe(
         n,
         m,
         bounds,
@@ -209,135 +212,5 @@ pub fn probe(
         table,
         variable as usize,
         budget,
-    ) {
-        Probing::Infeasible(side0, side1) => ProbeAnswer::Infeasible(side0, side1),
-        Probing::Fixed(value, side0, side1) => ProbeAnswer::Fixed(value, side0, side1),
-        Probing::BothFeasible(added, side0, side1) => ProbeAnswer::BothFeasible(
-            added,
-            side0,
-            side1,
-        ),
-    }
-}
-
-// Tightens the coefficient of the free binary variable `variable` in row `row` (01's sharpen). Refused by 12 to 14.
-pub fn tighten_coefficient(
-    n: usize,
-    m: usize,
-    bounds: &[i32],
-    coefs: &mut [i32],
-    rhs: &mut [i32],
-    kinds: &[u8],
-    row: u32,
-    variable: u32,
-) -> TightenAnswer
-    ensures defined { λ r.
-        let A = rowsOf (now (coefs .entry)) (now (rhs .entry)) (now (kinds .entry)) in
-        let A' = rowsOf (now (coefs .exit)) (now (rhs .exit)) (now (kinds .entry)) in
-        let s = stateOf n m (now (bounds .entry)) A [] in
-        let r' = stateOf n m (now (bounds .entry)) A' [] in
-        ⌜ performed (tightenAnswer r) r' ≡ perform s (callOf s 4 row variable 0) ⌝ }
-    ensures meaning { λ r.
-        let A = rowsOf (now (coefs .entry)) (now (rhs .entry)) (now (kinds .entry)) in
-        let A' = rowsOf (now (coefs .exit)) (now (rhs .exit)) (now (kinds .entry)) in
-        let s = stateOf n m (now (bounds .entry)) A [] in
-        let r' = stateOf n m (now (bounds .entry)) A' [] in
-        ⌜ Means s r' (tightenAnswer r) ⌝ }
-{
-    let call = Call {
-        kind: TIGHTEN_COEFFICIENT,
-        row,
-        variable,
-        budget: 0,
-    };
-    let fault = call_fault(n, m, bounds, coefs, rhs, kinds, call);
-    if fault != 0 {
-        return TightenAnswer::Refused(fault);
-    }
-    match tighten_coefficient_at(
-        n,
-        coefs,
-        rhs,
-        kinds,
-        row as usize,
-        bounds,
-        variable as usize,
-    ) {
-        CoefficientTightening::Infeasible => TightenAnswer::Infeasible,
-        CoefficientTightening::Tightened => TightenAnswer::Tightened,
-        CoefficientTightening::Unchanged => TightenAnswer::Unchanged,
-    }
-}
-
-// Removes row `row` where the box implies it (01's drop). Refused by 12.
-pub fn remove_redundant_row(
-    n: usize,
-    m: usize,
-    bounds: &[i32],
-    coefs: &mut [i32],
-    rhs: &mut [i32],
-    kinds: &mut [u8],
-    row: u32,
-) -> RemoveAnswer
-    ensures defined { λ r.
-        let A = rowsOf (now (coefs .entry)) (now (rhs .entry)) (now (kinds .entry)) in
-        let A' = rowsOf (now (coefs .exit)) (now (rhs .exit)) (now (kinds .exit)) in
-        let s = stateOf n m (now (bounds .entry)) A [] in
-        let r' = stateOf n m (now (bounds .entry)) A' [] in
-        ⌜ performed (removeAnswer r) r' ≡ perform s (callOf s 5 row 0 0) ⌝ }
-    ensures meaning { λ r.
-        let A = rowsOf (now (coefs .entry)) (now (rhs .entry)) (now (kinds .entry)) in
-        let A' = rowsOf (now (coefs .exit)) (now (rhs .exit)) (now (kinds .exit)) in
-        let s = stateOf n m (now (bounds .entry)) A [] in
-        let r' = stateOf n m (now (bounds .entry)) A' [] in
-        ⌜ Means s r' (removeAnswer r) ⌝ }
-{
-    let call = Call {
-        kind: REMOVE_ROW,
-        row,
-        variable: 0,
-        budget: 0,
-    };
-    let fault = call_fault(n, m, bounds, coefs, rhs, kinds, call);
-    if fault != 0 {
-        return RemoveAnswer::Refused(fault);
-    }
-    match remove_redundant_row_at(n, coefs, rhs, kinds, row as usize, bounds) {
-        RowRemoval::Infeasible => RemoveAnswer::Infeasible,
-        RowRemoval::Removed => RemoveAnswer::Removed,
-        RowRemoval::Unchanged => RemoveAnswer::Unchanged,
-    }
-}
-
-// Whether the box is a probing fixpoint (01's rest call), and what shows that it is none.
-pub fn is_probing_fixpoint(
-    n: usize,
-    m: usize,
-    bounds: &[i32],
-    coefs: &[i32],
-    rhs: &[i32],
-    kinds: &[u8],
-) -> RestAnswer
-    ensures defined { λ r.
-        let A = rowsOf (now (coefs .entry)) (now (rhs .entry)) (now (kinds .entry)) in
-        let s = stateOf n m (now (bounds .entry)) A [] in
-        ⌜ restVerdict r ≡ rest s ⌝ }
-    ensures meaning { λ r.
-        let A = rowsOf (now (coefs .entry)) (now (rhs .entry)) (now (kinds .entry)) in
-        let s = stateOf n m (now (bounds .entry)) A [] in
-        ⌜ (restVerdict r ≡ tested atRest) ↔ ((restFault s ≡ 0) × AtRest s) ⌝ }
-    ensures found { λ r.
-        let A = rowsOf (now (coefs .entry)) (now (rhs .entry)) (now (kinds .entry)) in
-        let s = stateOf n m (now (bounds .entry)) A [] in
-        ⌜ NoMeans s (restVerdict r) ⌝ }
-{
-    let fault = model::model_fault(n, m, bounds, coefs, rhs, kinds, true);
-    if fault != 0 {
-        return RestAnswer::Refused(fault);
-    }
-    match test_rest(n, m, bounds, coefs, rhs, kinds) {
-        Rest::AtRest => RestAnswer::Yes,
-        Rest::ByRow(r) => RestAnswer::NoByRow(r),
-        Rest::ByVariable(k) => RestAnswer::NoByVariable(k),
-    }
+    ))
 }

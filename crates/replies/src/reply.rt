@@ -18,7 +18,7 @@ pub enum Reply {
 pub fn answer_fault(n: usize, m: usize) -> u32
     ensures { λ r. ⌜ r ≡ wrongLength (sizeChecks n m) ⌝ }
 {
-    let size = model::size_fault(n, m);
+    let size = model_checks::size_fault(n, m);
     if size != 0 {
         return size;
     }

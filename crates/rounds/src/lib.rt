@@ -57,7 +57,7 @@ pub fn run(
         let r' = stateOf n m (now (bounds .exit)) A' (now (table .exit)) in
         ⌜ EndsAtRest r' (roundsAnswer r) ⌝ }
 {
-    let fault = model::model_table_fault(n, m, bounds, coefs, rhs, kinds, table, true);
+    let fault = model_checks::model_table_fault(n, m, bounds, coefs, rhs, kinds, table, true);
     if fault != 0 {
         return RoundsAnswer::Refused(fault);
     }

@@ -1,6 +1,6 @@
 // Remove a redundant row (01's drop).
-use row::activity::maximum_activity;
-use row::activity::minimum_activity;
+use row_activity::maximum_activity;
+use row_activity::minimum_activity;
 ghost use mathlib.Core.Bool.{_&&_, cond, false, not};
 ghost use mathlib.Core.Path.{_≡_};
 ghost use lib.ListN.{length};

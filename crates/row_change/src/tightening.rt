@@ -1,5 +1,5 @@
 // Tighten a coefficient (01's sharpen).
-use row::activity::maximum_activity;
+use row_activity::maximum_activity;
 ghost use mathlib.Core.Path.{_≡_};
 ghost use Prim.Native.Nat.{_<_};
 ghost use lib.ListN.{length};

@@ -11,7 +11,7 @@ use book::writing::WriteAnswer;
 use model::MAX_BOX;
 use model::MAX_MATRIX;
 use model::MAX_ROWS;
-use sparse_layout::reading::layout_fault;
+use sparse_reading::layout_fault;
 ghost use mathlib.Core.Path.{_≡_};
 ghost use Prim.Native.Nat.{_*_};
 ghost use lib.ListN.{length};
@@ -86,7 +86,7 @@ fn convert_sparse(
         ⌜ now (to .exit) ≡ bookWritten (sparseModelIn n m (now (from .entry))) (now (to .entry)) ⌝ }
 {
     read_numbers(n, m, from, bounds, coefs, rhs, kinds);
-    book::writing::write(n, m, bounds, coefs, rhs, kinds, to)
+    book_writing::write(n, m, bounds, coefs, rhs, kinds, to)
 }
 
 // How many bytes the sparse edition of a first-edition book has. Refused as reading the book is, by 1 to 4, 6 to 9 and

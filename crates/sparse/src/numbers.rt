@@ -1,8 +1,8 @@
 // The numbers of a book of either edition whose layout has passed its checks, into buffers of its model's lengths.
 use bytes::integers::read_integers;
-use sparse_layout::reading::read_coefs;
-use sparse_layout::reading::read_kinds;
-use sparse_layout::reading::read_rhs;
+use sparse_reading::read_coefs;
+use sparse_reading::read_kinds;
+use sparse_reading::read_rhs;
 ghost use mathlib.Core.Path.{_≡_};
 ghost use Prim.Native.Nat.{_*_};
 ghost use lib.ListN.{length};
@@ -51,6 +51,6 @@ pub fn read_first(
     ensures rhs_read { λ r. ⌜ now (rhs .exit) ≡ rhsOf n m (now (book .entry)) ⌝ }
 {
     read_integers(book, 0, 4, bounds);
-    book::reading::read_coefs(n, m, book, coefs);
+    book_reading::read_coefs(n, m, book, coefs);
     read_integers(book, 8 * n, 4 + 4 * n, rhs);
 }

@@ -8,8 +8,8 @@ use book::layout::rows_of;
 use book::layout::trailer_u16;
 use book::layout::variables_of;
 use sparse_layout::head::frame_fault;
-use sparse_layout::reading::layout_fault;
-use sparse_layout::reading::number_fault;
+use sparse_reading::layout_fault;
+use sparse_reading::number_fault;
 ghost use mathlib.Core.Path.{_≡_};
 ghost use Prim.Native.Nat.{ℕ};
 ghost use Rattle.book.specs.Answers.{sizesAnswer, sizesAre};
@@ -51,7 +51,7 @@ fn read_fault(book: &[u8], bounds: &[i32], coefs: &[i32], rhs: &[i32], kinds: &[
     }
     let n = trailer_u16(book, VARIABLES);
     let m = trailer_u16(book, ROWS);
-    let length = model::length_fault(n, m, bounds, coefs, rhs, kinds);
+    let length = model_checks::length_fault(n, m, bounds, coefs, rhs, kinds);
     if length != 0 {
         return length;
     }

@@ -2,12 +2,12 @@
 use book::layout::TRAILER;
 use book::layout::write_trailer;
 use book::writing::WriteAnswer;
+use buffer_checks::is_product;
 use bytes::integers::write_integers;
-use model::is_product;
-use model::model_fault;
-use model::size_fault;
-use sparse_layout::writing::sparse_length;
-use sparse_layout::writing::write_rows;
+use model_checks::model_fault;
+use model_checks::size_fault;
+use sparse_writing::sparse_length;
+use sparse_writing::write_rows;
 ghost use mathlib.Core.List.{[]};
 ghost use mathlib.Core.Path.{_≡_};
 ghost use Prim.Native.Nat.{_*_};

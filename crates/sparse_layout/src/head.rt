@@ -8,7 +8,7 @@ use book::layout::rows_of;
 use book::layout::trailer_u16;
 use book::layout::variables_of;
 use bytes::read_u32;
-use model::size_fault;
+use model_checks::size_fault;
 ghost use mathlib.Core.Path.{_≡_};
 ghost use Prim.Native.Nat.{_<_, _≤_};
 ghost use lib.Dec.{eqb};

@@ -1,11 +1,11 @@
 // Propagate a row (01's visit) by its steps: each sweep passes over the coefficients that are 0, which add nothing and
 // move nothing.
-use row::activity::Reach;
-use row::activity::term;
-use row::activity::wider;
 use row::propagation::RowPropagation;
-use row::propagation::both;
-use row::propagation::tighten_bounds_at;
+use row_activity::Reach;
+use row_activity::term;
+use row_activity::wider;
+use row_bounds::tighten_bounds_at;
+use row_propagation::both;
 ghost use mathlib.Core.Path.{_≡_};
 ghost use lib.ListN.{length};
 ghost use Rattle.row.specs.Activity.{minActivity, widestTerm};

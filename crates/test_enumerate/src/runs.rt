@@ -9,7 +9,7 @@ use crate::rooms::rhs_part;
 use crate::rooms::row_count;
 use crate::rooms::table_part;
 use reducer::calls::RestAnswer;
-use reducer::calls::is_probing_fixpoint;
+use rest_call::is_probing_fixpoint;
 use test_support::made::make;
 use test_support::parts::same_numbers;
 

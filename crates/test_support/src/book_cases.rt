@@ -8,10 +8,10 @@ use crate::print::line;
 use crate::print::text;
 use crate::words;
 use book::SizesAnswer;
-use book::reading::read;
 use book::trailer;
 use book::writing::WriteAnswer;
-use book::writing::write;
+use book_reading::read;
+use book_writing::write;
 
 fn sizes(answer: SizesAnswer) {
     text(b":");

@@ -9,7 +9,8 @@
 //   1 ROW VARIABLE BUDGET          one of them, by the number of its kind; 6 is the rest call
 //   CALL KIND ROW VARIABLE BUDGET  one on the model itself: the record and the answer
 //   execute LENGTH X ..            runs the list of as many numbers and writes the four counts
-//   FOUR X ..                      the same of four records, 16 numbers in all
+//   DID BYTES LENGTH X ..          the same with as many bytes lent for what the records did, and the bytes
+//   FOUR X ..                      the counts of four records, 16 numbers in all
 //   PLAN LENGTH X ..               the total width, a budget that is never spent, and of the list of as many
 //                                  numbers the passes at most
 //   KNOT K J LENGTH P ..           ties variable J to variable K on the model itself, with a tie list of as many
@@ -38,7 +39,7 @@ use crate::transcript;
 use crate::words;
 use crate::words::natural;
 use crate::words::number;
-use reducer::calls::is_probing_fixpoint;
+use rest_call::is_probing_fixpoint;
 
 // What stands behind the first word of a line.
 fn name(line: &[u8]) -> &[u8] {
@@ -124,6 +125,7 @@ fn answer(
     match words::first(line) {
         b'C' => transcript::step(n, m, bounds, coefs, rhs, kinds, table, record(name(line))),
         b'e' => lists::execute(line, n, m, bounds, coefs, rhs, kinds, table),
+        b'D' => lists::execute_classes(line, n, m, bounds, coefs, rhs, kinds, table),
         b'F' => lists::execute_records(line, n, m, bounds, coefs, rhs, kinds, table),
         b'K' => tied::knot(line, n, m, bounds, coefs, rhs, kinds, table),
         b'R' | b'T' | b'W' | b'B' | b'S' => {

@@ -2,13 +2,16 @@
 use crate::in_words::item;
 use crate::in_words::ran;
 use crate::in_words::refused;
+use crate::parts::bytes_part_mut;
 use crate::parts::naturals_part;
+use crate::print::bytes;
 use crate::print::line;
 use crate::print::text;
 use crate::words::fill_naturals;
 use crate::words::number;
 use call::Call;
 use call_list::run_four;
+use flat_list::run_classes;
 use reducer::calls::RestAnswer;
 
 // Runs a list of numbers, four a record.
@@ -30,6 +33,29 @@ pub fn execute(
     text(b":");
     ran(flat_list::run(n, m, bounds, coefs, rhs, kinds, table, list));
     line();
+}
+
+// The same, with as many bytes lent for what the records did as the first number says, each 9 before.
+pub fn execute_classes(
+    words: &[u8],
+    n: usize,
+    m: usize,
+    bounds: &mut [i32],
+    coefs: &[i32],
+    rhs: &[i32],
+    kinds: &[u8],
+    table: &mut [u8],
+) {
+    let mut calls = [0u32; 64];
+    let mut room = [9u8; 16];
+    let len = number(words, 2);
+    let all = len.magnitude as usize;
+    fill_naturals(words, len.next, all, &mut calls);
+    let list = naturals_part(&calls, all);
+    let classes = bytes_part_mut(&mut room, number(words, 1).magnitude as usize);
+    text(b":");
+    ran(run_classes(n, m, bounds, coefs, rhs, kinds, table, list, classes));
+    bytes(b" did", classes);
 }
 
 fn record(call: [u32; 4]) -> Call {

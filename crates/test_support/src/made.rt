@@ -1,16 +1,16 @@
 // One open call by its record, and what it answered.
+use change_call::remove_redundant_row;
+use change_call::tighten_coefficient;
 use reducer::calls::ProbeAnswer;
 use reducer::calls::PropagateAnswer;
 use reducer::calls::PropagateRowAnswer;
 use reducer::calls::RemoveAnswer;
 use reducer::calls::RestAnswer;
 use reducer::calls::TightenAnswer;
-use reducer::calls::is_probing_fixpoint;
 use reducer::calls::probe;
 use reducer::calls::propagate;
 use reducer::calls::propagate_row;
-use reducer::calls::remove_redundant_row;
-use reducer::calls::tighten_coefficient;
+use rest_call::is_probing_fixpoint;
 
 // The kinds of a record: 01's five. Every other kind is the rest call here.
 pub const VISIT: u32 = 1;

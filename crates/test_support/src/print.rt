@@ -55,3 +55,14 @@ pub fn ones(word: &[u8], xs: &[u8]) {
     }
     line();
 }
+
+// The bytes of a list, behind a word.
+pub fn bytes(word: &[u8], xs: &[u8]) {
+    text(word);
+    let mut i = 0;
+    while i < xs.len() {
+        count(xs[i] as usize);
+        i += 1;
+    }
+    line();
+}

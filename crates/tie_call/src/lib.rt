@@ -59,7 +59,7 @@ fn tie_fault(
         ⌜ r ≡ tieFault s (tieCallOf s k j) ⌝ }
 {
     let fits = ties.len() == n;
-    let fault = model::model_table_fault(n, m, bounds, coefs, rhs, kinds, table, fits);
+    let fault = model_checks::model_table_fault(n, m, bounds, coefs, rhs, kinds, table, fits);
     if fault != 0 {
         return fault;
     }

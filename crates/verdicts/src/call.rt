@@ -1,9 +1,9 @@
 // The open call.
 use crate::judging::judge;
+use buffer_checks::is_product;
 use model::MAX_MATRIX;
-use model::is_product;
-use model::model_fault;
-use model::size_fault;
+use model_checks::model_fault;
+use model_checks::size_fault;
 ghost use mathlib.Core.Path.{_≡_};
 ghost use mathlib.Core.Bool.{_&&_};
 ghost use Prim.Native.Nat.{_*_, _≤_};

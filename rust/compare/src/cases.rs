@@ -58,7 +58,7 @@ fn session(rng: &mut Rng) -> Case {
         _ => Family::Empty,
     };
     let mut lent = models::model(rng, family);
-    lent.calls = call_list(rng, &lent);
+    lend_calls(rng, &mut lent);
     lend_list(&mut lent);
     let count = if family == Family::Largest { 3 } else { rng.between(4, 12) };
     let steps = (0..count)
@@ -70,7 +70,7 @@ fn session(rng: &mut Rng) -> Case {
 /// Ties and what leads to them: probes, which fill the table, and ties of any two variables.
 fn tied(rng: &mut Rng) -> Case {
     let (mut lent, pairs) = models::tied(rng);
-    lent.calls = call_list(rng, &lent);
+    lend_calls(rng, &mut lent);
     if rng.chance(5) {
         lent.bounds = [1, 0].repeat(lent.n);
     }
@@ -121,7 +121,7 @@ fn operation(rng: &mut Rng, lent: &Lent) -> Operation {
         14 => rng.pick(&[Operation::PlanWidth, Operation::PlanRun]),
         15 => Operation::Tie { k: variable, j: other },
         17 => Operation::Cliques,
-        _ => Operation::Run,
+        _ => rng.pick(&[Operation::Run, Operation::RunClasses]),
     }
 }
 
@@ -170,6 +170,12 @@ fn call_list(rng: &mut Rng, lent: &Lent) -> Vec<u32> {
         .collect()
 }
 
+/// A call list, and a byte for each of its records that no class has.
+fn lend_calls(rng: &mut Rng, lent: &mut Lent) {
+    lent.calls = call_list(rng, lent);
+    lent.classes = vec![0x5a; lent.calls.len() / 4];
+}
+
 /// Writes a model into a book, which an = row refuses, and reads one back into other buffers, trailer first.
 fn book(rng: &mut Rng) -> Case {
     let family = rng.pick(&[Family::Tiny, Family::Mixed, Family::Limits, Family::Empty]);
@@ -211,7 +217,7 @@ fn clique_rows(rng: &mut Rng) -> Case {
     let probe = |k| Operation::Probe { variable: k as u32, budget: MAX_BUDGET };
     let operations =
         (0..n).map(probe).chain([Operation::Cliques, Operation::Run, Operation::Cliques]);
-    lent.calls = call_list(rng, &lent);
+    lend_calls(rng, &mut lent);
     let steps = operations.map(|operation| Step { afresh: false, operation }).collect();
     Case { lent, steps, returns: None }
 }
@@ -362,7 +368,7 @@ fn damaged(rng: &mut Rng) -> Case {
     if let Operation::Tie { j, .. } = &mut operation {
         *j = rng.index(lent.n) as u32;
     }
-    lent.calls = call_list(rng, &lent);
+    lend_calls(rng, &mut lent);
     lend_list(&mut lent);
     match operation {
         Operation::BookTrailer | Operation::PlanLengths => trailer_only(&mut lent),

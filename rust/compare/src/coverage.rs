@@ -20,7 +20,7 @@ pub struct Coverage {
     pub most_passes: u64,
     /// The most bounds that one propagation moved.
     pub most_moved: u64,
-    /// Which of [`MOVES`], [`EQUALITIES`], [`UNREST`], [`PLANS`], [`RETIRED`], [`TIES`], [`CLIQUES`] and [`PAGES`] were met.
+    /// Which of [`MOVES`], [`EQUALITIES`], [`UNREST`], [`PLANS`], [`RETIRED`], [`CLASSES`], [`TIES`], [`CLIQUES`] and [`PAGES`] were met.
     pub met: BTreeSet<&'static str>,
 }
 
@@ -64,6 +64,12 @@ const RETIRED: [&str; 3] = [
     "a call list with a retired kind whose other fields pass their checks",
     "a call list with a retired kind whose row is not below m",
     "a call list with a retired kind on the empty box",
+];
+
+/// The same of what the records of a list did.
+const CLASSES: [&str; 2] = [
+    "a call list with records of all four classes",
+    "a call list of no record, and so of no class",
 ];
 
 /// The same of ties (02, C-19): those made, and for each reason one that is not made for it alone.
@@ -171,6 +177,13 @@ impl Coverage {
         self.met(several, after.answer[0] > 1);
     }
 
+    /// Notes what the records of a list did.
+    pub fn classes(&mut self, classes: &[u8]) {
+        let [all, none] = CLASSES;
+        self.met(all, (0..4).all(|class| classes.contains(&class)));
+        self.met(none, classes.is_empty());
+    }
+
     /// Notes what pages were written.
     fn note_pages(&mut self, before: &Lent, pages: &[u8]) {
         let [empty, lowest, eight, nine, full, most] = PAGES;
@@ -206,6 +219,7 @@ impl Coverage {
         // A call without cases (a list's, a plan's, a book's) counts as case 0.
         let case = match operation {
             Operation::Run
+            | Operation::RunClasses
             | Operation::PlanWidth
             | Operation::PlanRun
             | Operation::PlanLengths
@@ -274,7 +288,7 @@ impl Coverage {
     fn note_equalities(&mut self, operation: Operation, before: &Lent, after: &Lent) {
         let [.., by_rounds] = EQUALITIES;
         match operation {
-            Operation::Run => self.note_retired(before),
+            Operation::Run | Operation::RunClasses => self.note_retired(before),
             Operation::Rounds { .. } => self.met(by_rounds, before.kinds != after.kinds),
             Operation::PropagateRow { row }
             | Operation::RemoveRedundantRow { row }
@@ -335,7 +349,7 @@ impl Coverage {
     }
 
     /// What a long enough run must have met and has not: each check of each call, each case of each
-    /// answer, and each of [`MOVES`], [`EQUALITIES`], [`UNREST`], [`PLANS`], [`RETIRED`], [`TIES`], [`CLIQUES`] and [`PAGES`].
+    /// answer, and each of [`MOVES`], [`EQUALITIES`], [`UNREST`], [`PLANS`], [`RETIRED`], [`CLASSES`], [`TIES`], [`CLIQUES`] and [`PAGES`].
     pub fn missing(&self) -> Vec<String> {
         let (row, variable, budget, limit) = (0, 0, 0, 0);
         let tie = Operation::Tie { k: variable, j: variable };
@@ -347,6 +361,7 @@ impl Coverage {
             (Operation::RemoveRedundantRow { row }, 3),
             (Operation::IsProbingFixpoint, 2),
             (Operation::Run, 1),
+            (Operation::RunClasses, 1),
             (Operation::Rounds { limit }, 3),
             (tie, 0), // its cases are among TIES
             (Operation::PlanWidth, 1),
@@ -361,7 +376,7 @@ impl Coverage {
         ];
         let all = all.into_iter().chain(Operation::SPARSE.map(|operation| (operation, 1)));
         let mut missing: Vec<String> =
-            [&MOVES[..], &EQUALITIES, &UNREST, &PLANS, &RETIRED, &TIES, &CLIQUES, &PAGES]
+            [&MOVES[..], &EQUALITIES, &UNREST, &PLANS, &RETIRED, &CLASSES, &TIES, &CLIQUES, &PAGES]
                 .concat()
                 .into_iter()
                 .filter(|what| !self.met.contains(what))

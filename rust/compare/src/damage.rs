@@ -18,7 +18,9 @@ pub fn checks(operation: Operation) -> &'static [u32] {
         Operation::TightenCoefficient { .. } => &[3, 5, 6, 7, 23, 8, 9, 16, 12, 13, 14],
         Operation::IsProbingFixpoint => &[3, 5, 6, 7, 23, 8, 9, 16],
         Operation::BookWrite => &[3, 5, 6, 7, 23, 8, 9, 16, 17],
-        Operation::Run | Operation::Rounds { .. } => &[3, 5, 6, 7, 23, 8, 9, 16, 10],
+        Operation::Run | Operation::RunClasses | Operation::Rounds { .. } => {
+            &[3, 5, 6, 7, 23, 8, 9, 16, 10]
+        }
         Operation::Tie { .. } => &[3, 5, 6, 7, 23, 8, 9, 16, 10, 21, 13],
         Operation::PlanWidth | Operation::PlanRun => &[3, 5, 6, 7, 23],
         Operation::Cliques | Operation::PageCount => &[3, 5, 10],
@@ -270,6 +272,7 @@ fn wrong_length(rng: &mut Rng, operation: Operation, lent: &mut Lent) {
     let others: &[&str] = match operation {
         Operation::Probe { .. } | Operation::Rounds { .. } => &["answer", "table"],
         Operation::Run => &["answer", "table", "calls"],
+        Operation::RunClasses => &["answer", "table", "calls", "classes"],
         Operation::Tie { .. } => &["answer", "table", "ties"],
         Operation::PlanWidth => &["answer", "bounds"],
         Operation::PlanRun => &["answer", "bounds", "calls"],
@@ -297,6 +300,7 @@ fn wrong_length(rng: &mut Rng, operation: Operation, lent: &mut Lent) {
         "kinds" => resize(rng, &mut lent.kinds),
         "table" => resize(rng, &mut lent.table),
         "ties" => resize(rng, &mut lent.ties),
+        "classes" => resize(rng, &mut lent.classes),
         "clique_coefs" => resize(rng, &mut lent.clique_coefs),
         "clique_rhs" => resize(rng, &mut lent.clique_rhs),
         "answer" if rng.chance(20) => lent.answer.truncate(6), // its length before C-11

@@ -16,6 +16,8 @@ pub struct Lent {
     pub ties: Vec<u16>,
     /// Four numbers a record.
     pub calls: Vec<u32>,
+    /// A byte a record, for what it did.
+    pub classes: Vec<u8>,
     /// A book, the bytes of a trailer, or pages.
     pub book: Vec<u8>,
     /// A list of 2n rows for the clique rows: their coefficients and right sides. Only that call is lent it.
@@ -37,6 +39,7 @@ pub struct Loan<'a> {
     pub table: &'a mut [u8],
     pub ties: &'a mut [u16],
     pub calls: &'a mut [u32],
+    pub classes: &'a mut [u8],
     pub book: &'a mut [u8],
     pub clique_coefs: &'a mut [i32],
     pub clique_rhs: &'a mut [i32],
@@ -55,6 +58,7 @@ impl Lent {
         self.table.clone_from(&to.table);
         self.ties.clone_from(&to.ties);
         self.calls.clone_from(&to.calls);
+        self.classes.clone_from(&to.classes);
         self.book.clone_from(&to.book);
         self.clique_coefs.clone_from(&to.clique_coefs);
         self.clique_rhs.clone_from(&to.clique_rhs);
@@ -73,6 +77,7 @@ impl Lent {
             table: &mut self.table,
             ties: &mut self.ties,
             calls: &mut self.calls,
+            classes: &mut self.classes,
             book: &mut self.book,
             clique_coefs: &mut self.clique_coefs,
             clique_rhs: &mut self.clique_rhs,
@@ -92,6 +97,7 @@ pub enum Operation {
     RemoveRedundantRow { row: u32 },
     IsProbingFixpoint,
     Run,
+    RunClasses,
     Rounds { limit: u64 },
     Tie { k: u32, j: u32 },
     PlanWidth,
@@ -143,7 +149,7 @@ impl Operation {
 
     /// Each of the others with these numbers, where it has them: first those on a model, then those that tell
     /// beforehand with the clique rows among them, and those on books.
-    pub fn each(row: u32, variable: u32, budget: u32, limit: u64) -> [Operation; 16] {
+    pub fn each(row: u32, variable: u32, budget: u32, limit: u64) -> [Operation; 17] {
         [
             Operation::PropagateRow { row },
             Operation::Propagate { budget },
@@ -152,6 +158,7 @@ impl Operation {
             Operation::RemoveRedundantRow { row },
             Operation::IsProbingFixpoint,
             Operation::Run,
+            Operation::RunClasses,
             Operation::Rounds { limit },
             Operation::Tie { k: variable, j: variable },
             Operation::PlanWidth,
@@ -177,6 +184,7 @@ impl Operation {
             Operation::RemoveRedundantRow { .. } => "remove_redundant_row",
             Operation::IsProbingFixpoint => "is_probing_fixpoint",
             Operation::Run => "run",
+            Operation::RunClasses => "run_classes",
             Operation::Rounds { .. } => "rounds",
             Operation::Tie { .. } => "tie",
             Operation::PlanWidth => "plan_width",
@@ -211,7 +219,7 @@ pub struct Reference;
 impl Backend for Reference {
     fn call(&mut self, operation: Operation, loan: Loan) -> u32 {
         let Loan { n, m, bounds, coefs, rhs, kinds, table, ties, calls, book, to, .. } = loan;
-        let Loan { clique_coefs, clique_rhs, answer, .. } = loan;
+        let Loan { clique_coefs, clique_rhs, classes, answer, .. } = loan;
         match operation {
             Operation::PropagateRow { row } => {
                 calls::propagate_row(n, m, bounds, coefs, rhs, kinds, row, answer)
@@ -232,6 +240,9 @@ impl Backend for Reference {
                 calls::is_probing_fixpoint(n, m, bounds, coefs, rhs, kinds, answer)
             }
             Operation::Run => calls::run(n, m, bounds, coefs, rhs, kinds, table, calls, answer),
+            Operation::RunClasses => {
+                calls::run_classes(n, m, bounds, coefs, rhs, kinds, table, calls, classes, answer)
+            }
             Operation::Rounds { limit } => {
                 calls::rounds(n, m, bounds, coefs, rhs, kinds, table, limit, answer)
             }

@@ -15,6 +15,7 @@
 //! | [`points`] | the integer points of a small model, before and after a tie |
 //! | [`coverage`] | what the cases met |
 //! | [`allocations`] | the same for the call on proposed allocations (02, C-21), in a module of its own |
+//! | [`prepared`] | the same for prepared models: random walks in a tree |
 
 pub mod allocations;
 pub mod cases;
@@ -23,5 +24,6 @@ pub mod damage;
 pub mod lent;
 pub mod models;
 pub mod points;
+pub mod prepared;
 pub mod rng;
 pub mod suite;

@@ -81,6 +81,10 @@ pub fn play(
                 let (made, limit) = check_passes(&before, &lent, expected, actual)?;
                 coverage.planned(&before, made, limit);
             }
+            if operation == Operation::RunClasses {
+                check_classes(&before, &lent, expected);
+                coverage.classes(&lent.classes);
+            }
             if matches!(operation, Operation::Tie { .. }) {
                 let (kept, lost) = check_tie(&before, &lent);
                 coverage.tied(kept, lost);
@@ -197,21 +201,52 @@ fn check_passes(
     Ok((made, limit))
 }
 
-/// Makes the call of a record by itself; the passes that it made. A record of a retired kind makes none (02,
-/// C-16), nor does one of no kind.
-fn call_alone(record: &[u32], lent: &mut Lent, backend: &mut impl Backend) -> u64 {
+/// What a list tells of each record is what its call does by itself, and the four counts are those of the
+/// classes.
+fn check_classes(before: &Lent, after: &Lent, expected: &mut impl Backend) {
+    let mut lent = before.clone();
+    let alone = |record| class_alone(record, &mut lent, expected);
+    let classes: Vec<u8> = before.calls.chunks(4).map(alone).collect();
+    assert_eq!(after.classes, classes, "the classes are those of the calls: {before:?}");
+    for (class, &count) in (0..).zip(&after.answer[..4]) {
+        let told = classes.iter().filter(|&&c| c == class).count() as u64;
+        assert_eq!(count, told, "the counts are those of the classes: {before:?}");
+    }
+}
+
+/// The direct call that a record asks for. One of a retired kind asks for none (02, C-16), nor does one of no
+/// kind.
+fn direct(record: &[u32]) -> Option<Operation> {
     let &[kind, row, variable, budget] = record else { unreachable!("four numbers a record") };
-    let operation = match kind {
-        1 => Operation::PropagateRow { row },
-        2 => Operation::Propagate { budget },
-        3 => Operation::Probe { variable, budget },
-        _ => return 0,
-    };
-    match (backend.call(operation, lent.lend()), kind) {
-        (0, 2) => lent.answer[1],
-        (0, 3) => lent.answer[2] + lent.answer[5],
+    match kind {
+        1 => Some(Operation::PropagateRow { row }),
+        2 => Some(Operation::Propagate { budget }),
+        3 => Some(Operation::Probe { variable, budget }),
+        _ => None,
+    }
+}
+
+/// Makes the call of a record by itself; the passes that it made.
+fn call_alone(record: &[u32], lent: &mut Lent, backend: &mut impl Backend) -> u64 {
+    let Some(operation) = direct(record) else { return 0 };
+    match (backend.call(operation, lent.lend()), operation) {
+        (0, Operation::Propagate { .. }) => lent.answer[1],
+        (0, Operation::Probe { .. }) => lent.answer[2] + lent.answer[5],
         _ => 0,
     }
+}
+
+/// Makes the call of a record by itself; what it did: 0 refused, 1 None, 2 changed, 3 unchanged.
+fn class_alone(record: &[u32], lent: &mut Lent, backend: &mut impl Backend) -> u8 {
+    let Some(operation) = direct(record) else { return 0 };
+    let before = lent.clone();
+    if backend.call(operation, lent.lend()) != 0 {
+        return 0;
+    }
+    if lent.answer[0] == 0 {
+        return 1;
+    }
+    if lent.bounds == before.bounds && lent.table == before.table { 3 } else { 2 }
 }
 
 /// Makes one call on both sides and compares the number returned and every buffer. The buffers are
@@ -262,6 +297,7 @@ impl Guarded {
             table: guard(&lent.table, 0x55),
             ties: guard(&lent.ties, 0x5555),
             calls: guard(&lent.calls, 0x5555_5555),
+            classes: guard(&lent.classes, 0x55),
             book: guard(&lent.book, 0x55),
             clique_coefs: guard(&lent.clique_coefs, 0x5555_5555),
             clique_rhs: guard(&lent.clique_rhs, 0x5555_5555),
@@ -287,6 +323,7 @@ impl Guarded {
             table: inner(&mut cells.table),
             ties: inner(&mut cells.ties),
             calls: inner(&mut cells.calls),
+            classes: inner(&mut cells.classes),
             book: inner(&mut cells.book),
             clique_coefs: inner(&mut cells.clique_coefs),
             clique_rhs: inner(&mut cells.clique_rhs),
@@ -307,6 +344,7 @@ impl Guarded {
             table: loan.table.to_vec(),
             ties: loan.ties.to_vec(),
             calls: loan.calls.to_vec(),
+            classes: loan.classes.to_vec(),
             book: loan.book.to_vec(),
             clique_coefs: loan.clique_coefs.to_vec(),
             clique_rhs: loan.clique_rhs.to_vec(),
@@ -359,6 +397,7 @@ impl fmt::Display for Difference {
         first(f, "table", [&left.table, &right.table])?;
         first(f, "ties", [&left.ties, &right.ties])?;
         first(f, "calls", [&left.calls, &right.calls])?;
+        first(f, "classes", [&left.classes, &right.classes])?;
         first(f, "book", [&left.book, &right.book])?;
         first(f, "clique_coefs", [&left.clique_coefs, &right.clique_coefs])?;
         first(f, "clique_rhs", [&left.clique_rhs, &right.clique_rhs])?;

@@ -58,6 +58,7 @@ fn reborrow<'a>(loan: &'a mut Loan) -> Loan<'a> {
         table: loan.table,
         ties: loan.ties,
         calls: loan.calls,
+        classes: loan.classes,
         book: loan.book,
         clique_coefs: loan.clique_coefs,
         clique_rhs: loan.clique_rhs,
@@ -493,6 +494,36 @@ fn catches_refused_records_counted_otherwise() {
         if operation == Operation::Run && said == 0 && loan.answer[0] > 0 {
             loan.answer[0] -= 1;
             loan.answer[3] += 1;
+        }
+        said
+    });
+}
+
+#[test]
+fn catches_classes_told_otherwise() {
+    let told = |operation, said| operation == Operation::RunClasses && said == 0;
+    // Unchanged told as changed; the class of the record before.
+    is_caught(|operation, _, said, loan| {
+        let unchanged = loan.classes.iter_mut().filter(|class| **class == 3);
+        if told(operation, said) {
+            unchanged.for_each(|class| *class = 2);
+        }
+        said
+    });
+    is_caught(|operation, _, said, loan| {
+        if told(operation, said) && !loan.classes.is_empty() {
+            loan.classes.rotate_right(1);
+        }
+        said
+    });
+    // Bytes that are not as many as the records accepted; a refusal that writes them.
+    is_caught(|operation, _, said, loan| {
+        let wrong = 4 * loan.classes.len() != loan.calls.len();
+        if operation == Operation::RunClasses && said == 5 && wrong { 0 } else { said }
+    });
+    is_caught(|operation, _, said, loan| {
+        if operation == Operation::RunClasses && said != 0 {
+            loan.classes.fill(0);
         }
         said
     });

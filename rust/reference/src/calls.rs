@@ -7,7 +7,7 @@
 
 use crate::checks::{self, Check};
 use crate::cliques as clique_rows;
-use crate::list;
+use crate::list::{self, Counts};
 use crate::pages;
 use crate::plan;
 use crate::probing::{self, Rest, Verdict};
@@ -20,10 +20,10 @@ use crate::{State, book, bounds as boxes, sparse};
 /// The places of an answer.
 pub const ANSWER: usize = 12;
 
-type Answer = Result<[u64; ANSWER], u32>;
+pub(crate) type Answer = Result<[u64; ANSWER], u32>;
 
 /// Fills the places from the left, the others with 0.
-fn places<const N: usize>(values: [u64; N]) -> [u64; ANSWER] {
+pub(crate) fn places<const N: usize>(values: [u64; N]) -> [u64; ANSWER] {
     let mut all = [0; ANSWER];
     all[..N].copy_from_slice(&values);
     all
@@ -31,7 +31,7 @@ fn places<const N: usize>(values: [u64; N]) -> [u64; ANSWER] {
 
 /// Makes a call, which is told the answer's length, and writes its answer; or returns the number of the
 /// failed check.
-fn reply(answer: &mut [u64], call: impl FnOnce(usize) -> Answer) -> u32 {
+pub(crate) fn reply(answer: &mut [u64], call: impl FnOnce(usize) -> Answer) -> u32 {
     match call(answer.len()) {
         Ok(values) => {
             answer.copy_from_slice(&values);
@@ -43,7 +43,7 @@ fn reply(answer: &mut [u64], call: impl FnOnce(usize) -> Answer) -> u32 {
 
 /// Checks 3, 5, 6, 7, 23, 8, 9, 16 and 10 of a model, with its table where the call is lent one; `others` are
 /// the lengths of further lent buffers, with the lengths that they need.
-fn check_model(
+pub(crate) fn check_model(
     n: usize,
     m: usize,
     bounds: &[i32],
@@ -103,6 +103,14 @@ pub fn propagate_row(
     })
 }
 
+pub(crate) fn ending_case(ending: Ending) -> u64 {
+    match ending {
+        Ending::Infeasible => 0,
+        Ending::Converged => 1,
+        Ending::BudgetSpent => 2,
+    }
+}
+
 /// 01's settle.
 pub fn propagate(
     n: usize,
@@ -119,11 +127,7 @@ pub fn propagate(
         checks::budget(budget)?;
         let rows = Rows::new(n, coefs, rhs, kinds);
         let propagation = propagation::propagate(bounds, rows, budget);
-        let case = match propagation.ending {
-            Ending::Infeasible => 0,
-            Ending::Converged => 1,
-            Ending::BudgetSpent => 2,
-        };
+        let case = ending_case(propagation.ending);
         Ok(places([case, propagation.passes.into(), propagation.moved.into()]))
     })
 }
@@ -245,8 +249,36 @@ pub fn run(
         let (records, rest) = calls.as_chunks();
         let lengths = [(rest.len(), 0), (places_lent, ANSWER)];
         check_model(n, m, bounds, coefs, rhs, kinds, Some(table), &lengths)?;
-        let counts = list::run(&mut State { n, bounds, coefs, rhs, kinds, table }, records);
-        Ok(places([counts.refused, counts.none, counts.changed, counts.unchanged]))
+        Ok(counts(list::run(&mut State { n, bounds, coefs, rhs, kinds, table }, records)))
+    })
+}
+
+fn counts(Counts { refused, none, changed, unchanged }: Counts) -> [u64; ANSWER] {
+    places([refused, none, changed, unchanged])
+}
+
+/// The same with a byte for each record: the number of what it did.
+pub fn run_classes(
+    n: usize,
+    m: usize,
+    bounds: &mut [i32],
+    coefs: &mut [i32],
+    rhs: &mut [i32],
+    kinds: &mut [u8],
+    table: &mut [u8],
+    calls: &[u32],
+    classes: &mut [u8],
+    answer: &mut [u64],
+) -> u32 {
+    reply(answer, |places_lent| {
+        let (records, rest) = calls.as_chunks();
+        let lengths = [(rest.len(), 0), (classes.len(), records.len()), (places_lent, ANSWER)];
+        check_model(n, m, bounds, coefs, rhs, kinds, Some(table), &lengths)?;
+        let told = list::classes(&mut State { n, bounds, coefs, rhs, kinds, table }, records);
+        for (byte, &class) in classes.iter_mut().zip(&told) {
+            *byte = class as u8;
+        }
+        Ok(counts(Counts::of(&told)))
     })
 }
 

@@ -21,6 +21,7 @@
 //! | [`cliques`] | clique rows (02, C-12; 000, 2.2.2) |
 //! | [`allocations`] | many proposed allocations, one reading (02, C-21) |
 //! | [`pages`] | the pages for the floor (02, C-23) |
+//! | [`prepared`] | prepared models: which row moved which bound, and which was infeasible |
 //! | [`calls`] | the calls as the C interface has them: a refusal number and twelve places of answer |
 //! | [`report`] | what `reduce` prints |
 //! | [`convert`] | what `convert` writes (02, C-18) |
@@ -37,6 +38,7 @@ pub mod convert;
 pub mod list;
 pub mod pages;
 pub mod plan;
+pub mod prepared;
 pub mod probing;
 pub mod propagation;
 pub mod report;

@@ -10,6 +10,15 @@ use crate::row::{self, RowPropagation, Rows};
 /// A call record: kind, row, variable, budget. A field that its kind lacks is ignored.
 pub type Call = [u32; 4];
 
+/// What a call of a list did, by the place of its count: "refused, None, changed .., unchanged".
+#[derive(Clone, Copy, Debug, PartialEq, Eq)]
+pub enum Class {
+    Refused = 0,
+    None = 1,
+    Changed = 2,
+    Unchanged = 3,
+}
+
 /// How many calls of a list ended in which way.
 #[derive(Clone, Copy, Debug, Default, PartialEq, Eq)]
 pub struct Counts {
@@ -19,19 +28,36 @@ pub struct Counts {
     pub unchanged: u64,
 }
 
-/// Makes the calls one after another; a refused one leaves the state and the run goes on.
-pub fn run(state: &mut State, calls: &[Call]) -> Counts {
-    let mut counts = Counts::default();
-    for &call in calls {
+/// Makes the calls one after another and says what each did; a refused one leaves the state and the run
+/// goes on.
+pub fn classes(state: &mut State, calls: &[Call]) -> Vec<Class> {
+    let class = |&call: &Call| {
         let before = state.snapshot();
         match apply(state, call) {
-            Err(_) => counts.refused += 1,
-            Ok(Feasible(false)) => counts.none += 1,
-            Ok(Feasible(true)) if state.snapshot() != before => counts.changed += 1,
-            Ok(Feasible(true)) => counts.unchanged += 1,
+            Err(_) => Class::Refused,
+            Ok(Feasible(false)) => Class::None,
+            Ok(Feasible(true)) if state.snapshot() != before => Class::Changed,
+            Ok(Feasible(true)) => Class::Unchanged,
+        }
+    };
+    calls.iter().map(class).collect()
+}
+
+/// The same, counted.
+pub fn run(state: &mut State, calls: &[Call]) -> Counts {
+    Counts::of(&classes(state, calls))
+}
+
+impl Counts {
+    pub fn of(classes: &[Class]) -> Counts {
+        let count = |class| classes.iter().filter(|&&c| c == class).count() as u64;
+        Counts {
+            refused: count(Class::Refused),
+            none: count(Class::None),
+            changed: count(Class::Changed),
+            unchanged: count(Class::Unchanged),
         }
     }
-    counts
 }
 
 /// Whether a call answered anything but None.

@@ -27,6 +27,7 @@ impl Backend for Native {
         let (table, table_len) = raw(loan.table);
         let (ties, ties_len) = raw(loan.ties);
         let (calls, calls_len) = raw(loan.calls);
+        let (classes, classes_len) = raw(loan.classes);
         let (book, book_len) = raw(loan.book);
         let (clique_coefs, clique_coefs_len) = raw(loan.clique_coefs);
         let (clique_rhs, clique_rhs_len) = raw(loan.clique_rhs);
@@ -64,6 +65,26 @@ impl Backend for Native {
                 Operation::Run => ffi::astrolabe_run(
                     n, m, bounds, bounds_len, coefs, coefs_len, rhs, rhs_len, kinds, kinds_len,
                     table, table_len, calls, calls_len, answer, answer_len,
+                ),
+                Operation::RunClasses => ffi::astrolabe_run_classes(
+                    n,
+                    m,
+                    bounds,
+                    bounds_len,
+                    coefs,
+                    coefs_len,
+                    rhs,
+                    rhs_len,
+                    kinds,
+                    kinds_len,
+                    table,
+                    table_len,
+                    calls,
+                    calls_len,
+                    classes,
+                    classes_len,
+                    answer,
+                    answer_len,
                 ),
                 Operation::Rounds { limit } => ffi::astrolabe_rounds(
                     n, m, bounds, bounds_len, coefs, coefs_len, rhs, rhs_len, kinds, kinds_len,

@@ -1,18 +1,19 @@
 -- `capi::sparse_books::astrolabe_book_to_sparse_length`: a wrong answer length after 1 to 4, or the answer of the open call, written.
 -- Assumes nothing.
 use mathlib.Core.Path.{_∙_, ap}
-use Rattle.capi.specs.SparseExports.{lengthReply, toSparseLengthExport}
+use Rattle.book_replies.specs.SparseReplies.{lengthReply}
+use Rattle.capi.specs.SparseExports.{toSparseLengthExport}
 use Rattle.capi.proofs.BookLaws.{book-refused, book-replied}
 use borrow.Author.Needs.{needs}
 use Rattle.capi.proofs.sparse_books.astrolabe_book_to_sparse_length.Statement.{statement}
 use Rattle.capi.proofs.sparse_books.astrolabe_book_to_sparse_length.Tie as tie
 
-measure-fault-requires : tie.Need-measure-fault-requires
-measure-fault-requires c κs = search needs
+read-fault-requires : tie.Need-read-fault-requires
+read-fault-requires c κs = search needs
 
 returns : tie.Need-returns
 unfolding toSparseLengthExport
-returns c = let s = c .before .before .before .before in book-refused (s .args .answer .now) _ _ (c .before .if1 .taken) (c .measure-fault .ensures)
+returns c = let s = c .before .before .before .before in book-refused (s .args .answer .now) _ _ (c .before .if1 .taken) (c .read-fault .ensures)
 
 to-sparse-length-requires : tie.Need-to-sparse-length-requires
 to-sparse-length-requires c κs = search needs
@@ -36,7 +37,7 @@ pub astrolabe-book-to-sparse-length-spec : {M : Type 1} → statement M
 astrolabe-book-to-sparse-length-spec =
     tie.close
     (tie.spec
-    measure-fault-requires
+    read-fault-requires
     returns
     to-sparse-length-requires
     length-reply-requires

@@ -1,7 +1,8 @@
 -- `capi::sparse_books::astrolabe_sparse_length`: a wrong answer length after 3, or the answer of the open call, written.
 -- Assumes nothing.
 use mathlib.Core.Path.{_∙_, ap}
-use Rattle.capi.specs.SparseExports.{lengthReply, sparseLengthExport}
+use Rattle.book_replies.specs.SparseReplies.{lengthReply}
+use Rattle.capi.specs.SparseExports.{sparseLengthExport}
 use Rattle.capi.proofs.BookLaws.{book-refused, book-replied}
 use borrow.Author.Needs.{needs}
 use Rattle.capi.proofs.sparse_books.astrolabe_sparse_length.Statement.{statement}

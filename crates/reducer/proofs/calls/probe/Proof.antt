@@ -5,15 +5,12 @@ use lib.IntN.{ℤ}
 use mathlib.Core.List.{List}
 use mathlib.Core.Path.{_∙_, _≡_, ap, sym}
 use Rattle.semantics.specs.CallChecks.{callFault}
-use Rattle.semantics.specs.Perform.{perform, probed}
 use Rattle.semantics.specs.Call.{Call, callOf, hasTable, hasVariable, kindOf}
 use Rattle.model.specs.Rows.{rowsOf}
 use Rattle.model.specs.State.{State, stateOf}
 use Rattle.semantics.proofs.Accepted.{accepted}
 use Rattle.reducer.specs.OpenCalls.{performed, probeAnswer}
-use Rattle.probing.specs.Results.{probingOf}
-use Rattle.probing.specs.declared.sides.Probing.{Probing}
-use Rattle.reducer.proofs.OpenCallLaws.{perform-refused, promised-ends, variable-probed}
+use Rattle.reducer.proofs.OpenCallLaws.{perform-refused, probing-performed, promised-ends}
 use Rattle.reducer.proofs.calls.probe.Statement.{statement}
 use Rattle.reducer.proofs.calls.probe.Tie as tie
 
@@ -51,32 +48,8 @@ probe-requires c κs =
     let a = accepted (before s) (call s) (no-fault (c .before .before)) in
     (a .model, (a .table tt, (a .free tt, a .variable tt)))
 
--- what the probing answers and leaves
-module _ (c : tie.After-probe) where
-  abbrev s : tie.Start
-  s = c .before .before .before .before .before .before .before .before .before
-
-  abbrev Q : List ℤ
-  Q = c .probe .last .1 .1 .0
-
-  abbrev t : List ℕ
-  t = c .probe .last .1 .1 .1 .1 .1 .1 .0
-
-  done : {v : Probing} → c .probe .result ≡ v → let w = probingOf v Q t in
-      performed (probed (w .ending) (w .side0) (w .side1)) (state s (w .box) (w .table)) ≡ perform (before s) (call s)
-  done e =
-      let a = s .args in
-      variable-probed (a .n) (a .m) (a .bounds .now) (rowsOf (a .coefs .now) (a .rhs .now) (a .kinds .now)) (a .budget) (a .table .now) (a .variable)
-      (no-fault (c .before .before .before)) _ (ap (λ v. probingOf v Q t) (sym e) ∙ c .probe .ensures)
-
-enum-known-side0 : tie.Need-enum-known-side0
-enum-known-side0 c = search needs
-
-enum-known-value : tie.Need-enum-known-value
-enum-known-value c = search needs
-
-enum-known-added : tie.Need-enum-known-added
-enum-known-added c = search needs
+probe-answer-requires : tie.Need-probe-answer-requires
+probe-answer-requires c κs = search needs
 
 same-length-3 : tie.Need-same-length-3
 same-length-3 c = search needs
@@ -85,34 +58,16 @@ same-length-4 : tie.Need-same-length-4
 same-length-4 c = search needs
 
 returns-2 : tie.Need-returns-2
-unfolding probeAnswer probingOf callOf
+unfolding callOf
 returns-2 c =
-    let d = c .before .before .before .before .before .before in
-    promised-ends (before (s d)) (state (s d) (Q d) (t d)) (call (s d)) _ (done d (c .before .side0 .given .1))
-
-same-length-5 : tie.Need-same-length-5
-same-length-5 c = search needs
-
-same-length-6 : tie.Need-same-length-6
-same-length-6 c = search needs
-
-returns-3 : tie.Need-returns-3
-unfolding probeAnswer probingOf callOf
-returns-3 c =
-    let d = c .before .before .before .before .before .before in
-    promised-ends (before (s d)) (state (s d) (Q d) (t d)) (call (s d)) _ (done d (c .before .value .given .1))
-
-same-length-7 : tie.Need-same-length-7
-same-length-7 c = search needs
-
-same-length-8 : tie.Need-same-length-8
-same-length-8 c = search needs
-
-returns-4 : tie.Need-returns-4
-unfolding probeAnswer probingOf callOf
-returns-4 c =
-    let d = c .before .before .before .before .before .before in
-    promised-ends (before (s d)) (state (s d) (Q d) (t d)) (call (s d)) _ (done d (c .before .added .given .1))
+    let d = c .before .before .before .before in
+    let s = d .before .before .before .before .before .before .before .before .before in
+    let a = s .args in
+    let Q = d .probe .last .1 .1 .0 in
+    let t = d .probe .last .1 .1 .1 .1 .1 .1 .0 in
+    promised-ends (before s) (state s Q t) (call s) _ (ap (λ x. performed x (state s Q t)) (c .probe-answer .ensures)
+    ∙ probing-performed (a .n) (a .m) (a .bounds .now) (rowsOf (a .coefs .now) (a .rhs .now) (a .kinds .now)) (a .budget) (a .table .now) (a .variable)
+    (d .probe .result) Q t (no-fault (d .before .before .before)) (d .probe .ensures))
 
 pub probe-spec : {M : Type 1} → statement M
 probe-spec =
@@ -123,15 +78,7 @@ probe-spec =
     same-length-2
     returns
     probe-requires
-    enum-known-side0
-    enum-known-value
-    enum-known-added
+    probe-answer-requires
     same-length-3
     same-length-4
-    returns-2
-    same-length-5
-    same-length-6
-    returns-3
-    same-length-7
-    same-length-8
-    returns-4)
+    returns-2)

@@ -1,0 +1,69 @@
+// The rows of a model, written into a workspace: of each row the words that `packed_row` reads, and its right side and
+// kind in one number.
+use workspace::raised;
+ghost use mathlib.Core.Path.{_≡_};
+ghost use Prim.Native.Nat.{ℕ, _*_, _+_, _%_, _<_, _≤_};
+ghost use lib.ListN.{drop, getD, length, take};
+ghost use Rattle.model.specs.Box.{at};
+ghost use Rattle.model.specs.Limits.{maxCoef, maxRhs, minCoef, minRhs};
+ghost use Rattle.model.specs.Rows.{rowOf};
+ghost use Rattle.model.specs.Valid.{Between};
+ghost use Rattle.packed_row.specs.Words.{coefsFrom, rhsOf};
+ghost use Rattle.workspace.specs.Kept.{SameBut};
+ghost use Rattle.workspace.specs.Layout.{rowWords, sideWord, workspaceLen};
+
+// Writes the words of a row from a place on: each coefficient with the number of zeros that follow it, from the row's
+// end.
+fn pack_row(coefs: &[i32], place: usize, ws: &mut [u32])
+    requires { ⌜ (length (now coefs) ≤ 128) × ((i : ℕ) → Between minCoef maxCoef (at (now coefs) i))
+        × (place + length (now coefs) ≤ workspaceLen) × (length (now ws) ≡ workspaceLen) ⌝ }
+    ensures row { λ _.
+        let C = now (coefs .entry) in
+        ⌜ coefsFrom (take (length C) (drop place (now (ws .exit)))) 0 ≡ C ⌝ }
+    ensures others { λ _.
+        ⌜ SameBut place (place + length (now (coefs .entry))) (now (ws .entry)) (now (ws .exit)) ⌝ }
+{
+    let mut zeros: u32 = 0;
+    let mut j = coefs.len();
+    while j > 0 {
+        j -= 1;
+        let a = coefs[j];
+        ws[place + j] = raised(a, 1_000_000) * 128 + zeros;
+        if a != 0 {
+            zeros = 0;
+        } else {
+            zeros += 1;
+        }
+    }
+}
+
+// Writes the words of every row.
+pub fn pack_rows(n: usize, m: usize, coefs: &[i32], ws: &mut [u32])
+    requires { ⌜ (n ≤ 128) × (m ≤ 120) × (length (now coefs) ≡ m * n)
+        × ((i : ℕ) → Between minCoef maxCoef (at (now coefs) i)) × (length (now ws) ≡ workspaceLen) ⌝ }
+    ensures rows { λ _.
+        ⌜ ((r : ℕ) → r < m → coefsFrom (rowWords n (now (ws .exit)) r) 0 ≡ rowOf n (now (coefs .entry)) r) ⌝ }
+    ensures others { λ _. ⌜ SameBut 1_408 16_768 (now (ws .entry)) (now (ws .exit)) ⌝ }
+{
+    let mut r = 0;
+    while r < m {
+        pack_row(&coefs[r * n..r * n + n], 1_408 + r * n, ws);
+        r += 1;
+    }
+}
+
+// Writes the right side and the kind of every row.
+pub fn pack_sides(m: usize, rhs: &[i32], kinds: &[u8], ws: &mut [u32])
+    requires { ⌜ (m ≤ 120) × (length (now rhs) ≡ m) × ((i : ℕ) → Between minRhs maxRhs (at (now rhs) i))
+        × (length (now kinds) ≡ m) × ((i : ℕ) → getD (now kinds) i 0 < 2) × (length (now ws) ≡ workspaceLen) ⌝ }
+    ensures sides { λ _.
+        ⌜ ((r : ℕ) → r < m → (rhsOf (sideWord (now (ws .exit)) r) ≡ at (now (rhs .entry)) r)
+        × (sideWord (now (ws .exit)) r % 2 ≡ getD (now (kinds .entry)) r 0)) ⌝ }
+    ensures others { λ _. ⌜ SameBut 264 384 (now (ws .entry)) (now (ws .exit)) ⌝ }
+{
+    let mut r = 0;
+    while r < m {
+        ws[264 + r] = raised(rhs[r], 1_000_000_000) * 2 + (kinds[r] as u32);
+        r += 1;
+    }
+}

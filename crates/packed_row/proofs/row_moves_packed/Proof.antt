@@ -1,0 +1,38 @@
+-- `packed_row::row_moves_packed`: the row that the words say is valid (`readable-row`), and `forms_move` tells. Assumes nothing.
+use Prim.Native.Nat.{_%_}
+use borrow.Author.Needs.{needs}
+use lib.IntN.{ℤ}
+use lib.ListN.{length}
+use mathlib.Core.Path.{_∙_, _≡_, ap, subst⁻¹}
+use mir.Facts.{toZ-ofZ}
+use mir.Syntax.{w32}
+use mir.Val.{ofZ, toZ}
+use Rattle.model.specs.Rows.{rowWith}
+use Rattle.row.specs.Kinds.{rowMovesOf}
+use Rattle.row.specs.ValidRow.{ValidRow}
+use Rattle.packed_row.specs.Words.{coefsFrom, rhsOf, rowOfWords}
+use Rattle.packed_row.proofs.PackedLaws.{readable-row}
+use Rattle.packed_row.proofs.row_moves_packed.Statement.{statement}
+use Rattle.packed_row.proofs.row_moves_packed.Tie as tie
+
+right-side-requires : tie.Need-right-side-requires
+right-side-requires c κs = search needs
+
+rhs-is : (c : tie.After-right-side) → toZ w32 (ofZ w32 (c .right-side .result)) ≡ rhsOf (c .before .before .args .side)
+rhs-is c = toZ-ofZ {w = w32} (record { sfits = c .right-side .ok }) ∙ c .right-side .ensures
+
+forms-move-requires : tie.Need-forms-move-requires
+forms-move-requires c κs =
+    let s = c .before .before in
+    let W = s .args .words .now in
+    subst⁻¹ (λ (z : ℤ). ValidRow (length W) (coefsFrom W 0) z (s .args .bounds .now)) (rhs-is c) (readable-row W (s .args .side) (s .pre))
+
+returns : tie.Need-returns
+unfolding rowOfWords
+returns c =
+    let s = c .before .before .before in
+    let W = s .args .words .now in
+    c .forms-move .ensures ∙ ap (λ (z : ℤ). rowMovesOf (length W) (rowWith (coefsFrom W 0) z (s .args .side % 2)) (s .args .bounds .now)) (rhs-is (c .before))
+
+pub row-moves-packed-spec : {M : Type 1} → statement M
+row-moves-packed-spec = tie.close (tie.spec right-side-requires forms-move-requires returns)

@@ -1,0 +1,188 @@
+// Propagate a row (01's visit) that is packed in words, one for each variable: the coefficient and the number of zeros
+// that follow it. A sweep goes from coefficient to coefficient, and no index is read from the words: whatever they are,
+// it stays in the row and ends. Crate `sweep` does the same with steps beside the coefficients.
+use row::propagation::RowPropagation;
+use row_activity::Reach;
+use row_activity::term;
+use row_activity::wider;
+use row_bounds::tighten_bounds_at;
+use row_propagation::both;
+ghost use mathlib.Core.Path.{_≡_};
+ghost use lib.ListN.{length};
+ghost use Rattle.model.specs.Rows.{rowWith};
+ghost use Rattle.row.specs.Activity.{minActivity, widestTerm};
+ghost use Rattle.row.specs.Answers.{propagatedRowOf};
+ghost use Rattle.row.specs.Kinds.{propagateRowOf, rowMovesOf, signed};
+ghost use Rattle.row.specs.Moved.{movedBounds};
+ghost use Rattle.row.specs.Propagation.{impliedBox, propagateRow, rowMoves};
+ghost use Rattle.row.specs.ValidRow.{IsSign, ImpliesBox, ValidCoefs, ValidRow};
+ghost use Rattle.packed_row.specs.Words.{Readable, coefOf, coefsFrom, rhsOf, rowOfWords};
+
+// The coefficient in a word; one that is out of range is 0.
+fn coef(word: u32) -> i32
+    ensures { λ r. ⌜ r ≡ coefOf word ⌝ }
+{
+    let c = word / 128;
+    if 2_000_000 < c {
+        return 0;
+    }
+    (c as i32) - 1_000_000
+}
+
+// Lmin and the width of the widest term, of the row itself (sign 1) or of its negated form (sign −1).
+fn reach_packed(words: &[u32], sign: i32, bounds: &[i32]) -> Reach
+    requires { ⌜ ValidCoefs (length (now words)) (coefsFrom (now words) 0) (now bounds) ⌝ }
+    requires { ⌜ IsSign sign ⌝ }
+    ensures least { λ r.
+        let W = now (words .entry) in
+        ⌜ r .least ≡ minActivity (length W) (signed sign (coefsFrom W 0)) (now (bounds .entry)) ⌝ }
+    ensures widest { λ r.
+        let W = now (words .entry) in
+        ⌜ r .widest ≡ widestTerm (length W) (signed sign (coefsFrom W 0)) (now (bounds .entry)) ⌝ }
+{
+    let mut least: i64 = 0;
+    let mut widest: i64 = 0;
+    let mut j: usize = 0;
+    while j < words.len() {
+        let word = words[j];
+        let a = sign * coef(word);
+        let low = bounds[2 * j];
+        let high = bounds[2 * j + 1];
+        least += term(a, low, high);
+        widest = wider(widest, a, low, high);
+        j += 1 + (word % 128) as usize;
+    }
+    Reach { least, widest }
+}
+
+// Gives each variable the bounds that the form implies, and says how many moved: at most one of each variable.
+fn tighten_bounds_packed(words: &[u32], sign: i32, b: i64, least: i64, bounds: &mut [i32]) -> u32
+    requires { ⌜ ImpliesBox (length (now words)) (coefsFrom (now words) 0) b least (now bounds) ⌝ }
+    requires { ⌜ IsSign sign ⌝ }
+    ensures left { λ r.
+        let W = now (words .entry) in
+        ⌜ now (bounds .exit)
+        ≡ impliedBox (length W) (signed sign (coefsFrom W 0)) b least (now (bounds .entry)) ⌝ }
+    ensures moved { λ r.
+        let W = now (words .entry) in
+        let B = now (bounds .entry) in
+        ⌜ r ≡ movedBounds (length W) B (impliedBox (length W) (signed sign (coefsFrom W 0)) b least B) ⌝ }
+{
+    let mut moved: u32 = 0;
+    let mut j: usize = 0;
+    while j < words.len() {
+        let word = words[j];
+        if tighten_bounds_at(sign * coef(word), b, least, bounds, j) {
+            moved += 1;
+        }
+        j += 1 + (word % 128) as usize;
+    }
+    moved
+}
+
+// Propagates a form of the row.
+fn propagate_form_packed(words: &[u32], sign: i32, b: i32, bounds: &mut [i32]) -> RowPropagation
+    requires { ⌜ ValidRow (length (now words)) (coefsFrom (now words) 0) b (now bounds) ⌝ }
+    requires { ⌜ IsSign sign ⌝ }
+    ensures { λ r.
+        let W = now (words .entry) in
+        ⌜ propagatedRowOf r (now (bounds .exit))
+        ≡ propagateRow (length W) (signed sign (coefsFrom W 0)) b (now (bounds .entry)) ⌝ }
+{
+    if boxes::is_empty(bounds) {
+        return RowPropagation::Infeasible;
+    }
+    let rhs = b as i64;
+    let r = reach_packed(words, sign, bounds);
+    let least = r.least;
+    if r.widest <= rhs - least {
+        return RowPropagation::Unchanged;
+    }
+    if rhs < least {
+        boxes::make_empty(bounds);
+        return RowPropagation::Infeasible;
+    }
+    RowPropagation::Tightened(tighten_bounds_packed(words, sign, rhs, least, bounds))
+}
+
+// Propagates the row with the given right side: an = row (kind 1) by its ≤ form and then, on the box that it left, by
+// its negated form.
+fn propagate_forms(words: &[u32], b: i32, kind: u32, bounds: &mut [i32]) -> RowPropagation
+    requires { ⌜ ValidRow (length (now words)) (coefsFrom (now words) 0) b (now bounds) ⌝ }
+    ensures { λ r.
+        let W = now (words .entry) in
+        ⌜ propagatedRowOf r (now (bounds .exit))
+        ≡ propagateRowOf (length W) (rowWith (coefsFrom W 0) b kind) (now (bounds .entry)) ⌝ }
+{
+    let first = propagate_form_packed(words, 1, b, bounds);
+    if kind != 1 {
+        return first;
+    }
+    let RowPropagation::Infeasible = first else {
+        return both(first, propagate_form_packed(words, -1, -b, bounds));
+    };
+    first
+}
+
+// The right side in a word beside its kind; one that is out of range is 0.
+fn right_side(side: u32) -> i32
+    ensures { λ r. ⌜ r ≡ rhsOf side ⌝ }
+{
+    let b = side / 2;
+    if 2_000_000_000 < b {
+        return 0;
+    }
+    (b as i32) - 1_000_000_000
+}
+
+// Propagates the row that the words and the word of its right side say.
+pub fn propagate_row_packed(words: &[u32], side: u32, bounds: &mut [i32]) -> RowPropagation
+    requires { ⌜ Readable (now words) (now bounds) ⌝ }
+    ensures { λ r.
+        let W = now (words .entry) in
+        ⌜ propagatedRowOf r (now (bounds .exit))
+        ≡ propagateRowOf (length W) (rowOfWords W side) (now (bounds .entry)) ⌝ }
+{
+    propagate_forms(words, right_side(side), side % 2, bounds)
+}
+
+// Whether propagating the form would answer other than Unchanged; nothing is written.
+fn form_moves_packed(words: &[u32], sign: i32, b: i32, bounds: &[i32]) -> bool
+    requires { ⌜ ValidRow (length (now words)) (coefsFrom (now words) 0) b (now bounds) ⌝ }
+    requires { ⌜ IsSign sign ⌝ }
+    ensures { λ r.
+        let W = now (words .entry) in
+        ⌜ r ≡ rowMoves (length W) (signed sign (coefsFrom W 0)) b (now (bounds .entry)) ⌝ }
+{
+    if boxes::is_empty(bounds) {
+        return true;
+    }
+    let r = reach_packed(words, sign, bounds);
+    (b as i64) - r.least < r.widest
+}
+
+// Whether propagating the row with the given right side would answer other than Unchanged; nothing is written.
+fn forms_move(words: &[u32], b: i32, kind: u32, bounds: &[i32]) -> bool
+    requires { ⌜ ValidRow (length (now words)) (coefsFrom (now words) 0) b (now bounds) ⌝ }
+    ensures { λ r.
+        let W = now (words .entry) in
+        ⌜ r ≡ rowMovesOf (length W) (rowWith (coefsFrom W 0) b kind) (now (bounds .entry)) ⌝ }
+{
+    if form_moves_packed(words, 1, b, bounds) {
+        return true;
+    }
+    if kind != 1 {
+        return false;
+    }
+    form_moves_packed(words, -1, -b, bounds)
+}
+
+// The same of the row that the words and the word of its right side say.
+pub fn row_moves_packed(words: &[u32], side: u32, bounds: &[i32]) -> bool
+    requires { ⌜ Readable (now words) (now bounds) ⌝ }
+    ensures { λ r.
+        let W = now (words .entry) in
+        ⌜ r ≡ rowMovesOf (length W) (rowOfWords W side) (now (bounds .entry)) ⌝ }
+{
+    forms_move(words, right_side(side), side % 2, bounds)
+}

@@ -1,0 +1,58 @@
+// A workspace is written, from its head to its rows.
+use crate::columns::write_columns;
+use pack::pack_rows;
+use pack::pack_sides;
+use workspace::OUR_MARK;
+ghost use mathlib.Core.Path.{_≡_};
+ghost use Prim.Native.Nat.{ℕ, _*_, _<_, _≤_};
+ghost use lib.ListN.{getD, length, replicate};
+ghost use lib.IntN.{pos};
+ghost use Rattle.model.specs.Model.{modelOf};
+ghost use Rattle.model.specs.Rows.{rowsOf};
+ghost use Rattle.model.specs.Valid.{ValidModel};
+ghost use Rattle.workspace.specs.Kept.{SameBut};
+ghost use Rattle.workspace.specs.Layout.{ourMark, rowsIn, variablesOf, workspaceLen};
+ghost use Rattle.prepare.specs.Written.{Written};
+
+// Writes our mark, n and m.
+fn write_head(n: usize, m: usize, ws: &mut [u32])
+    requires { ⌜ (n ≤ 128) × (m ≤ 120) × (length (now ws) ≡ workspaceLen) ⌝ }
+    ensures head { λ _.
+        let W = now (ws .exit) in
+        ⌜ (getD W 0 0 ≡ ourMark) × (variablesOf W ≡ n) × (rowsIn W ≡ m) ⌝ }
+    ensures others { λ _. ⌜ SameBut 0 4 (now (ws .entry)) (now (ws .exit)) ⌝ }
+{
+    ws[0] = OUR_MARK;
+    ws[1] = n as u32;
+    ws[2] = m as u32;
+    ws[3] = 0;
+}
+
+// Writes one number at every place from `from` on and below `to`.
+fn fill(from: usize, to: usize, number: u32, ws: &mut [u32])
+    requires { ⌜ (from ≤ to) × (to ≤ workspaceLen) × (length (now ws) ≡ workspaceLen) ⌝ }
+    ensures numbers { λ _. ⌜ ((i : ℕ) → from ≤ i → i < to → getD (now (ws .exit)) i 0 ≡ number) ⌝ }
+    ensures others { λ _. ⌜ SameBut from to (now (ws .entry)) (now (ws .exit)) ⌝ }
+{
+    let mut i = from;
+    while i < to {
+        ws[i] = number;
+        i += 1;
+    }
+}
+
+// Writes all of a model's rows that passed the checks.
+pub fn write(n: usize, m: usize, coefs: &[i32], rhs: &[i32], kinds: &[u8], ws: &mut [u32])
+    requires { let A = rowsOf (now coefs) (now rhs) (now kinds) in
+        ⌜ ValidModel (modelOf n m (replicate (2 * n) (pos 0)) A) × (length (now ws) ≡ workspaceLen) ⌝ }
+    ensures { λ _.
+        let A = rowsOf (now (coefs .entry)) (now (rhs .entry)) (now (kinds .entry)) in
+        ⌜ Written n m A (now (ws .exit)) ⌝ }
+{
+    write_head(n, m, ws);
+    fill(4, 8, 4_294_967_295, ws);
+    fill(8, 264, 32_768, ws);
+    pack_sides(m, rhs, kinds, ws);
+    write_columns(n, m, coefs, kinds, ws);
+    pack_rows(n, m, coefs, ws);
+}

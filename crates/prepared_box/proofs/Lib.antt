@@ -1,0 +1,2 @@
+pub mod OursLaws
+pub mod TakenLaws

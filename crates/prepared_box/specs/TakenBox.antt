@@ -1,0 +1,31 @@
+-- The box that a workspace knows becomes a lent one, variable by variable.
+use Prim.Native.Nat.{_<_, _≤_, ℕ}
+use lib.IntN.{_+ℤ_, ℤ}
+use lib.ListN.{length}
+use lib.Signed.{leZ}
+use mathlib.Core.Bool.{Bool, _&&_}
+use mathlib.Core.List.{List}
+use mathlib.Core.Logic.{_⊎_}
+use mathlib.Core.Path.{_≡_}
+use Rattle.integer.specs.Order.{minZ}
+use Rattle.model.specs.Box.{lower, upper}
+use Rattle.model.specs.Limits.{maxBound, maxWidth, minBound}
+use Rattle.prepared_row.specs.Heard.{Missed}
+use Rattle.row_set.specs.Bits.{bitAt}
+
+-- the bounds of variable k are the same in both boxes
+abbrev pub SameAt : List ℤ → List ℤ → ℕ → Type 0
+SameAt P Q k = (lower P k ≡ lower Q k) × (upper P k ≡ upper Q k)
+
+-- the bounds of variable j are in range, in order, and no more than 4,096 apart
+abbrev pub plainAt : List ℤ → ℕ → Bool
+plainAt B j = leZ minBound (lower B j) && leZ (lower B j) (upper B j) && leZ (upper B j) (minZ (lower B j +ℤ maxWidth) maxBound)
+
+-- the variables from p on and below q have the bounds of `new`, the others those of `old`: the box is now `box`. A row that is not in the
+-- set D′ now was not in D before, and hears nothing of those variables.
+pub record Taken (W : List ℕ) (old new : List ℤ) (D : List ℕ) (p q : ℕ) (box : List ℤ) (D′ : List ℕ) : Type 0 where
+  pub len : length box ≡ length old
+  pub set : length D′ ≡ length D
+  pub within : (k : ℕ) → p ≤ k → k < q → SameAt box new k
+  pub without : (k : ℕ) → (k < p) ⊎ (q ≤ k) → SameAt box old k
+  pub heard : (r : ℕ) → r < 128 → bitAt D′ r ≡ 0 → (bitAt D r ≡ 0) × ((k : ℕ) → p ≤ k → k < q → Missed W r old new k)

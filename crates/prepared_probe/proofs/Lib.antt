@@ -1,0 +1,2 @@
+pub mod ProbeCheckLaws
+pub mod SideLaws

@@ -1,0 +1,166 @@
+-- What a probe of a prepared model needs: the rows to look at in a side, what a side's and a probe's answer say, and what is kept.
+use Prim.Native.Nat.{_*_, _+_, _<_, ℕ}
+use denote.Enum.Declared.{tagOf}
+use lib.Dec.{T, T-not}
+use lib.IntN.{ℤ}
+use mathlib.Core.Bool.{_||_, false, not, true}
+use mathlib.Core.List.{List, [], _∷_}
+use mathlib.Core.Logic.{⊎-elim}
+use mathlib.Core.Path.{_∙_, _≡_, ap, refl, subst, sym}
+use native.Mathlib.Omega.{arith}
+use types.Run.{OneOf}
+use Rattle.integer.specs.Order.{maxZ, minZ}
+use Rattle.integer.proofs.Parts.{zarith, zify}
+use Rattle.integer.proofs.Tests.{cond-ind, true→T}
+use Rattle.model.specs.Box.{NonEmpty, emptyBox, hull, isEmpty, isFree}
+use Rattle.model.specs.Limits.{maxBound, minBound}
+use Rattle.model.specs.Rows.{Rows}
+use Rattle.model.specs.Valid.{Between, ValidBox}
+use Rattle.model.proofs.BoxLaws.{at-boxOf, empty-is, isEmpty→eq, nonEmpty-isn't}
+use Rattle.prepared_propagation.specs.Known.{Known}
+use Rattle.probing.specs.Results.{probingOf}
+use Rattle.probing.specs.declared.sides.Probing.{Probing}
+use Rattle.probing.specs.declared.sides.Probing.the-variants as probing
+use Rattle.probing.specs.declared.sides.Side.{Side}
+use Rattle.probing.proofs.MarkedLaws.{probing-box}
+use Rattle.probing.proofs.ProbingLoops.{box-is, side-none}
+use Rattle.probing.proofs.sides.Probing.{the-type}
+use Rattle.propagation.specs.Results.{propagationOf}
+use Rattle.propagation.specs.declared.Propagation.{Propagation}
+use Rattle.reducer.specs.OpenCalls.{probingAnswer}
+use Rattle.row.proofs.ImpliedBoxLaws.{valid-empty}
+use Rattle.row_set.specs.Readers.{Calm}
+use Rattle.semantics.specs.Perform.{Answer}
+use Rattle.semantics.specs.Probe.{Probed, fix, joinSides, probe}
+use Rattle.semantics.specs.Propagate.{isNone, propagate, propagateFrom}
+use Rattle.semantics.specs.Run.{answersNone, probeInfeasible}
+use Rattle.semantics.proofs.ProbeLaws.{fix-nonEmpty, fix-valid, probe-infeasible-iff, probe-valid}
+use Rattle.workspace.specs.Kept.{SameBut}
+use Rattle.workspace.specs.Layout.{boxIn, decode, dirtyOf, rowsIn, variablesOf}
+use Rattle.workspace.specs.Prepared.{Prepared}
+use Rattle.workspace.proofs.KeptLaws.{prepared-kept}
+use Rattle.prepared_probe.specs.Kept.{Keeps}
+use Rattle.prepared_probe.specs.Sides.{Boxed, InRange, SideLeft}
+
+-- ---- a side
+
+module _ {n m : ℕ} {W : List ℕ} {B : List ℤ} (b : Boxed n m W B) where
+  pub boxed-side : (k w : ℕ) {S : List ℤ} → T (isFree B k) → w < 2 → S ≡ fix n B k w → Boxed n m W S
+  boxed-side k w f h e = record {
+    variables = b .variables;
+    rows = b .rows;
+    sized = record {
+      some = b .sized .some;
+      few = b .sized .few;
+      fewRows = b .sized .fewRows;
+      len = b .sized .len;
+      box = rw e (fix-valid k w f h (b .sized .box) (b .nonEmpty));
+    };
+    nonEmpty = rw e (fix-nonEmpty k w (b .nonEmpty));
+  }
+
+  module _ {A : Rows} (P : Prepared W A) where
+    rows-are : decode n m W ≡ A
+    rows-are = rw (b .variables, b .rows) (P .rows)
+
+    pub boxed-known : (D : List ℕ) → Calm n (rowsIn W) A B D → Known n m W B D
+    boxed-known D c = record { hearers = rw (rows-are, b .variables, b .rows) (P .hearers); calm = rw (rows-are, b .rows) c }
+
+    -- what the passes over it come to
+    pub boxed-propagated : (budget : ℕ) (s : Propagation) (S : List ℤ) → propagationOf s S ≡ propagateFrom budget 0 0 n m (decode n m W) B
+        → propagationOf s S ≡ propagate budget n m A B
+    unfolding propagate
+    boxed-propagated budget s S e = e ∙ rw (rows-are, nonEmpty-isn't (b .sized .some) (b .nonEmpty)) refl
+
+    -- one that is infeasible leaves the empty box
+    pub boxed-none : (budget : ℕ) (s : Propagation) (S S′ : List ℤ) → propagationOf s S ≡ propagateFrom budget 0 0 n m (decode n m W) B
+        → isNone (propagationOf s S .ending) ≡ true → S′ ≡ emptyBox n → propagationOf s S′ ≡ propagate budget n m A B
+    boxed-none budget s S S′ e z f =
+        let p = boxed-propagated budget s S e in
+        let q : isEmpty n S ≡ true = sym (side-none budget m A (b .sized .some) (b .sized .box) s S p) ∙ z in
+        ap (propagationOf s) (f ∙ sym (isEmpty→eq n S (true→T (isEmpty n S) q))) ∙ p
+
+pub left-some : {n : ℕ} (s : Propagation) (S : List ℤ) → 0 < n → isNone (propagationOf s S .ending) ≡ false → ValidBox n S → NonEmpty n S → SideLeft n s S
+left-some s S h z v p = record { valid = v; none = z ∙ sym (nonEmpty-isn't h p) }
+
+pub left-none : {n : ℕ} (s : Propagation) (S : List ℤ) → isNone (propagationOf s S .ending) ≡ true → S ≡ emptyBox n → SideLeft n s S
+left-none {n} s S z e = record { valid = rw e (valid-empty n); none = z ∙ sym (empty-is n S e) }
+
+-- ---- two sides: what they come to is in range
+
+min-in : {x y : ℤ} → Between minBound maxBound x → Between minBound maxBound y → Between minBound maxBound (minZ x y)
+min-in p q = record { above = simp zify (omega (zarith, p, q)); below = simp zify (omega (zarith, p, q)) }
+
+max-in : {x y : ℤ} → Between minBound maxBound x → Between minBound maxBound y → Between minBound maxBound (maxZ x y)
+max-in p q = record { above = simp zify (omega (zarith, p, q)); below = simp zify (omega (zarith, p, q)) }
+
+hull-range : (n : ℕ) (P Q : List ℤ) → InRange P → InRange Q → InRange (hull n P Q)
+unfolding hull
+hull-range n P Q p q = at-boxOf (Between minBound maxBound) n _ _ (record { above = omega zarith; below = omega zarith })
+    (λ j _. min-in (p (2 * j)) (q (2 * j))) (λ j _. max-in (p (2 * j + 1)) (q (2 * j + 1)))
+
+pub joined-range : (n k : ℕ) (B : List ℤ) (t : List ℕ) {s0 s1 : Propagation} {S0 S1 : List ℤ} → SideLeft n s0 S0 → SideLeft n s1 S1
+    → InRange (joinSides n k B t (propagationOf s0 S0) (propagationOf s1 S1) .box)
+unfolding joinSides
+joined-range n k B t {s0} {s1} {S0} {S1} l0 l1 =
+    cond-ind (isNone (propagationOf s0 S0 .ending)) _ _ (λ (r : Probed). InRange (r .box))
+    (λ _. cond-ind (isNone (propagationOf s1 S1 .ending)) _ _ (λ (r : Probed). InRange (r .box))
+    (λ _. valid-empty n .range) (λ _. rw (box-is s1 S1) (l1 .valid .range)))
+    (λ _. cond-ind (isNone (propagationOf s1 S1 .ending)) _ _ (λ (r : Probed). InRange (r .box))
+    (λ _. rw (box-is s0 S0) (l0 .valid .range)) (λ _. rw (box-is s0 S0, box-is s1 S1) (hull-range n S0 S1 (l0 .valid .range) (l1 .valid .range))))
+
+pub probing-range : (p : Probing) (Q : List ℤ) (t : List ℕ) {r : Probed} → probingOf p Q t ≡ r → InRange (r .box) → InRange Q
+probing-range p Q t e h = subst InRange (sym (ap (λ (w : Probed). w .box) e) ∙ probing-box p Q t) h
+
+-- ---- the answer: infeasible or not
+
+pub probing-some : (p : Probing) → OneOf (1 ∷ 2 ∷ []) (tagOf the-type p) → T (not (answersNone (probingAnswer p)))
+unfolding probingOf answersNone probeInfeasible
+probing-some (probing.Infeasible s0 s1) h =
+    ⊎-elim (λ e. let z : _≡_ {A = ℕ} 0 1 = e in absurd (omega arith)) (λ e. let z : _≡_ {A = ℕ} 0 2 = e in absurd (omega arith)) h
+probing-some (probing.Fixed v s0 s1) h = tt
+probing-some (probing.BothFeasible a s0 s1) h = tt
+
+pub probing-none : {p : Probing} {s0 s1 : Side} → p ≡ probing.Infeasible s0 s1 → T (answersNone (probingAnswer p))
+unfolding probingOf answersNone probeInfeasible
+probing-none e = rw e tt
+
+ending-is : (p : Probing) (Q : List ℤ) (t : List ℕ) → probingOf p Q t .ending ≡ probingOf p [] [] .ending
+unfolding probingOf
+ending-is (probing.Infeasible s0 s1) Q t = refl
+ending-is (probing.Fixed v s0 s1) Q t = refl
+ending-is (probing.BothFeasible a s0 s1) Q t = refl
+
+-- the box Q that a probe of B leaves
+module _ (k budget m : ℕ) (A : Rows) (t t′ : List ℕ) (p : Probing) {n : ℕ} {B Q : List ℤ} (h : 0 < n) (v : ValidBox n B)
+    (f : T (isEmpty n B || isFree B k)) (e : probingOf p Q t′ ≡ probe k budget n m A B t) where
+  box-probed : Q ≡ probe k budget n m A B t .box
+  box-probed = sym (probing-box p Q t′) ∙ ap (λ (w : Probed). w .box) e
+
+  pub probed-valid : ValidBox n Q
+  probed-valid = rw box-probed (probe-valid k budget m A t f v)
+
+  pub probed-nonEmpty : T (not (answersNone (probingAnswer p))) → NonEmpty n Q
+  unfolding answersNone
+  probed-nonEmpty z = ⊎-elim
+      (λ x. absurd (T-not (probeInfeasible (probingOf p [] [] .ending)) z
+      (rw (← ending-is p Q t′, e) (probe-infeasible-iff k budget m A t f h v .1 (sym box-probed ∙ x)))))
+      (λ q. q) (probed-valid .shape)
+
+-- ---- what is kept
+
+pub keeps-none : (W : List ℕ) (a : Answer) (Q : List ℤ) → T (answersNone a) → Keeps W W a Q
+keeps-none W a Q z = record { variables = refl; rows = refl; infeasible = λ _. refl; box = λ y. absurd (T-not (answersNone a) y z) }
+
+pub keeps-box : {n : ℕ} {W W′ : List ℕ} (a : Answer) {Q : List ℤ} → n ≡ variablesOf W → SameBut 4 264 W W′ → boxIn n W′ ≡ Q
+    → T (not (answersNone a)) → Keeps W W′ a Q
+keeps-box a e s b z = record {
+  variables = s .before 1 (omega arith);
+  rows = s .before 2 (omega arith);
+  infeasible = λ y. absurd (T-not (answersNone a) z y);
+  box = λ _. rw e at b;
+}
+
+pub kept-prepared : {n : ℕ} {W X Y : List ℕ} {A : Rows} {B : List ℤ} {D : List ℕ} → Prepared W A → n ≡ variablesOf W → SameBut 4 8 W X → SameBut 8 264 X Y
+    → dirtyOf X ≡ D → boxIn n Y ≡ B → ValidBox n B → NonEmpty n B → Calm n (rowsIn W) A B D → Prepared Y A
+kept-prepared {D = D} P e s t d b v p c = prepared-kept {D = D} P s t d (rw e at b) (rw e at v) (rw e at p) (rw e at c)

@@ -1,0 +1,24 @@
+-- The checks of a probe of a prepared model, in the order of the probe of a model that is lent with every call, whose other checks
+-- `prepare` made. W is the workspace, B the box and t the table that it is lent.
+use Prim.Native.Nat.{_*_, ℕ}
+use lib.Dec.{eqb}
+use lib.IntN.{ℤ}
+use lib.ListN.{length}
+use mathlib.Core.List.{List, _++_, _∷_}
+use Rattle.call.specs.FieldChecks.{probeChecks}
+use Rattle.model.specs.Checks.{Check, boxChecks, first, must, table, tableByteChecks}
+use Rattle.workspace.specs.Layout.{isOurs, variablesOf}
+
+-- 5: a workspace of another length or not ours, not 2n bounds, or not 4n² bytes. Of the bounds 6, 7 and 23, of the table 10.
+unfoldable pub lentChecks : List ℕ → List ℤ → List ℕ → List Check
+lentChecks W B t =
+    let n = variablesOf W in
+    must (isOurs W) 5 ∷ must (eqb (length B) (2 * n)) 5 ∷ must (eqb (length t) (4 * (n * n))) 5 ∷ (boxChecks n B ++ tableByteChecks (table t))
+
+-- then the probe's own: of the variable 13 and 14, of the budget 15
+unfoldable pub preparedProbeChecks : List ℕ → List ℤ → List ℕ → (variable budget : ℕ) → List Check
+preparedProbeChecks W B t variable budget = lentChecks W B t ++ probeChecks (variablesOf W) B variable budget
+
+-- the number by which the call is refused, 0 where it is accepted
+unfoldable pub probeFault : List ℕ → List ℤ → List ℕ → (variable budget : ℕ) → ℕ
+probeFault W B t variable budget = first (preparedProbeChecks W B t variable budget)

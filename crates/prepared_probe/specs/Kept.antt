@@ -1,0 +1,19 @@
+-- What a prepared probe keeps in the workspace: of the workspace W before, W′ after, the answer a and the box B′ that was left.
+use lib.Dec.{T}
+use lib.IntN.{ℤ}
+use Prim.Native.Nat.{ℕ}
+use mathlib.Core.Bool.{not}
+use mathlib.Core.List.{List}
+use mathlib.Core.Path.{_≡_}
+use Rattle.semantics.specs.Perform.{Answer}
+use Rattle.semantics.specs.Run.{answersNone}
+use Rattle.workspace.specs.Layout.{boxIn, rowsIn, variablesOf}
+
+pub record Keeps (W W′ : List ℕ) (a : Answer) (B′ : List ℤ) : Type 0 where
+  -- n and m stay
+  pub variables : variablesOf W′ ≡ variablesOf W
+  pub rows : rowsIn W′ ≡ rowsIn W
+  -- a probe that ends infeasible keeps nothing: the next call is compared with the box that was known before
+  pub infeasible : T (answersNone a) → W′ ≡ W
+  -- any other keeps the box that it left
+  pub box : T (not (answersNone a)) → boxIn (variablesOf W) W′ ≡ B′

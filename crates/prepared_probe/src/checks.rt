@@ -1,0 +1,33 @@
+// The checks of a prepared probe, in 01's order: those of what it is lent, then its own (13 to 15). The rows were
+// checked when they were prepared.
+use buffer_checks::is_bits;
+use call::checks::probe_fields_fault;
+use prepared_box::checks::box_fault;
+use workspace::is_ours;
+ghost use mathlib.Core.Path.{_≡_};
+ghost use Rattle.prepared_probe.specs.Checks.{probeFault};
+
+// The number by which the probe is refused, 0 where it is accepted.
+pub fn probe_fault(ws: &[u32], bounds: &[i32], table: &[u8], variable: u32, budget: u32) -> u32
+    ensures { λ r.
+        ⌜ r ≡ probeFault (now (ws .entry)) (now (bounds .entry)) (now (table .entry)) variable budget ⌝ }
+{
+    if !is_ours(ws) {
+        return 5;
+    }
+    let n = ws[1] as usize;
+    if bounds.len() != 2 * n {
+        return 5;
+    }
+    if table.len() != 4 * (n * n) {
+        return 5;
+    }
+    let fault = box_fault(n, bounds);
+    if fault != 0 {
+        return fault;
+    }
+    if !is_bits(table) {
+        return 10;
+    }
+    probe_fields_fault(n, bounds, variable, budget)
+}

@@ -1,0 +1,163 @@
+// The two sides of a probe of a prepared model, and what is kept of what they come to.
+use boxes::copy_box;
+use boxes::make_empty;
+use model::MAX_BOX;
+use prepared_box::taken::take_box;
+use prepared_propagation::propagate_prepared;
+use probing::sides::Probing;
+use probing::sides::join;
+use probing::sides::untried;
+use propagation::Propagation;
+use row_set::SET_WORDS;
+use workspace::keep_box;
+use workspace::keep_set;
+ghost use mathlib.Core.Bool.{_||_};
+ghost use mathlib.Core.Logic.{_⊎_};
+ghost use mathlib.Core.Path.{_≡_};
+ghost use Prim.Native.Nat.{ℕ, _*_, _<_, _≤_};
+ghost use lib.Dec.{T};
+ghost use lib.IntN.{pos};
+ghost use lib.ListN.{length};
+ghost use Rattle.model.specs.Box.{NonEmpty, isEmpty, isFree};
+ghost use Rattle.model.specs.Rows.{Rows};
+ghost use Rattle.model.specs.Valid.{ValidBox, ValidTable};
+ghost use Rattle.prepared_row.specs.Visit.{Sized};
+ghost use Rattle.probing.specs.Results.{probingOf};
+ghost use Rattle.propagation.specs.Results.{propagationOf};
+ghost use Rattle.reducer.specs.OpenCalls.{probingAnswer};
+ghost use Rattle.semantics.specs.Probe.{fix, probe};
+ghost use Rattle.semantics.specs.Propagate.{propagate};
+ghost use Rattle.workspace.specs.Kept.{SameBut};
+ghost use Rattle.workspace.specs.Layout.{boxIn, rowsIn, variablesOf, workspaceLen};
+ghost use Rattle.workspace.specs.Prepared.{Prepared};
+ghost use Rattle.prepared_probe.specs.Kept.{Keeps};
+ghost use Rattle.prepared_probe.specs.Sides.{Boxed, InRange, SideLeft};
+
+// A side, fixed already, is propagated: the rows to look at are those of the box that the workspace knows, and those
+// that hear of a bound in which the side differs from it. One that is infeasible is left empty, whatever the workspace
+// holds: `join` tells the sides apart by it.
+fn propagate_side(
+    n: usize,
+    m: usize,
+    ws: &[u32],
+    budget: u32,
+    seen: &mut [i32],
+    side: &mut [i32],
+) -> Propagation
+    requires { ⌜ Boxed n m (now ws) (now side) × (length (now seen) ≡ length (now side)) ⌝ }
+    ensures answer { λ p.
+        ⌜ ((A : Rows) → Prepared (now (ws .entry)) A
+        → propagationOf p (now (side .exit)) ≡ propagate budget n m A (now (side .entry))) ⌝ }
+    ensures left { λ p. ⌜ SideLeft n p (now (side .exit)) ⌝ }
+{
+    let mut dirty = [0u32; SET_WORDS];
+    take_box(n, ws, side, seen, &mut dirty);
+    let mut reasons = [0u32; 1];
+    let told = propagate_prepared(n, m, ws, side, budget, seen, &mut dirty, &mut reasons[..0]);
+    let end = told.end;
+    let Propagation::Infeasible(_, _) = end else {
+        return end;
+    };
+    make_empty(side);
+    end
+}
+
+// Side v of k, in the lent buffer: the box with k fixed at v, propagated with the budget.
+fn try_side(
+    n: usize,
+    m: usize,
+    ws: &[u32],
+    bounds: &[i32],
+    k: usize,
+    v: i32,
+    budget: u32,
+    side: &mut [i32],
+) -> Propagation
+    requires { ⌜ Boxed n m (now ws) (now bounds) × T (isFree (now bounds) k) × (k < n) ⌝ }
+    requires { ⌜ (v ≡ pos 0) ⊎ (v ≡ pos 1) ⌝ }
+    requires { ⌜ length (now side) ≡ length (now bounds) ⌝ }
+    ensures answer { λ p.
+        ⌜ ((A : Rows) → Prepared (now (ws .entry)) A → (w : ℕ) → v ≡ pos w
+        → propagationOf p (now (side .exit)) ≡ propagate budget n m A (fix n (now (bounds .entry)) k w)) ⌝ }
+    ensures left { λ p. ⌜ SideLeft n p (now (side .exit)) ⌝ }
+{
+    copy_box(bounds, side);
+    side[2 * k] = v;
+    side[2 * k + 1] = v;
+    let len = bounds.len();
+    let mut seen = [0i32; MAX_BOX];
+    propagate_side(n, m, ws, budget, &mut seen[..len], side)
+}
+
+// The free variable k is probed; the workspace is only read.
+fn try_sides(
+    n: usize,
+    m: usize,
+    ws: &[u32],
+    bounds: &mut [i32],
+    table: &mut [u8],
+    k: usize,
+    budget: u32,
+) -> Probing
+    requires { ⌜ Boxed n m (now ws) (now bounds) × T (isFree (now bounds) k) × (k < n) ⌝ }
+    requires { ⌜ ValidTable n (now table) ⌝ }
+    ensures answer { λ r.
+        ⌜ ((A : Rows) → Prepared (now (ws .entry)) A → probingOf r (now (bounds .exit)) (now (table .exit))
+        ≡ probe k budget n m A (now (bounds .entry)) (now (table .entry))) ⌝ }
+    ensures range { λ r. ⌜ InRange (now (bounds .exit)) ⌝ }
+{
+    let len = bounds.len();
+    let mut zero = [0i32; MAX_BOX];
+    let s0 = try_side(n, m, ws, bounds, k, 0, budget, &mut zero[..len]);
+    let mut one = [0i32; MAX_BOX];
+    let s1 = try_side(n, m, ws, bounds, k, 1, budget, &mut one[..len]);
+    join(n, k, s0, s1, &zero, &one, bounds, table)
+}
+
+// The box becomes the one that the workspace knows, with the rows to look at in it.
+fn keep(n: usize, ws: &mut [u32], bounds: &[i32], seen: &mut [i32])
+    requires { ⌜ (n ≤ 128) × (length (now ws) ≡ workspaceLen) × (length (now bounds) ≡ 2 * n)
+        × (length (now seen) ≡ 2 * n) × InRange (now bounds) ⌝ }
+    ensures kept { λ _. ⌜ boxIn n (now (ws .exit)) ≡ now (bounds .entry) ⌝ }
+    ensures others { λ _. ⌜ SameBut 4 264 (now (ws .entry)) (now (ws .exit)) ⌝ }
+    ensures prepared { λ _.
+        let W = now (ws .entry) in
+        ⌜ ((A : Rows) → Prepared W A → n ≡ variablesOf W → ValidBox n (now (bounds .entry))
+        → NonEmpty n (now (bounds .entry)) → Prepared (now (ws .exit)) A) ⌝ }
+{
+    let mut dirty = [0u32; SET_WORDS];
+    take_box(n, ws, bounds, seen, &mut dirty);
+    keep_set(&dirty, ws);
+    keep_box(bounds, ws);
+}
+
+// Probes variable k of a model and a box that passed the checks. A probe that ends infeasible keeps nothing.
+pub fn probe_prepared(
+    n: usize,
+    m: usize,
+    ws: &mut [u32],
+    bounds: &mut [i32],
+    table: &mut [u8],
+    k: usize,
+    budget: u32,
+) -> Probing
+    requires { ⌜ (n ≡ variablesOf (now ws)) × (m ≡ rowsIn (now ws)) × Sized n m (now ws) (now bounds)
+        × ValidTable n (now table) × T (isEmpty n (now bounds) || isFree (now bounds) k) × (k < n) ⌝ }
+    ensures answer { λ r.
+        ⌜ ((A : Rows) → Prepared (now (ws .entry)) A → probingOf r (now (bounds .exit)) (now (table .exit))
+        ≡ probe k budget n m A (now (bounds .entry)) (now (table .entry))) ⌝ }
+    ensures prepared { λ r. ⌜ ((A : Rows) → Prepared (now (ws .entry)) A → Prepared (now (ws .exit)) A) ⌝ }
+    ensures kept { λ r. ⌜ Keeps (now (ws .entry)) (now (ws .exit)) (probingAnswer r) (now (bounds .exit)) ⌝ }
+{
+    if boxes::is_empty(bounds) {
+        return Probing::Infeasible(untried(), untried());
+    }
+    let answer = try_sides(n, m, ws, bounds, table, k, budget);
+    let Probing::Infeasible(_, _) = answer else {
+        let len = bounds.len();
+        let mut seen = [0i32; MAX_BOX];
+        keep(n, ws, bounds, &mut seen[..len]);
+        return answer;
+    };
+    answer
+}

@@ -1,0 +1,5 @@
+pub mod MeaningLaws
+pub mod PassLaws
+pub mod PassesLaws
+pub mod ReasonsLaws
+pub mod SearchLaws

@@ -1,0 +1,2 @@
+pub mod PreparedReplies
+pub mod PreparedSaid

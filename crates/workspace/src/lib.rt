@@ -1,0 +1,103 @@
+// The workspace of a prepared model: a lent buffer of 32-bit numbers. Whatever it holds, what is read from it is in
+// range; whether it was written by us is asked of its length and head alone.
+ghost use mathlib.Core.Path.{_≡_};
+ghost use Prim.Native.Nat.{ℕ, _*_, _+_, _≤_};
+ghost use lib.IntN.{negℤ, pos, _+ℤ_};
+ghost use lib.ListN.{drop, length, take};
+ghost use lib.Signed.{_≤ℤ_};
+ghost use Rattle.model.specs.Box.{at};
+ghost use Rattle.model.specs.Limits.{maxBound, minBound};
+ghost use Rattle.model.specs.Valid.{Between};
+ghost use Rattle.workspace.specs.Kept.{SameBut};
+ghost use Rattle.workspace.specs.Layout.{boundOf, boxIn, dirtyOf, isOurs, workspaceLen};
+
+pub const WORKSPACE_LEN: usize = 16_768;
+
+// "AST1", as bytes.
+pub const OUR_MARK: u32 = 827_609_921;
+
+// Whether its length and head are ours.
+pub fn is_ours(ws: &[u32]) -> bool
+    ensures { λ r. ⌜ r ≡ isOurs (now (ws .entry)) ⌝ }
+{
+    if ws.len() != WORKSPACE_LEN {
+        return false;
+    }
+    if ws[0] != OUR_MARK {
+        return false;
+    }
+    if ws[1] < 1 {
+        return false;
+    }
+    if ws[1] > 128 {
+        return false;
+    }
+    ws[2] <= 120
+}
+
+// A bound in a number of the workspace.
+fn bound(word: u32) -> i32
+    ensures { λ r. ⌜ r ≡ boundOf word ⌝ }
+{
+    ((word % 65_536) as i32) - 32_768
+}
+
+// The box that is kept.
+pub fn read_box(ws: &[u32], bounds: &mut [i32])
+    requires { ⌜ (length (now ws) ≡ workspaceLen) × (length (now bounds) ≤ 256) ⌝ }
+    ensures { λ _.
+        ⌜ ((n : ℕ) → length (now (bounds .entry)) ≡ 2 * n → now (bounds .exit) ≡ boxIn n (now (ws .entry))) ⌝ }
+{
+    let mut i = 0;
+    while i < bounds.len() {
+        bounds[i] = bound(ws[8 + i]);
+        i += 1;
+    }
+}
+
+// Writes numbers from a place on.
+pub fn put(numbers: &[u32], place: usize, ws: &mut [u32])
+    requires { ⌜ (place + length (now numbers) ≤ length (now ws)) × (length (now ws) ≡ workspaceLen) ⌝ }
+    ensures numbers { λ _.
+        ⌜ take (length (now (numbers .entry))) (drop place (now (ws .exit))) ≡ now (numbers .entry) ⌝ }
+    ensures others { λ _.
+        ⌜ SameBut place (place + length (now (numbers .entry))) (now (ws .entry)) (now (ws .exit)) ⌝ }
+{
+    let mut i = 0;
+    while i < numbers.len() {
+        ws[place + i] = numbers[i];
+        i += 1;
+    }
+}
+
+// Keeps the rows to look at.
+pub fn keep_set(dirty: &[u32], ws: &mut [u32])
+    requires { ⌜ (length (now dirty) ≡ 4) × (length (now ws) ≡ workspaceLen) ⌝ }
+    ensures kept { λ _. ⌜ dirtyOf (now (ws .exit)) ≡ now (dirty .entry) ⌝ }
+    ensures others { λ _. ⌜ SameBut 4 8 (now (ws .entry)) (now (ws .exit)) ⌝ }
+{
+    put(dirty, 4, ws);
+}
+
+// z + by, which is not below 0.
+pub fn raised(z: i32, by: i32) -> u32
+    requires { ⌜ (negℤ by ≤ℤ z) × (z ≤ℤ by) × (by ≤ℤ pos 1_000_000_000) ⌝ }
+    ensures { λ r. ⌜ pos r ≡ z +ℤ by ⌝ }
+{
+    (z + by) as u32
+}
+
+// Keeps a box.
+pub fn keep_box(bounds: &[i32], ws: &mut [u32])
+    requires { ⌜ (length (now bounds) ≤ 256) × ((i : ℕ) → Between minBound maxBound (at (now bounds) i))
+        × (length (now ws) ≡ workspaceLen) ⌝ }
+    ensures kept { λ _.
+        ⌜ ((n : ℕ) → length (now (bounds .entry)) ≡ 2 * n → boxIn n (now (ws .exit)) ≡ now (bounds .entry)) ⌝ }
+    ensures others { λ _. ⌜ SameBut 8 264 (now (ws .entry)) (now (ws .exit)) ⌝ }
+{
+    let mut i = 0;
+    while i < bounds.len() {
+        ws[8 + i] = raised(bounds[i], 32_768);
+        i += 1;
+    }
+}
