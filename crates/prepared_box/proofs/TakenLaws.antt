@@ -99,9 +99,9 @@ taken-join {W} {old} {new} {D} {p} {q} {s} {mid} {box} {D₁} {D₂} h l a b = r
 
 module _ {W : List ℕ} {new : List ℤ} {D : List ℕ} {p q : ℕ} where
   -- since the kept box: a block that was copied and has the bounds that are kept
-  pub kept-same : {a b : List ℤ} → q ≤ 128 → Copied (2 * p) (2 * q) new a b
-      → ((i : ℕ) → 2 * p ≤ i → i < 2 * q → boundOf (getD W (8 + i) 0) ≡ at new i) → TakenKept W new a D p q b D
-  kept-same h c f = record {
+  pub kept-same : {t : ℕ} {a b : List ℤ} → t ≡ 2 * q → q ≤ 128 → Copied (2 * p) t new a b
+      → ((i : ℕ) → 2 * p ≤ i → i < t → boundOf (getD W (8 + i) 0) ≡ at new i) → TakenKept W new a D p q b D
+  kept-same e h c f = record {
     len = c .len;
     set = refl;
     within = λ k x y. (c .within (2 * k) (omega arith) (omega arith), c .within (2 * k + 1) (omega arith) (omega arith));
@@ -115,9 +115,9 @@ module _ {W : List ℕ} {new : List ℤ} {D : List ℕ} {p q : ℕ} where
   }
 
   -- one that was copied, and then taken
-  pub kept-copied : {a b box : List ℤ} {D′ : List ℕ} → Copied (2 * p) (2 * q) new a b → TakenKept W new b D p q box D′
+  pub kept-copied : {t : ℕ} {a b box : List ℤ} {D′ : List ℕ} → t ≡ 2 * q → Copied (2 * p) t new a b → TakenKept W new b D p q box D′
       → TakenKept W new a D p q box D′
-  kept-copied c t = record {
+  kept-copied e c t = record {
     len = t .len ∙ c .len;
     set = t .set;
     within = t .within;

@@ -1,6 +1,6 @@
 -- `taken::take_all`: the invariant is `TakenKept` of the blocks so far, from the last on; a block is copied, and taken where a bound differs.
 -- Assumes nothing.
-use Prim.Native.Nat.{_*_, _+_, _-_, _≤_}
+use Prim.Native.Nat.{_≤_}
 use borrow.Author.Tests.{not-false}
 use mathlib.Core.Path.{_∙_, _≡_}
 use native.Mathlib.Omega.{arith}
@@ -48,11 +48,9 @@ loop-less c = omega arith
 
 loop-again : tie.Need-loop-again Inv-loop μ-loop
 loop-again c =
-    let h = c .before .before .before .before .before .before .before .before .before .before .before in
-    let i = h .loop .inv in
-    let e : 2 * (h .loop .end - 32) + 64 ≡ 2 * h .loop .end = omega arith in (
+    let i = c .before .before .before .before .before .before .before .before .before .before .before .loop .inv in (
       omega (arith, i .0),
-      kept-join (omega arith) (i .0) (i .1) (kept-copied (rw e at (c .before .before .before .before .before .before .before .before .copy-same .ensures .0)) (c .before .before .before .take-block .ensures)),
+      kept-join (omega arith) (i .0) (i .1) (kept-copied (omega arith) (c .before .before .before .before .before .before .before .before .copy-same .ensures .0) (c .before .before .before .take-block .ensures)),
     )
 
 loop-less-2 : tie.Need-loop-less-2 Inv-loop μ-loop
@@ -62,10 +60,9 @@ loop-again-2 : tie.Need-loop-again-2 Inv-loop μ-loop
 loop-again-2 c =
     let h = c .before .before .before .before .before in
     let i = h .loop .inv in
-    let e : 2 * (h .loop .end - 32) + 64 ≡ 2 * h .loop .end = omega arith in
-    let copy = rw e at (c .before .before .copy-same .ensures) in (
+    let copy = c .before .before .copy-same .ensures in (
       omega (arith, i .0),
-      kept-join (omega arith) (i .0) (i .1) (kept-same (omega (arith, h .before .before .before .pre .1, i .0)) (copy .0) (copy .1 (not-false _ (c .if1 .left)))),
+      kept-join (omega arith) (i .0) (i .1) (kept-same (omega arith) (omega (arith, h .before .before .before .pre .1, i .0)) (copy .0) (copy .1 (not-false _ (c .if1 .left)))),
     )
 
 mul-copy-same-4 : tie.Need-mul-copy-same-4 Inv-loop μ-loop
@@ -87,7 +84,7 @@ take-block-requires-2 c κs =
 returns : tie.Need-returns Inv-loop μ-loop
 returns c =
     let i = c .before .before .before .before .before .before .before .before .before .before .before .loop .inv in
-    kept-join (omega arith) (i .0) (i .1) (kept-copied (c .before .before .before .before .before .before .before .before .copy-same2 .ensures .0) (c .before .before .before .take-block2 .ensures))
+    kept-join (omega arith) (i .0) (i .1) (kept-copied (omega arith) (c .before .before .before .before .before .before .before .before .copy-same2 .ensures .0) (c .before .before .before .take-block2 .ensures))
 
 same-length : tie.Need-same-length Inv-loop μ-loop
 same-length c = returns c .len
@@ -100,7 +97,7 @@ returns-2 c =
     let h = c .before .before .before .before .before in
     let i = h .loop .inv in
     let copy = c .before .before .copy-same2 .ensures in
-    kept-join (omega arith) (i .0) (i .1) (kept-same (omega (arith, h .before .before .before .pre .1, i .0)) (copy .0) (copy .1 (not-false _ (c .if2 .left))))
+    kept-join (omega arith) (i .0) (i .1) (kept-same (omega arith) (omega (arith, h .before .before .before .pre .1, i .0)) (copy .0) (copy .1 (not-false _ (c .if2 .left))))
 
 same-length-3 : tie.Need-same-length-3 Inv-loop μ-loop
 same-length-3 c = returns-2 c .len
