@@ -2,7 +2,7 @@
 -- Assumes nothing.
 use Prim.Native.Nat.{_≤_}
 use borrow.Author.Tests.{not-false}
-use mathlib.Core.Path.{_∙_, _≡_}
+use mathlib.Core.Path.{_∙_}
 use native.Mathlib.Omega.{arith}
 use Rattle.prepared_box.specs.TakenBox.{TakenKept}
 use Rattle.prepared_box.proofs.TakenLaws.{kept-copied, kept-join, kept-none, kept-same}
