@@ -1,39 +1,46 @@
 // The box that the workspace knows becomes the lent one, and the rows that hear of a bound that differs are to be
-// looked at too. Most bounds are the same: blocks of variables are compared first, each in a loop without a branch.
+// looked at too. Most bounds are the same: blocks of variables are copied and compared with what the workspace keeps,
+// each in a loop without a branch, and only where one differs its kept bounds are read.
 use prepared_row::notes::differs_at;
 use prepared_row::notes::note_at;
 use workspace::read_box;
-ghost use mathlib.Core.Bool.{false};
+ghost use mathlib.Core.Bool.{true};
 ghost use mathlib.Core.Path.{_≡_};
-ghost use Prim.Native.Nat.{ℕ, _*_, _<_, _≤_};
-ghost use lib.ListN.{length};
+ghost use Prim.Native.Nat.{ℕ, _*_, _+_, _<_, _≤_};
+ghost use lib.ListN.{getD, length};
 ghost use Rattle.model.specs.Box.{at};
 ghost use Rattle.model.specs.Rows.{Rows};
 ghost use Rattle.row_set.specs.Readers.{Calm};
-ghost use Rattle.workspace.specs.Layout.{dirtyOf, rowsIn, variablesOf, workspaceLen};
+ghost use Rattle.workspace.specs.Layout.{boundOf, dirtyOf, rowsIn, variablesOf, workspaceLen};
 ghost use Rattle.workspace.specs.Prepared.{Prepared};
-ghost use Rattle.prepared_box.specs.TakenBox.{Taken};
+ghost use Rattle.prepared_box.specs.TakenBox.{Copied, Taken, TakenKept};
 
 // The variables of a block.
 const BLOCK: usize = 32;
 
-// Whether a bound differs from place `from` on and below `to`.
-fn differ(old: &[i32], new: &[i32], from: usize, to: usize) -> bool
-    requires { ⌜ (to ≤ length (now old)) × (to ≤ length (now new)) ⌝ }
-    ensures { λ b.
-        ⌜ (b ≡ false → (i : ℕ) → from ≤ i → i < to → at (now (old .entry)) i ≡ at (now (new .entry)) i) ⌝ }
+// Copies the numbers from place `from` on and below `to`. Whether they are those that the workspace keeps.
+fn copy_same(ws: &[u32], from: usize, to: usize, seen: &mut [i32], new: &[i32]) -> bool
+    requires { ⌜ (length (now ws) ≡ workspaceLen) × (from ≤ to) × (to ≤ 256) × (to ≤ length (now seen))
+        × (to ≤ length (now new)) ⌝ }
+    ensures copied { λ _.
+        ⌜ Copied from to (now (new .entry)) (now (seen .entry)) (now (seen .exit)) ⌝ }
+    ensures same { λ b.
+        ⌜ (b ≡ true → (i : ℕ) → from ≤ i → i < to
+        → boundOf (getD (now (ws .entry)) (8 + i) 0) ≡ at (now (new .entry)) i) ⌝ }
 {
-    let mut found = false;
+    let mut same = true;
     let mut i = from;
     while i < to {
-        found |= old[i] != new[i];
+        let bound = new[i];
+        seen[i] = bound;
+        same &= ((ws[8 + i] % 65_536) as i32) - 32_768 == bound;
         i += 1;
     }
-    found
+    same
 }
 
-// The variables from `from` on and below `to` get their new bounds.
-fn take_block(ws: &[u32], from: usize, to: usize, old: &mut [i32], new: &[i32], dirty: &mut [u32])
+// The variables from `from` on and below `to` get their new bounds, whatever they had.
+fn note_block(ws: &[u32], from: usize, to: usize, old: &mut [i32], new: &[i32], dirty: &mut [u32])
     requires { ⌜ (length (now ws) ≡ workspaceLen) × (from ≤ to) × (to ≤ 128) × (length (now dirty) ≡ 4)
         × (2 * to ≤ length (now old)) × (2 * to ≤ length (now new)) ⌝ }
     ensures { λ _.
@@ -49,32 +56,38 @@ fn take_block(ws: &[u32], from: usize, to: usize, old: &mut [i32], new: &[i32], 
     }
 }
 
-// The end of the block that begins at j.
-fn block_end(n: usize, j: usize) -> usize
-    requires { ⌜ j < n ⌝ }
-    ensures { λ r. ⌜ (j < r) × (r ≤ n) ⌝ }
+// The same, from the bounds that the workspace keeps. They are read from variable 0 on: the blocks below, which get
+// their bounds later, are their room.
+fn take_block(ws: &[u32], from: usize, to: usize, seen: &mut [i32], new: &[i32], dirty: &mut [u32])
+    requires { ⌜ (length (now ws) ≡ workspaceLen) × (from ≤ to) × (to ≤ 128) × (length (now dirty) ≡ 4)
+        × (2 * to ≤ length (now seen)) × (2 * to ≤ length (now new)) ⌝ }
+    ensures { λ _.
+        ⌜ TakenKept (now (ws .entry)) (now (new .entry)) (now (seen .entry)) (now (dirty .entry)) from to
+        (now (seen .exit)) (now (dirty .exit)) ⌝ }
 {
-    if n - j < BLOCK {
-        return n;
-    }
-    j + BLOCK
+    read_box(ws, &mut seen[..2 * to]);
+    note_block(ws, from, to, seen, new, dirty);
 }
 
-// All n variables get their new bounds.
-fn take_all(n: usize, ws: &[u32], old: &mut [i32], new: &[i32], dirty: &mut [u32])
+// All n variables get their new bounds, block by block from the last on; what is left of n is the first block. Only
+// that one's length is not known to the compiler, which unrolls the loop of the others.
+fn take_all(n: usize, ws: &[u32], seen: &mut [i32], new: &[i32], dirty: &mut [u32])
     requires { ⌜ (length (now ws) ≡ workspaceLen) × (n ≤ 128) × (length (now dirty) ≡ 4)
-        × (length (now old) ≡ 2 * n) × (length (now new) ≡ 2 * n) ⌝ }
+        × (length (now seen) ≡ 2 * n) × (length (now new) ≡ 2 * n) ⌝ }
     ensures { λ _.
-        ⌜ Taken (now (ws .entry)) (now (old .entry)) (now (new .entry)) (now (dirty .entry)) 0 n
-        (now (old .exit)) (now (dirty .exit)) ⌝ }
+        ⌜ TakenKept (now (ws .entry)) (now (new .entry)) (now (seen .entry)) (now (dirty .entry)) 0 n
+        (now (seen .exit)) (now (dirty .exit)) ⌝ }
 {
-    let mut j = 0;
-    while j < n {
-        let end = block_end(n, j);
-        if differ(old, new, 2 * j, 2 * end) {
-            take_block(ws, j, end, old, new, dirty);
+    let mut end = n;
+    while BLOCK <= end {
+        let from = end - BLOCK;
+        if !copy_same(ws, 2 * from, 2 * from + 2 * BLOCK, seen, new) {
+            take_block(ws, from, end, seen, new, dirty);
         }
-        j = end;
+        end = from;
+    }
+    if !copy_same(ws, 0, 2 * end, seen, new) {
+        take_block(ws, 0, end, seen, new, dirty);
     }
 }
 
@@ -101,6 +114,5 @@ pub fn take_box(n: usize, ws: &[u32], bounds: &[i32], seen: &mut [i32], dirty: &
         → Calm n (rowsIn W) A (now (bounds .entry)) (now (dirty .exit))) ⌝ }
 {
     read_set(ws, dirty);
-    read_box(ws, seen);
     take_all(n, ws, seen, bounds, dirty);
 }

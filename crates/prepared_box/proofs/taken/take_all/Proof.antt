@@ -1,73 +1,109 @@
--- `taken::take_all`: the invariant is `Taken` of the blocks so far; a block in which no bound differs is passed over (`taken-same`).
+-- `taken::take_all`: the invariant is `TakenKept` of the blocks so far, from the last on; a block is copied, and taken where a bound differs.
 -- Assumes nothing.
-use Prim.Native.Nat.{_*_, _+_, _-_, _≤_}
-use mathlib.Core.Path.{_∙_, _≡_}
+use Prim.Native.Nat.{_≤_}
+use borrow.Author.Tests.{not-false}
+use mathlib.Core.Path.{_∙_}
 use native.Mathlib.Omega.{arith}
-use Rattle.prepared_box.specs.TakenBox.{Taken}
-use Rattle.prepared_box.proofs.TakenLaws.{taken-join, taken-none, taken-same}
+use Rattle.prepared_box.specs.TakenBox.{TakenKept}
+use Rattle.prepared_box.proofs.TakenLaws.{kept-copied, kept-join, kept-none, kept-same}
 use Rattle.prepared_box.proofs.taken.take_all.Statement.{statement}
 use Rattle.prepared_box.proofs.taken.take_all.Tie as tie
 
 abbrev Inv-loop : tie.InvT-loop
-Inv-loop n ws old₀ new dirty₀ j₀ old dirty j = (j ≤ n) × Taken ws old₀ new dirty₀ 0 j old dirty
+Inv-loop n ws seen₀ new dirty₀ end₀ seen dirty end = (end ≤ n) × TakenKept ws new seen₀ dirty₀ end n seen dirty
 
 abbrev μ-loop : tie.MeasureT-loop
-μ-loop n ws old₀ new dirty₀ j₀ old dirty j = n - j
+μ-loop n ws seen₀ new dirty₀ end₀ seen dirty end = end
 
 loop-holds : tie.Need-loop-holds Inv-loop μ-loop
-loop-holds c = (omega arith, taken-none 0)
+loop-holds c = (omega arith, kept-none _)
 
-block-end-requires : tie.Need-block-end-requires Inv-loop μ-loop
-block-end-requires c κs = omega arith
+mul-copy-same : tie.Need-mul-copy-same Inv-loop μ-loop
+mul-copy-same c = omega (arith, c .before .before .before .before .pre .1)
 
-mul-differ : tie.Need-mul-differ Inv-loop μ-loop
-mul-differ c = omega (arith, c .before .before .before .before .before .before .pre .1)
+mul-copy-same-2 : tie.Need-mul-copy-same-2 Inv-loop μ-loop
+mul-copy-same-2 c = omega (arith, c .before .before .before .before .pre .1)
 
-mul-differ-2 : tie.Need-mul-differ-2 Inv-loop μ-loop
-mul-differ-2 c = omega (arith, c .before .before .before .before .before .before .pre .1, c .before .block-end .ensures)
+mul-copy-same-3 : tie.Need-mul-copy-same-3 Inv-loop μ-loop
+mul-copy-same-3 c = omega (arith, c .before .before .before .before .pre .1)
 
-differ-requires : tie.Need-differ-requires Inv-loop μ-loop
-differ-requires c κs =
-    let h = c .before .before .before in
-    let p = h .before .before .before .pre in
-    let e = c .before .block-end .ensures in
-    (omega (arith, p .3, h .loop .inv .1 .len, e .1), omega (arith, p .4, e .1))
+add-copy-same : tie.Need-add-copy-same Inv-loop μ-loop
+add-copy-same c = omega (arith, c .before .before .before .before .pre .1)
+
+copy-same-requires : tie.Need-copy-same-requires Inv-loop μ-loop
+copy-same-requires c κs =
+    let p = c .before .before .before .before .before .pre in
+    let i = c .before .before .loop .inv in
+    (p .0, omega arith, omega (arith, p .1, i .0), omega (arith, p .3, i .0, i .1 .len), omega (arith, p .4, i .0))
 
 take-block-requires : tie.Need-take-block-requires Inv-loop μ-loop
 take-block-requires c κs =
-    let h = c .before .before .before .before .before .before .before in
-    let p = h .before .before .before .pre in
-    let e = c .before .before .before .before .before .block-end .ensures in
-    let i = h .loop .inv .1 in
-    (p .0, omega (arith, e .0), omega (arith, p .1, e .1), i .set ∙ p .2, omega (arith, p .3, i .len, e .1), omega (arith, p .4, e .1))
+    let p = c .before .before .before .before .before .before .before .before .before .before .pre in
+    let i = c .before .before .before .before .before .before .before .loop .inv in
+    let copy = c .before .before .before .before .copy-same .ensures .0 in
+    (p .0, omega arith, omega (arith, p .1, i .0), i .1 .set ∙ p .2, omega (arith, p .3, i .0, i .1 .len, copy .len), omega (arith, p .4, i .0))
 
 loop-less : tie.Need-loop-less Inv-loop μ-loop
-loop-less c = omega (arith, c .before .before .before .before .before .before .before .before .before .block-end .ensures)
+loop-less c = omega arith
 
 loop-again : tie.Need-loop-again Inv-loop μ-loop
 loop-again c =
-    let e = c .before .before .before .before .before .before .before .before .before .block-end .ensures in
-    let i = c .before .before .before .before .before .before .before .before .before .before .before .loop .inv .1 in
-    (e .1, taken-join (omega arith) (omega (arith, e .0)) i (c .before .before .before .take-block .ensures))
+    let i = c .before .before .before .before .before .before .before .before .before .before .before .loop .inv in (
+      omega (arith, i .0),
+      kept-join (omega arith) (i .0) (i .1) (kept-copied (omega arith) (c .before .before .before .before .before .before .before .before .copy-same .ensures .0) (c .before .before .before .take-block .ensures)),
+    )
 
 loop-less-2 : tie.Need-loop-less-2 Inv-loop μ-loop
-loop-less-2 c = omega (arith, c .before .before .before .block-end .ensures)
+loop-less-2 c = omega arith
 
 loop-again-2 : tie.Need-loop-again-2 Inv-loop μ-loop
 loop-again-2 c =
-    let e = c .before .before .before .block-end .ensures in
-    let i = c .before .before .before .before .before .loop .inv .1 in
-    let f = c .before .differ .ensures (c .if1 .left) in
-    (e .1, taken-join (omega arith) (omega (arith, e .0)) i (taken-same (λ k a b. (f (2 * k) (omega arith) (omega arith), f (2 * k + 1) (omega arith) (omega arith)))))
+    let h = c .before .before .before .before .before in
+    let i = h .loop .inv in
+    let copy = c .before .before .copy-same .ensures in (
+      omega (arith, i .0),
+      kept-join (omega arith) (i .0) (i .1) (kept-same (omega arith) (omega (arith, h .before .before .before .pre .1, i .0)) (copy .0) (copy .1 (not-false _ (c .if1 .left)))),
+    )
 
-same-length : tie.Need-same-length Inv-loop μ-loop
-same-length c = c .before .loop .inv .1 .len
+mul-copy-same-4 : tie.Need-mul-copy-same-4 Inv-loop μ-loop
+mul-copy-same-4 c = omega (arith, c .before .before .before .before .pre .1)
 
-same-length-2 : tie.Need-same-length-2 Inv-loop μ-loop
-same-length-2 c = c .before .loop .inv .1 .set
+copy-same-requires-2 : tie.Need-copy-same-requires-2 Inv-loop μ-loop
+copy-same-requires-2 c κs =
+    let p = c .before .before .before .before .before .pre in
+    let i = c .before .before .loop .inv in
+    (p .0, omega arith, omega (arith, p .1, i .0), omega (arith, p .3, i .0, i .1 .len), omega (arith, p .4, i .0))
+
+take-block-requires-2 : tie.Need-take-block-requires-2 Inv-loop μ-loop
+take-block-requires-2 c κs =
+    let p = c .before .before .before .before .before .before .before .before .before .before .pre in
+    let i = c .before .before .before .before .before .before .before .loop .inv in
+    let copy = c .before .before .before .before .copy-same2 .ensures .0 in
+    (p .0, omega arith, omega (arith, p .1, i .0), i .1 .set ∙ p .2, omega (arith, p .3, i .0, i .1 .len, copy .len), omega (arith, p .4, i .0))
 
 returns : tie.Need-returns Inv-loop μ-loop
-returns c = let e : c .before .loop .j ≡ c .before .before .before .before .args .n = omega arith in rw e at (c .before .loop .inv .1)
+returns c =
+    let i = c .before .before .before .before .before .before .before .before .before .before .before .loop .inv in
+    kept-join (omega arith) (i .0) (i .1) (kept-copied (omega arith) (c .before .before .before .before .before .before .before .before .copy-same2 .ensures .0) (c .before .before .before .take-block2 .ensures))
+
+same-length : tie.Need-same-length Inv-loop μ-loop
+same-length c = returns c .len
+
+same-length-2 : tie.Need-same-length-2 Inv-loop μ-loop
+same-length-2 c = returns c .set
+
+returns-2 : tie.Need-returns-2 Inv-loop μ-loop
+returns-2 c =
+    let h = c .before .before .before .before .before in
+    let i = h .loop .inv in
+    let copy = c .before .before .copy-same2 .ensures in
+    kept-join (omega arith) (i .0) (i .1) (kept-same (omega arith) (omega (arith, h .before .before .before .pre .1, i .0)) (copy .0) (copy .1 (not-false _ (c .if2 .left))))
+
+same-length-3 : tie.Need-same-length-3 Inv-loop μ-loop
+same-length-3 c = returns-2 c .len
+
+same-length-4 : tie.Need-same-length-4 Inv-loop μ-loop
+same-length-4 c = returns-2 c .set
 
 pub take-all-spec : {M : Type 1} → statement M
 take-all-spec =
@@ -76,15 +112,22 @@ take-all-spec =
     Inv-loop
     μ-loop
     loop-holds
-    block-end-requires
-    mul-differ
-    mul-differ-2
-    differ-requires
+    mul-copy-same
+    mul-copy-same-2
+    mul-copy-same-3
+    add-copy-same
+    copy-same-requires
     take-block-requires
     loop-less
     loop-again
     loop-less-2
     loop-again-2
+    mul-copy-same-4
+    copy-same-requires-2
+    take-block-requires-2
     same-length
     same-length-2
-    returns)
+    returns
+    same-length-3
+    same-length-4
+    returns-2)

@@ -1,85 +1,54 @@
--- `taken::take_block`: the invariant is `Taken` of the variables so far; one that differs is noted (`taken-one`), any other is passed
--- over (`taken-same`). Assumes nothing.
-use Prim.Native.Nat.{_-_, _≤_, ℕ}
-use mathlib.Core.Logic.{⊎-elim}
-use mathlib.Core.Path.{_∙_, _≡_, sym}
+-- `taken::take_block`: what is kept is read up to the block's end, and the block is noted since that (`kept-noted`). Assumes nothing.
+use Prim.Native.Nat.{_*_}
+use borrow.Author.Needs.{needs}
+use lib.ListN.{length, take}
+use lib.Seq.{length-take-le}
+use mathlib.Core.Path.{_≡_, sym}
 use native.Mathlib.Omega.{arith}
-use Rattle.prepared_box.specs.TakenBox.{Taken}
-use Rattle.prepared_box.proofs.TakenLaws.{taken-join, taken-none, taken-one, taken-same}
+use Rattle.prepared_box.proofs.TakenLaws.{kept-noted}
 use Rattle.prepared_box.proofs.taken.take_block.Statement.{statement}
 use Rattle.prepared_box.proofs.taken.take_block.Tie as tie
 
-abbrev Inv-loop : tie.InvT-loop
-Inv-loop ws from to old₀ new dirty₀ j₀ old dirty j = (from ≤ j) × (j ≤ to) × Taken ws old₀ new dirty₀ from j old dirty
+-- the room that is read into
+prefix : (s : tie.Start) → length (take (2 * s .args .to) (s .args .seen .now)) ≡ 2 * s .args .to
+prefix s = length-take-le _ _ (s .pre .4)
 
-abbrev μ-loop : tie.MeasureT-loop
-μ-loop ws from to old₀ new dirty₀ j₀ old dirty j = to - j
+mul-read-box : tie.Need-mul-read-box
+mul-read-box c = search needs
 
-loop-holds : tie.Need-loop-holds Inv-loop μ-loop
-loop-holds c = (omega arith, c .before .before .pre .1, taken-none _)
+slice-relend-prefix-read-box : tie.Need-slice-relend-prefix-read-box
+slice-relend-prefix-read-box c = search needs
 
-module _ (h : tie.At-loop Inv-loop μ-loop) where
-  abbrev s : tie.Start Inv-loop μ-loop
-  s = h .before .before .before
+slice-aggregate-read-box : tie.Need-slice-aggregate-read-box
+slice-aggregate-read-box c = sym (prefix (c .before .before .before))
 
-  abbrev j : ℕ
-  j = h .loop .j
+read-box-requires : tie.Need-read-box-requires
+read-box-requires c κs = let s = c .before .before .before in (s .pre .0, omega (arith, prefix s, s .pre .2))
 
-differs-at-requires : tie.Need-differs-at-requires Inv-loop μ-loop
-differs-at-requires c κs =
-    let h = c .before .before in
-    (omega (arith, s h .pre .4, h .loop .inv .2 .len), omega (arith, s h .pre .5))
+note-block-requires : tie.Need-note-block-requires
+note-block-requires c κs = search needs
 
-note-at-requires : tie.Need-note-at-requires Inv-loop μ-loop
-note-at-requires c κs =
-    let h = c .before .before .before .before .before .before in
-    let i = h .loop .inv .2 in
-    (s h .pre .0, omega (arith, s h .pre .2), i .set ∙ s h .pre .3, omega (arith, s h .pre .4, i .len), omega (arith, s h .pre .5))
+same-length : tie.Need-same-length
+same-length c = search needs
 
-add-j : tie.Need-add-j Inv-loop μ-loop
-add-j c = omega (arith, s (c .before .before .before .before) .pre .2)
+same-length-2 : tie.Need-same-length-2
+same-length-2 c = search needs
 
-loop-less : tie.Need-loop-less Inv-loop μ-loop
-loop-less c = omega arith
-
-loop-again : tie.Need-loop-again Inv-loop μ-loop
-loop-again c =
-    let h = c .before .before .before .before in
-    let i = h .loop .inv in (
-      omega arith,
-      omega arith,
-      taken-join (i .0) (omega arith) (i .2)
-          (⊎-elim
-          (λ w.
-          let call = w .3 in
-          rw (w .7, w .8) (taken-one (call .last .1 .1 .1 .1 .0) (omega (arith, s h .pre .4, i .2 .len)) (call .ensures .0) (call .kept .1 .1 .1 .1 .0) (call .ensures .1)))
-          (λ w. rw (w .1, w .2)
-          (let e = c .before .differs-at .ensures (w .0 .left) in
-          taken-same (λ k a b. let d : k ≡ j h = omega arith in rw d (sym (e .0), sym (e .1)))))
-          (c .if1 .came)),
-    )
-
-same-length : tie.Need-same-length Inv-loop μ-loop
-same-length c = c .before .loop .inv .2 .len
-
-same-length-2 : tie.Need-same-length-2 Inv-loop μ-loop
-same-length-2 c = c .before .loop .inv .2 .set
-
-returns : tie.Need-returns Inv-loop μ-loop
-returns c = let e : c .before .loop .j ≡ c .before .before .before .before .args .to = omega arith in rw e at (c .before .loop .inv .2)
+returns : tie.Need-returns
+returns c =
+    let s = c .before .before .before .before .before .before .before .before .before .before .before in
+    let read = c .before .before .before .before .before .before .before .read-box .ensures (s .args .to) (prefix s) in
+    kept-noted (s .pre .2) (s .pre .4) (rw read at (c .before .before .before .note-block .ensures))
 
 pub take-block-spec : {M : Type 1} → statement M
 take-block-spec =
     tie.close
     (tie.spec
-    Inv-loop
-    μ-loop
-    loop-holds
-    differs-at-requires
-    note-at-requires
-    add-j
-    loop-less
-    loop-again
+    mul-read-box
+    slice-relend-prefix-read-box
+    slice-aggregate-read-box
+    read-box-requires
+    note-block-requires
     same-length
     same-length-2
     returns)
