@@ -30,7 +30,7 @@ use Rattle.model.specs.State.{State, withRow}
 use Rattle.semantics.proofs.Accepted.{accepts, lent-own}
 use Rattle.semantics.proofs.CallLaws.{step-ind}
 use Rattle.semantics.proofs.Preserved.{Preserves, run-preserves}
-use Rattle.round.specs.Round.{andThen, anyChange, isChange, probes, propagateCall, removals, removeCall, round, tightenCall, tightenings, unlessEmpty, upwards}
+use Rattle.round.specs.Round.{andThen, anyChange, isChange, probes, propagateCall, removals, removeCall, round, roundBudget, tightenCall, tightenings, unlessEmpty, upwards}
 use Rattle.semantics.proofs.ClassLaws.{classBy, tighten-class}
 use Rattle.semantics.proofs.RowChange.{row-valid, withRow-same}
 use Rattle.model.proofs.RowsLaws.{at-rowOf}
@@ -40,9 +40,9 @@ use Rattle.round.specs.TightenedAt.{TightenedAt}
 -- ---- the calls of a round are direct ones, and accepted
 
 module _ {s : State} (v : ValidState s) where
-  pub accepts-propagation : callFault s (callOf s 2 0 0 1000) ≡ 0
+  pub accepts-propagation : callFault s (callOf s 2 0 0 roundBudget) ≡ 0
   unfolding callOf kindOf hasRow hasVariable hasBudget hasTable isUnknown
-  accepts-propagation = accepts s (callOf s 2 0 0 1000) (record {
+  accepts-propagation = accepts s (callOf s 2 0 0 roundBudget) (record {
     lent = lent-own refl refl refl;
     model = v .model;
     table = λ _. v .table;
@@ -70,9 +70,9 @@ module _ {s : State} (v : ValidState s) where
     free-binary : T (isEmpty (s .model .n) (s .model .box) || isFree (s .model .box) k)
     free-binary = rw f (true→T (isEmpty (s .model .n) (s .model .box) || true) (or-true (isEmpty (s .model .n) (s .model .box))))
 
-    pub accepts-probe : callFault s (callOf s 3 0 k 1000) ≡ 0
+    pub accepts-probe : callFault s (callOf s 3 0 k roundBudget) ≡ 0
     unfolding callOf kindOf hasRow hasVariable hasBudget hasTable isUnknown
-    accepts-probe = accepts s (callOf s 3 0 k 1000) (record {
+    accepts-probe = accepts s (callOf s 3 0 k roundBudget) (record {
       lent = lent-own refl refl refl;
       model = v .model;
       table = λ _. v .table;

@@ -9,7 +9,7 @@ use Rattle.semantics.specs.Unmoved.{anySpent}
 use Rattle.step.proofs.StepLaws.{ran-settle}
 use Rattle.model.specs.Rows.{rowsOf}
 use Rattle.model.specs.State.{State, stateOf}
-use Rattle.round.specs.Round.{andThen, removals, probes, round, propagateCall, tightenings}
+use Rattle.round.specs.Round.{andThen, removals, probes, round, roundBudget, propagateCall, tightenings}
 use Rattle.round.proofs.RoundLaws.{Leads, SameLengths, accepts-propagation, flag-kept, flag-raised, in-order, leads-then, leads-valid, one-call, same-lengths}
 use Rattle.round.proofs.SpentLaws.{round-spent}
 use Rattle.round.proofs.round.Statement.{statement}
@@ -42,8 +42,8 @@ module _ (c : tie.After-is-changed) where
   unfolding stateOf callOf kindOf propagateCall
   propagate-leads =
       let a = propagate-start .args in
-      one-call (callOf (entry propagate-start) 2 0 0 1000)
-      (ran-settle (a .n) (a .m) (a .bounds .now) (rowsOf (a .coefs .now) (a .rhs .now) (a .kinds .now)) (a .table .now) 2 0 0 1000
+      one-call (callOf (entry propagate-start) 2 0 0 roundBudget)
+      (ran-settle (a .n) (a .m) (a .bounds .now) (rowsOf (a .coefs .now) (a .rhs .now) (a .kinds .now)) (a .table .now) 2 0 0 roundBudget
       (accepts-propagation (propagate-start .pre)) _ _ refl (c .before .class-of-propagation .ensures) (c .before .before .before .propagate .ensures))
       (c .is-changed .ensures)
 
