@@ -302,7 +302,7 @@ watched-is : {n m : ℕ} {A : Rows} {B P : List ℤ} {a a′ s s′ : List ℕ} 
     → Watched n m A P a′ s′ e′ k′ → Watched n m A B a s e k
 watched-is b a s e k w = rw (b, a, s, e, k) w
 
--- what is known of the rows, and the lengths of what is lent
+-- what the call comes to, what is known of the rows, and the lengths of what is lent
 record Left (q : tie.At-passes Inv-rows μ-rows Inv-passes μ-passes) (passes moved : ℕ) (bounds : List ℤ) (across signs : List ℕ) (seen : List ℤ) (marks : List ℕ) : Type 0 where
   answer : after (n q) (m q) (A q) passes moved bounds ≡ propagate (budget q) (n q) (m q) (A q) (B₀ q)
   box : ValidBox (n q) bounds
