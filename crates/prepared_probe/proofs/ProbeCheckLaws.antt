@@ -8,6 +8,7 @@ use mathlib.Core.List.{List, _++_}
 use mathlib.Core.Path.{_∙_, _≡_, refl}
 use native.Mathlib.Decide.{ℕ-discrete}
 use Rattle.call.specs.FieldChecks.{budgetChecks, probeChecks, variableChecks}
+use Rattle.call.proofs.FieldLaws.{own-probe}
 use Rattle.integer.proofs.Parts.{zarith}
 use Rattle.integer.proofs.Tests.{T→true, eqb-test, ltb-test}
 use Rattle.model.specs.Box.{isEmpty, isFree}
@@ -20,8 +21,8 @@ use Rattle.model.specs.Valid.{ValidBox, ValidTable}
 use Rattle.model.proofs.CheckLaws.{bits-all, first-go, first-none, first-stop, inRange-all, narrow-all, numbered, shape-test, size-test}
 use Rattle.prepared_box.proofs.OursLaws.{is-ours, ours-is}
 use Rattle.open_checks.proofs.RefusalLaws.{model-refuses, own-fault}
-use Rattle.semantics.specs.Call.{callOf, hasBudget, hasRow, hasTable, hasVariable, isUnknown, kindOf}
-use Rattle.semantics.specs.CallChecks.{callFault, lentTable, recordChecks}
+use Rattle.semantics.specs.Call.{callOf, hasTable, kindOf}
+use Rattle.semantics.specs.CallChecks.{callFault, lentTable}
 use Rattle.semantics.proofs.Accepted.{modelFaultOf}
 use Rattle.workspace.specs.Layout.{isOurs, rowsIn, variablesOf}
 use Rattle.workspace.specs.Prepared.{Ours, Prepared}
@@ -109,15 +110,11 @@ module _ (W : List ℕ) (B : List ℤ) (t : List ℕ) (k budget : ℕ) where
     unfolding stateOf lentTable kindOf hasTable
     lent-fault = lent-model
 
-    own-checks : first (probeChecks n B k budget) ≡ first (recordChecks (kindOf 3) s (callOf s 3 0 k budget))
-    unfolding recordChecks kindOf isUnknown hasRow hasVariable hasBudget first stateOf callOf probeChecks variableChecks budgetChecks
-    own-checks = refl
-
     -- the number is that of the probe of the model with these rows
     pub fault-is : probeFault W B t k budget ≡ callFault s (callOf s 3 0 k budget)
-    unfolding probeFault preparedProbeChecks
+    unfolding probeFault preparedProbeChecks stateOf
     fault-is = go (ℕ-discrete (first (lentChecks W B t)) 0)
       where
         go : Dec (first (lentChecks W B t) ≡ 0) → first (lentChecks W B t ++ probeChecks n B k budget) ≡ callFault s (callOf s 3 0 k budget)
-        go (yes z) = first-go (lentChecks W B t) (probeChecks n B k budget) lent-numbered z ∙ own-fault s 3 0 k budget lent-fault z own-checks
+        go (yes z) = first-go (lentChecks W B t) (probeChecks n B k budget) lent-numbered z ∙ own-fault s 3 0 k budget lent-fault z (own-probe s k budget)
         go (no z) = first-stop (lentChecks W B t) (probeChecks n B k budget) z ∙ model-refuses s 3 0 k budget lent-fault z
