@@ -13,7 +13,7 @@ ghost use Rattle.model.specs.Rows.{Rows};
 ghost use Rattle.row_set.specs.Readers.{Calm};
 ghost use Rattle.workspace.specs.Layout.{boundOf, dirtyOf, rowsIn, variablesOf, workspaceLen};
 ghost use Rattle.workspace.specs.Prepared.{Prepared};
-ghost use Rattle.prepared_box.specs.TakenBox.{Copied, Noted};
+ghost use Rattle.prepared_box.specs.TakenBox.{Copied, NotedKept};
 
 // The variables of a block.
 const BLOCK: usize = 16;
@@ -44,7 +44,7 @@ fn note_kept(ws: &[u32], j: usize, new: &[i32], dirty: &mut [u32])
     requires { ⌜ (length (now ws) ≡ workspaceLen) × (j < 128) × (2 * j + 1 < length (now new))
         × (length (now dirty) ≡ 4) ⌝ }
     ensures { λ _.
-        ⌜ Noted (now (ws .entry)) (now (new .entry)) (now (dirty .entry)) j (j + 1) (now (dirty .exit)) ⌝ }
+        ⌜ NotedKept (now (ws .entry)) (now (new .entry)) (now (dirty .entry)) j (j + 1) (now (dirty .exit)) ⌝ }
 {
     note_bound(ws, j, kept_bound(ws, 2 * j), new[2 * j], dirty);
     note_bound(ws, j, kept_bound(ws, 2 * j + 1), new[2 * j + 1], dirty);
@@ -55,7 +55,7 @@ fn note_block(ws: &[u32], from: usize, to: usize, new: &[i32], dirty: &mut [u32]
     requires { ⌜ (length (now ws) ≡ workspaceLen) × (from ≤ to) × (to ≤ 128) × (length (now dirty) ≡ 4)
         × (2 * to ≤ length (now new)) ⌝ }
     ensures { λ _.
-        ⌜ Noted (now (ws .entry)) (now (new .entry)) (now (dirty .entry)) from to (now (dirty .exit)) ⌝ }
+        ⌜ NotedKept (now (ws .entry)) (now (new .entry)) (now (dirty .entry)) from to (now (dirty .exit)) ⌝ }
 {
     let mut j = from;
     while j < to {
@@ -71,7 +71,7 @@ fn take_all(n: usize, ws: &[u32], seen: &mut [i32], new: &[i32], dirty: &mut [u3
         × (length (now seen) ≡ 2 * n) × (length (now new) ≡ 2 * n) ⌝ }
     ensures copied { λ _. ⌜ Copied 0 (2 * n) (now (new .entry)) (now (seen .entry)) (now (seen .exit)) ⌝ }
     ensures noted { λ _.
-        ⌜ Noted (now (ws .entry)) (now (new .entry)) (now (dirty .entry)) 0 n (now (dirty .exit)) ⌝ }
+        ⌜ NotedKept (now (ws .entry)) (now (new .entry)) (now (dirty .entry)) 0 n (now (dirty .exit)) ⌝ }
 {
     let mut end = n;
     while BLOCK <= end {

@@ -13,12 +13,19 @@ ghost use Rattle.workspace.specs.Layout.{boundOf, boxIn, dirtyOf, isOurs
 
 pub const WORKSPACE_LEN: usize = 16_768;
 
-// Where everything stands in it: the rows to look at, the box, the right sides, the rows that hear of each variable,
-// the rows' words.
+// Where the rows to look at stand in it.
 pub const SET_AT: usize = 4;
+
+// The box that is kept.
 pub const BOX_AT: usize = 8;
+
+// The right side and the kind of each row.
 pub const SIDES_AT: usize = 264;
+
+// The rows that hear of each variable.
 pub const HEARERS_AT: usize = 384;
+
+// The words of the rows.
 pub const ROWS_AT: usize = 1_408;
 
 // "AST1", as bytes.

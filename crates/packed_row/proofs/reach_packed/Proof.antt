@@ -1,6 +1,6 @@
 -- `packed_row::reach_packed`: the invariant says that the sweep stands at a word that is read (`skipAt`), and that the sum and the
 -- greatest width are those of the terms so far; from word to word it passes only over terms that are 0. Assumes nothing.
-use Prim.Native.Nat.{_*_, _+_, _-_, _%_, _<_, _≤_, min, ℕ}
+use Prim.Native.Nat.{_*_, _+_, _-_, _%_, _<_, min, ℕ}
 use lib.IntN.{_*ℤ_, ℤ}
 use lib.ListN.{getD, length}
 use mathlib.Core.List.{List}

@@ -2,7 +2,7 @@
 -- difference is its width. Assumes nothing.
 use Prim.Native.Nat.{_*_, _+_, _-_, ℕ}
 use borrow.Author.Needs.{needs}
-use lib.IntN.{_-ℤ_, pos, ℤ}
+use lib.IntN.{_-ℤ_, ℤ}
 use mathlib.Core.List.{List}
 use mathlib.Core.Path.{_∙_, _≡_, ap₂}
 use mir.Facts.{toZ-ofZ}
