@@ -16,7 +16,7 @@ ghost use Rattle.workspace.specs.Prepared.{Prepared};
 ghost use Rattle.prepared_box.specs.TakenBox.{Copied, NotedKept};
 
 // The variables of a block.
-const BLOCK: usize = 16;
+const BLOCK: usize = 32;
 
 // Copies the numbers from place `from` on and below `to`. Whether they are those that the workspace keeps.
 fn copy_same(ws: &[u32], from: usize, to: usize, seen: &mut [i32], new: &[i32]) -> bool
