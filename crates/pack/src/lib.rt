@@ -1,5 +1,7 @@
 // The rows of a model, written into a workspace: of each row the words that `packed_row` reads, and its right side and
 // kind in one number.
+use workspace::ROWS_AT;
+use workspace::SIDES_AT;
 use workspace::raised;
 ghost use mathlib.Core.Path.{_≡_};
 ghost use Prim.Native.Nat.{ℕ, _*_, _+_, _%_, _<_, _≤_};
@@ -47,7 +49,7 @@ pub fn pack_rows(n: usize, m: usize, coefs: &[i32], ws: &mut [u32])
 {
     let mut r = 0;
     while r < m {
-        pack_row(&coefs[r * n..r * n + n], 1_408 + r * n, ws);
+        pack_row(&coefs[r * n..r * n + n], ROWS_AT + r * n, ws);
         r += 1;
     }
 }
@@ -63,7 +65,7 @@ pub fn pack_sides(m: usize, rhs: &[i32], kinds: &[u8], ws: &mut [u32])
 {
     let mut r = 0;
     while r < m {
-        ws[264 + r] = raised(rhs[r], 1_000_000_000) * 2 + (kinds[r] as u32);
+        ws[SIDES_AT + r] = raised(rhs[r], 1_000_000_000) * 2 + (kinds[r] as u32);
         r += 1;
     }
 }
