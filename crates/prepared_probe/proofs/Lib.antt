@@ -1,2 +1,3 @@
+pub mod HalfLaws
 pub mod ProbeCheckLaws
 pub mod SideLaws

@@ -1,3 +1,3 @@
 pub mod Checks
-pub mod Kept
+pub mod Reasons
 pub mod Sides
