@@ -1,6 +1,8 @@
 // Propagate a row (01's visit) that is packed in words, one for each variable: the coefficient and the number of zeros
 // that follow it. A sweep goes from coefficient to coefficient, and no index is read from the words: whatever they are,
 // it stays in the row and ends. Crate `sweep` does the same with steps beside the coefficients.
+use model::MAX_COEF;
+use model::MAX_RHS;
 use row::propagation::RowPropagation;
 use row_activity::Reach;
 use row_bounds::tighten_bounds_at;
@@ -31,7 +33,7 @@ fn coef(word: u32) -> i32
     if 2_000_000 < c {
         return 0;
     }
-    (c as i32) - 1_000_000
+    (c as i32) - MAX_COEF
 }
 
 // 1 where the coefficient is below 0, else 0.
@@ -178,7 +180,7 @@ fn right_side(side: u32) -> i32
     if 2_000_000_000 < b {
         return 0;
     }
-    (b as i32) - 1_000_000_000
+    (b as i32) - MAX_RHS
 }
 
 // Propagates the row that the words and the word of its right side say.
