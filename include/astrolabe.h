@@ -384,7 +384,7 @@ uint32_t astrolabe_tie(size_t n, size_t m,
  * and the workspace after it. So keep a workspace as you keep a pointer.
  */
 
-/* No row: in `reasons` and in answer[3] of astrolabe_prepared_propagate. */
+/* No row: in `reasons`, in answer[3] of astrolabe_prepared_propagate, in answer[8] and [9] of _prepared_probe. */
 #define ASTROLABE_NO_ROW 4294967295u
 
 /*
@@ -428,12 +428,20 @@ uint32_t astrolabe_prepared_propagate(uint32_t *workspace, size_t workspace_len,
 
 /*
  * Probes a free binary variable of the prepared model, as astrolabe_probe does: its two sides, the table and the
- * answer are those. It tells no reasons: a solver that wants those of a side propagates that side.
+ * answer are those. Told beside it, where a list is lent for it: for each bound of each side the row that moved it
+ * last in that side. A bound of the new box, but for the variable's own, moved exactly if it moved in each side that
+ * is feasible. Where a side is infeasible, the analysis of that conflict begins at its row.
  *
  *     workspace   written   stays prepared for its model
  *     bounds      written   2n numbers: the new box
  *     table       written   4n^2 bytes: bytes go from 0 to 1, where both sides are feasible
- *     answer      as in astrolabe_probe
+ *     reasons     written   0 numbers, and nothing is told; or 4n: number i is the row that moved bound i last in side
+ *                           0, number 2n + i in side 1, each as in astrolabe_prepared_propagate; ASTROLABE_NO_ROW
+ *                           where no row did: the side has the bound that was lent, or the one it set the variable to
+ *     answer[0] to answer[7]   as in astrolabe_probe
+ *     answer[8]   the row that was infeasible in side 0; ASTROLABE_NO_ROW where none was: the side is feasible, or
+ *                 the lent box was empty, and no side was tried
+ *     answer[9]   the same of side 1
  *
  * Refused by 5 (a workspace that is not ours, or a wrong count) 6 7 23 10 13 14 15, in this order.
  */
@@ -441,6 +449,7 @@ uint32_t astrolabe_prepared_probe(uint32_t *workspace, size_t workspace_len,
                                   int32_t *bounds, size_t bounds_len,
                                   uint8_t *table, size_t table_len,
                                   uint32_t variable, uint32_t budget,
+                                  uint32_t *reasons, size_t reasons_len,
                                   uint64_t *answer, size_t answer_len);
 
 /* ---------------------------------------------------------------------------------------------

@@ -32,11 +32,12 @@ from . import plan
 from ._library import TRAILER_LEN, VERSION, Lent, Refusal, call, call_without_answer
 from .answer import Class, Counts, Probe, Propagation, Rest, Rounds, RowPropagation, Side
 from .calls import Call
-from .prepared import Bound, Moved, Prepared, Propagated
+from .prepared import Bound, Moved, Prepared, Probed, Propagated
 from .shared import Rows
 from .ties import CircularTies, Ties
 
-__all__ = ["Bound", "Call", "CircularTies", "Class", "Clique", "Counts", "Model", "Moved", "Prepared", "Probe", "Propagated", "Propagation"]
+__all__ = ["Bound", "Call", "CircularTies", "Class", "Clique", "Counts", "Model", "Moved", "Prepared", "Probe", "Probed", "Propagated",
+           "Propagation"]
 __all__ += ["Refusal", "Rest", "Rounds", "Row", "RowKind", "RowPropagation", "Rows", "Side", "Ties", "Verdict"]
 __all__ += ["book_size", "book_to_sparse", "plan", "sparse_size", "sparse_to_book"]
 __all__ += ["MAX_BUDGET", "MAX_PROPOSALS", "MAX_ROWS", "MAX_VARIABLES", "MAX_WIDTH", "NO_LIMIT", "PAGE", "VERSION"]

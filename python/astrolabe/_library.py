@@ -47,7 +47,7 @@ _ARGUMENTS = {
     "rounds": _MODEL + _BUFFER + _LONG + _ANSWER,
     "prepare": _MODEL + _BUFFER,
     "prepared_propagate": 2 * _BUFFER + _NUMBER + _BUFFER + _ANSWER,
-    "prepared_probe": 3 * _BUFFER + 2 * _NUMBER + _ANSWER,
+    "prepared_probe": 3 * _BUFFER + 2 * _NUMBER + _BUFFER + _ANSWER,
     "plan_lengths": _BUFFER + _ANSWER,
     "plan_width": _SIZE + _BUFFER + _ANSWER,
     "plan_run": _SIZE + 2 * _BUFFER + _ANSWER,

@@ -13,7 +13,7 @@ class Bound(Enum):
 
 
 class Moved(NamedTuple):
-    """A bound that a propagation moved, and the row that moved it last."""
+    """A bound that a propagation moved, or that of a probe's side, and the row that moved it last."""
     variable: int
     bound: Bound
     row: int
@@ -31,7 +31,32 @@ class Propagated(NamedTuple):
         """The bounds that moved, each with the row that moved it last; those of a variable together, upwards. Where the
         propagation ended infeasible they are those that had moved before the box was made empty.
         """
-        return (Moved(i // 2, Bound(i % 2), row) for i, row in enumerate(self.reasons) if row != NO_ROW)
+        return _moved(self.reasons)
+
+
+class Probed(NamedTuple):
+    """What a probe of a prepared model tells where it is asked which row did what. `infeasible_rows` has the row of each side, None
+    where the side is feasible, or where the lent box was the empty one, of which no side is tried. `reasons` has for each side a
+    number for each bound, NO_ROW where no row moved it; moved(value) reads them. A bound of the new box, but for the probed
+    variable's, moved exactly if it moved in each side that is feasible.
+    """
+    probe: Probe
+    infeasible_rows: tuple
+    reasons: tuple
+
+    def moved(self, value):
+        """The bounds that moved in the side where the variable is `value`, 0 or 1, each with the row that moved it last there."""
+        if value not in (0, 1):
+            raise ValueError(f"a side is 0 or 1, not {value}")
+        return _moved(self.reasons[value])
+
+
+def _moved(reasons):
+    return (Moved(i // 2, Bound(i % 2), row) for i, row in enumerate(reasons) if row != NO_ROW)
+
+
+def _row(place):
+    return None if place == NO_ROW else place
 
 
 class Prepared:
@@ -77,11 +102,11 @@ class Prepared:
         reasons = Lent([NO_ROW] * (2 * self.n), "I")
         (box,) = _lent((bounds, "i"))
         places = call("prepared_propagate", *self._workspace.pair, *box.pair, budget, *reasons.pair)
-        return Propagated(Propagation.of(places), None if places[3] == NO_ROW else places[3], reasons.owner)
+        return Propagated(Propagation.of(places), _row(places[3]), reasons.owner)
 
     def probe(self, bounds, table, variable, budget):
-        """Probes a free binary variable, as Model.probe does, over the bounds; the implications go into `table`, 4n^2 bytes. It
-        tells no reasons: a solver that wants those of a side propagates that side.
+        """Probes a free binary variable, as Model.probe does, over the bounds; the implications go into `table`, 4n^2 bytes. Which
+        row moved what is told by probe_with_reasons().
 
         >>> from array import array
         >>> from astrolabe import Model, Prepared
@@ -90,8 +115,28 @@ class Prepared:
         >>> prepared.probe(box, table, 0, 1_000).ending, list(box)
         ('fixed', [0, 0, 0, 1])
         """
+        return Probe.of(self._probe(bounds, table, variable, budget, Lent([], "I")))
+
+    def probe_with_reasons(self, bounds, table, variable, budget):
+        """Probes as probe() does, and tells of each side which row moved which bound, and which was infeasible.
+
+        >>> from array import array
+        >>> from astrolabe import Model, Prepared
+        >>> prepared = Prepared(Model([0, 1, 0, 1], [1, -1, 1, 1], [0, 1]))  # x <= y and x + y <= 1
+        >>> told = prepared.probe_with_reasons(array("i", [0, 1, 0, 1]), bytearray(16), 0, 1_000)
+        >>> told.infeasible_rows  # x at 1 raises y by row 0, and then row 1 is infeasible
+        (None, 1)
+        >>> [(one.variable, one.bound.name, one.row) for one in told.moved(1)]
+        [(1, 'LOWER', 0)]
+        """
+        reasons = Lent([NO_ROW] * (4 * self.n), "I")
+        places = self._probe(bounds, table, variable, budget, reasons)
+        sides = reasons.owner[:2 * self.n], reasons.owner[2 * self.n:]
+        return Probed(Probe.of(places), (_row(places[8]), _row(places[9])), sides)
+
+    def _probe(self, bounds, table, variable, budget, reasons):
         box, implications = _lent((bounds, "i"), (table, "B"))
-        return Probe.of(call("prepared_probe", *self._workspace.pair, *box.pair, *implications.pair, variable, budget))
+        return call("prepared_probe", *self._workspace.pair, *box.pair, *implications.pair, variable, budget, *reasons.pair)
 
 
 def _lent(*buffers):

@@ -9,7 +9,7 @@ from array import array
 from pathlib import Path
 
 import astrolabe
-from astrolabe import Bound, Call, CircularTies, Class, Clique, Model, Prepared, Propagated, Refusal, RowKind, Ties, Verdict
+from astrolabe import Bound, Call, CircularTies, Class, Clique, Model, Prepared, Probed, Propagated, Refusal, RowKind, Ties, Verdict
 from astrolabe import _library, calls, plan, prepared, shared, ties
 
 try:
@@ -259,7 +259,15 @@ class PreparedModels(unittest.TestCase):
         free = [k for k in range(root.n) if before[2 * k:2 * k + 2] == [0, 1]]
         if free and numbers.random() < 0.3:
             plain, table, variable = Model(before, *rows), bytearray(4 * root.n**2), numbers.choice(free)
-            told = model.probe(box, table, variable, budget)
+            if numbers.random() < 0.3:
+                told = model.probe(box, table, variable, budget)
+            else:
+                traced = model.probe_with_reasons(box, table, variable, budget)
+                told = traced.probe
+                for value, side in enumerate(told.sides):
+                    fixed = before[:2 * variable] + [value, value] + before[2 * variable + 2:]
+                    by_rows = self.by_rows(Model(fixed, *rows), side.passes)
+                    self.assertEqual((traced.infeasible_rows[value], traced.reasons[value]), by_rows)
             self.assertEqual((told, list(box), table), (plain.probe(variable, budget), list(plain.bounds), plain.table))
             return told.ending
         plain = Model(before, *rows)
@@ -291,6 +299,16 @@ class PreparedModels(unittest.TestCase):
         self.assertEqual((told.propagation.ending, told.infeasible_row, next(told.moved())), ("infeasible", 2, (0, Bound.LOWER, 1)))
         told = model.propagate(box, 1_000)  # the empty box
         self.assertEqual((told.propagation, told.infeasible_row, list(told.moved())), (("infeasible", 1, 0), None, []))
+
+    def test_reasons_of_the_sides_of_a_probe(self):
+        model, box = Prepared(self.small()), array("i", [0, 1] * 3)
+        told = model.probe_with_reasons(box, bytearray(36), 1, 1_000)
+        self.assertEqual(list(told.moved(0)), [(0, Bound.UPPER, 2), (2, Bound.LOWER, 2)])
+        self.assertEqual((next(told.moved(1)), told.infeasible_rows), ((0, Bound.LOWER, 1), (None, 2)))
+        told = model.probe_with_reasons(array("i", [1, 0] * 3), bytearray(36), 1, 1_000)  # the empty box: no side is tried
+        self.assertEqual((list(told.moved(0)), list(told.moved(1)), told.infeasible_rows), ([], [], (None, None)))
+        with self.assertRaises(ValueError):
+            told.moved(2)
 
     def test_a_copy_goes_its_own_way_and_threads_have_one_each(self):
         root = Prepared(self.small())
@@ -377,7 +395,7 @@ class Wrapper(unittest.TestCase):
         texts = [path.read_text(encoding="utf-8") for path in (ROOT / "rust/src").glob("*.rs") if path.name != "ffi.rs"]
         item = r"^ *pub (?:const fn|fn|const|struct|enum) (\w+)"
         names = {name for text in texts for name in re.findall(item, text, re.M)} - set(self.OTHERWISE)
-        owners = [astrolabe, plan, Model, Call, Ties, Refusal, Verdict, Clique, Prepared, Propagated, Refusal(1), Ties(1)]
+        owners = [astrolabe, plan, Model, Call, Ties, Refusal, Verdict, Clique, Prepared, Probed, Propagated, Refusal(1), Ties(1)]
         owners.append(Model([0, 1], [], []))
         missing = {name for name in names if not any(hasattr(owner, name) for owner in owners)}
         self.assertEqual(missing, set())

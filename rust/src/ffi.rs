@@ -239,7 +239,8 @@ unsafe extern "C" {
         answer_len: usize,
     ) -> u32;
 
-    /// Answer: that of `astrolabe_probe`.
+    /// Answer: that of `astrolabe_probe`, then of each side the infeasible row or [`NO_ROW`]. `reasons` has a number
+    /// for each bound of side 0 and then of side 1, or none.
     pub fn astrolabe_prepared_probe(
         workspace: *mut u32,
         workspace_len: usize,
@@ -249,6 +250,8 @@ unsafe extern "C" {
         table_len: usize,
         variable: u32,
         budget: u32,
+        reasons: *mut u32,
+        reasons_len: usize,
         answer: *mut u64,
         answer_len: usize,
     ) -> u32;

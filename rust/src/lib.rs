@@ -57,7 +57,7 @@ pub use clique::Clique;
 pub use model::{
     Call, Model, Row, RowKind, book_size, book_to_sparse, sparse_size, sparse_to_book,
 };
-pub use prepared::{Bound, Moved, Prepared, Propagated};
+pub use prepared::{Bound, Moved, Prepared, Probed, Propagated};
 pub use refusal::Refusal;
 pub use shared::Rows;
 pub use ties::{CircularTies, Tie, Ties};

@@ -94,6 +94,36 @@ fn a_probe_is_that_of_the_model() {
 }
 
 #[test]
+fn a_probe_tells_of_each_side() {
+    let mut model = small();
+    let mut prepared = Prepared::new(&model).unwrap();
+    let (mut bounds, mut table) = (model.bounds().to_vec(), vec![0; 36]);
+    let told = prepared.probe_with_reasons(&mut bounds, &mut table, 1, 1_000).unwrap();
+    assert_eq!(told.probe, model.probe(1, 1_000).unwrap());
+    let by = |variable, bound, row| Moved { variable, bound, row };
+    // y is 0: row 2 alone, z is 1 and x is 0. y is 1: x is 1 by row 1, and row 2 cannot be met.
+    assert!(told.moved(0).eq([by(0, Bound::Upper, 2), by(2, Bound::Lower, 2)]));
+    assert_eq!(told.moved(1).next(), Some(by(0, Bound::Lower, 1)));
+    assert_eq!(told.infeasible_rows, [None, Some(2)]);
+    assert_eq!((&bounds[..], &table[..]), (model.bounds(), model.table()));
+    // After it a propagation tells its own.
+    let told = prepared.propagate(&mut bounds, 1_000).unwrap();
+    assert_eq!((told.infeasible_row, told.moved().count()), (None, 0));
+    // On the empty box no side is tried.
+    let told = prepared.probe_with_reasons(&mut [1, 0, 1, 0, 1, 0], &mut table, 1, 9).unwrap();
+    assert_eq!(told.infeasible_rows, [None, None]);
+    assert_eq!(told.moved(0).chain(told.moved(1)).count(), 0);
+}
+
+#[test]
+#[should_panic(expected = "a side is 0 or 1, not 2")]
+fn a_probe_has_two_sides() {
+    let mut prepared = Prepared::new(&small()).unwrap();
+    let told = prepared.probe_with_reasons(&mut [0, 1, 0, 1, 0, 1], &mut [0; 36], 1, 9).unwrap();
+    let _ = told.moved(2);
+}
+
+#[test]
 fn refusals_change_nothing() {
     let mut model = small();
     model.set_bounds(0, 2, 1);

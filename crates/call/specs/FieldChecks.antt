@@ -20,3 +20,7 @@ budgetChecks budget = must (leb 1 budget && leb budget maxBudget) 15 ∷ []
 -- of a probe: its variable, then its budget
 unfoldable pub probeChecks : ℕ → List ℤ → ℕ → ℕ → List Check
 probeChecks n B variable budget = variableChecks n B variable ++ budgetChecks budget
+
+-- of a coefficient tightening: its row, then its variable
+unfoldable pub tighteningChecks : ℕ → ℕ → List ℤ → ℕ → ℕ → List Check
+tighteningChecks n m B row variable = rowChecks m row ++ variableChecks n B variable

@@ -1,24 +1,13 @@
-// The checks of a call's own fields, on a model that passed its checks: 12 to 15 by field, and 11 to 15 of a direct
-// call by its kind.
-use crate::Call;
-use crate::PROBE;
-use crate::PROPAGATE;
-use crate::PROPAGATE_ROW;
-use crate::REMOVE_ROW;
-use crate::TIGHTEN_COEFFICIENT;
+// The checks of a call's own fields, on a model that passed its checks: 12 to 15 by field, and those of the calls that
+// have two.
 use boxes::is_free;
 use propagation::MAX_BUDGET;
-ghost use mathlib.Core.List.{[]};
 ghost use mathlib.Core.Path.{_≡_};
 ghost use Prim.Native.Nat.{_<_};
 ghost use Rattle.model.specs.Checks.{first};
 ghost use Rattle.model.specs.Valid.{ValidBox};
-ghost use Rattle.semantics.specs.CallChecks.{recordChecks};
-ghost use Rattle.semantics.specs.Call.{kindOf};
-ghost use Rattle.model.specs.Rows.{rowsOf};
-ghost use Rattle.model.specs.State.{stateOf};
-ghost use Rattle.call.specs.Calls.{callOn};
-ghost use Rattle.call.specs.FieldChecks.{budgetChecks, probeChecks, rowChecks, variableChecks};
+ghost use Rattle.call.specs.FieldChecks.{budgetChecks, probeChecks, rowChecks, tighteningChecks};
+ghost use Rattle.call.specs.FieldChecks.{variableChecks};
 
 // 12: the row is not below m.
 pub fn row_fault(m: usize, row: u32) -> u32
@@ -74,27 +63,15 @@ pub fn probe_fields_fault(n: usize, bounds: &[i32], variable: u32, budget: u32) 
     budget_fault(budget)
 }
 
-// A direct call's own checks by its kind; 11 for a number that is no kind. A field that the kind lacks is not looked
-// at.
-pub fn record_fault(n: usize, m: usize, bounds: &[i32], call: Call) -> u32
+// Of a coefficient tightening: 12 of its row, then 13 and 14 of its variable.
+pub fn tightening_fields_fault(n: usize, m: usize, bounds: &[i32], row: u32, variable: u32) -> u32
     requires { ⌜ ValidBox n (now bounds) ⌝ }
     requires { ⌜ 0 < n ⌝ }
-    ensures { λ r.
-        let s = stateOf n m (now (bounds .entry)) (rowsOf [] [] []) [] in
-        ⌜ r ≡ first (recordChecks (kindOf (call .kind)) s (callOn s call)) ⌝ }
+    ensures { λ r. ⌜ r ≡ first (tighteningChecks n m (now (bounds .entry)) row variable) ⌝ }
 {
-    let kind = call.kind;
-    match kind {
-        PROPAGATE_ROW | REMOVE_ROW => row_fault(m, call.row),
-        PROPAGATE => budget_fault(call.budget),
-        PROBE => probe_fields_fault(n, bounds, call.variable, call.budget),
-        TIGHTEN_COEFFICIENT => {
-            let fault = row_fault(m, call.row);
-            if fault != 0 {
-                return fault;
-            }
-            variable_fault(n, bounds, call.variable)
-        }
-        _ => 11,
+    let fault = row_fault(m, row);
+    if fault != 0 {
+        return fault;
     }
+    variable_fault(n, bounds, variable)
 }

@@ -56,7 +56,8 @@ pub extern "C" fn astrolabe_prepared_propagate(
     propagate_said(workspace, bounds, budget, reasons, answer)
 }
 
-// 01's probe: the answer is that of any probe. Refused by 5, 6, 7, 23, 10, 13, 14 and 15.
+// 01's probe: the answer is that of any probe, then the infeasible rows of the two sides. Refused by 5, 6, 7, 23, 10,
+// 13, 14 and 15.
 #[no_mangle]
 pub extern "C" fn astrolabe_prepared_probe(
     workspace: &mut [u32],
@@ -64,12 +65,13 @@ pub extern "C" fn astrolabe_prepared_probe(
     table: &mut [u8],
     variable: u32,
     budget: u32,
+    reasons: &mut [u32],
     answer: &mut [u64],
 ) -> u32
     ensures { λ r.
         ⌜ ProbeSaid variable budget (now (workspace .entry)) (now (bounds .entry)) (now (table .entry))
-        (now (answer .entry)) r (now (workspace .exit)) (now (bounds .exit)) (now (table .exit))
-        (now (answer .exit)) ⌝ }
+        (now (reasons .entry)) (now (answer .entry)) r (now (workspace .exit)) (now (bounds .exit)) (now (table .exit))
+        (now (reasons .exit)) (now (answer .exit)) ⌝ }
 {
-    probe_said(workspace, bounds, table, variable, budget, answer)
+    probe_said(workspace, bounds, table, variable, budget, reasons, answer)
 }

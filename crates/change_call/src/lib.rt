@@ -1,12 +1,10 @@
 // The open calls that may change a row: coefficient tightening and the removal of a redundant row. What holds of the
 // open calls of `reducer` holds of these: any input, refused by the number of the first check that fails, then
 // unchanged.
-use call::Call;
-use call::REMOVE_ROW;
-use call::TIGHTEN_COEFFICIENT;
 use matrix_change::remove_redundant_row_at;
 use matrix_change::tighten_coefficient_at;
-use open_checks::call_fault;
+use open_checks::row_call_fault;
+use open_checks::tightening_fault;
 use reducer::calls::RemoveAnswer;
 use reducer::calls::TightenAnswer;
 use row_change::redundancy::RowRemoval;
@@ -43,13 +41,7 @@ pub fn tighten_coefficient(
         let r' = stateOf n m (now (bounds .entry)) A' [] in
         ⌜ Means s r' (tightenAnswer r) ⌝ }
 {
-    let call = Call {
-        kind: TIGHTEN_COEFFICIENT,
-        row,
-        variable,
-        budget: 0,
-    };
-    let fault = call_fault(n, m, bounds, coefs, rhs, kinds, call);
+    let fault = tightening_fault(n, m, bounds, coefs, rhs, kinds, row, variable);
     if fault != 0 {
         return TightenAnswer::Refused(fault);
     }
@@ -91,13 +83,7 @@ pub fn remove_redundant_row(
         let r' = stateOf n m (now (bounds .entry)) A' [] in
         ⌜ Means s r' (removeAnswer r) ⌝ }
 {
-    let call = Call {
-        kind: REMOVE_ROW,
-        row,
-        variable: 0,
-        budget: 0,
-    };
-    let fault = call_fault(n, m, bounds, coefs, rhs, kinds, call);
+    let fault = row_call_fault(n, m, bounds, coefs, rhs, kinds, row);
     if fault != 0 {
         return RemoveAnswer::Refused(fault);
     }

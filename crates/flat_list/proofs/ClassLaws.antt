@@ -14,11 +14,11 @@ use Rattle.model.specs.Checks.{first, modelChecks, modelFault, table}
 use Rattle.model.specs.State.{State}
 use Rattle.model.specs.Valid.{ValidState}
 use Rattle.model.proofs.CheckLaws.{fits-table-fault-none}
-use Rattle.semantics.specs.Call.{Call, lengthsOf}
+use Rattle.semantics.specs.Call.{Call}
 use Rattle.semantics.specs.CallList.{ListRun, listChecks, listFault, ran, recordAt, recordsFrom, recordsOf, refusedList, runList}
 use Rattle.semantics.specs.Run.{CallClass, Counts, changedCall, classListed, countCall, infeasibleCall, noCounts, refusedCall, stepListed, tally, unchangedCall}
 use Rattle.semantics.specs.TwoLists.{ListMeans}
-use Rattle.semantics.proofs.CallLists.{Along, along-more, along-start, list-accepted, list-means, list-refused, list-runs}
+use Rattle.semantics.proofs.CallLists.{Along, along-more, along-start, list-accepted, list-means, list-refused, list-runs, same-record}
 use Rattle.flat_list.specs.Classes.{ClassesCounted, ClassesRun, classByte, classesChecks, classesFault, classesFrom, classesOf, howMany, runClasses}
 
 -- a class for each record
@@ -28,15 +28,6 @@ classes-length zero s r xs i = refl
 classes-length (suc count) s r xs i = ap suc (classes-length count _ r xs (i + 1))
 
 -- ---- record by record
-
--- valid states of one size have buffers of the same lengths, so that a record is the same call on both
-same-record : {s r : State} (xs : List ℕ) (i : ℕ) → ValidState s → ValidState r → (s .model .n ≡ r .model .n) × (s .model .m ≡ r .model .m)
-    → recordAt r xs i ≡ recordAt s xs i
-unfolding recordAt lengthsOf
-same-record {s} {r} xs i v w e =
-    let a = v .model in
-    let b = w .model in
-    rw (a .box .len, a .coefsLen, a .rhsLen, a .kindsLen, v .table .len, b .box .len, b .coefsLen, b .rhsLen, b .kindsLen, w .table .len, e .0, e .1)
 
 -- before record i, of C₀ lent for the classes C is left
 pub record Told (s₀ : State) (xs C₀ : List ℕ) (s : State) (k : Counts) (i : ℕ) (C : List ℕ) : Type 0 where

@@ -1,5 +1,9 @@
 // The rows of a model, written into a workspace: of each row the words that `packed_row` reads, and its right side and
 // kind in one number.
+use model::MAX_COEF;
+use model::MAX_RHS;
+use workspace::ROWS_AT;
+use workspace::SIDES_AT;
 use workspace::raised;
 ghost use mathlib.Core.Path.{_≡_};
 ghost use Prim.Native.Nat.{ℕ, _*_, _+_, _%_, _<_, _≤_};
@@ -28,7 +32,7 @@ fn pack_row(coefs: &[i32], place: usize, ws: &mut [u32])
     while j > 0 {
         j -= 1;
         let a = coefs[j];
-        ws[place + j] = raised(a, 1_000_000) * 128 + zeros;
+        ws[place + j] = raised(a, MAX_COEF) * 128 + zeros;
         if a != 0 {
             zeros = 0;
         } else {
@@ -47,7 +51,7 @@ pub fn pack_rows(n: usize, m: usize, coefs: &[i32], ws: &mut [u32])
 {
     let mut r = 0;
     while r < m {
-        pack_row(&coefs[r * n..r * n + n], 1_408 + r * n, ws);
+        pack_row(&coefs[r * n..r * n + n], ROWS_AT + r * n, ws);
         r += 1;
     }
 }
@@ -63,7 +67,7 @@ pub fn pack_sides(m: usize, rhs: &[i32], kinds: &[u8], ws: &mut [u32])
 {
     let mut r = 0;
     while r < m {
-        ws[264 + r] = raised(rhs[r], 1_000_000_000) * 2 + (kinds[r] as u32);
+        ws[SIDES_AT + r] = raised(rhs[r], MAX_RHS) * 2 + (kinds[r] as u32);
         r += 1;
     }
 }

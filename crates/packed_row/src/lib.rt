@@ -1,16 +1,23 @@
 // Propagate a row (01's visit) that is packed in words, one for each variable: the coefficient and the number of zeros
 // that follow it. A sweep goes from coefficient to coefficient, and no index is read from the words: whatever they are,
 // it stays in the row and ends. Crate `sweep` does the same with steps beside the coefficients.
+use model::MAX_COEF;
+use model::MAX_RHS;
 use row::propagation::RowPropagation;
 use row_activity::Reach;
-use row_activity::term;
-use row_activity::wider;
 use row_bounds::tighten_bounds_at;
 use row_propagation::both;
+ghost use mathlib.Core.Bool.{cond};
 ghost use mathlib.Core.Path.{_≡_};
+ghost use Prim.Native.Nat.{_*_, _+_, _<_};
+ghost use lib.IntN.{_*ℤ_, pos};
 ghost use lib.ListN.{length};
+ghost use lib.Signed.{ltZ};
+ghost use Rattle.integer.specs.Order.{maxZ};
+ghost use Rattle.integer.specs.Range.{Within};
+ghost use Rattle.model.specs.Box.{lower, upper};
 ghost use Rattle.model.specs.Rows.{rowWith};
-ghost use Rattle.row.specs.Activity.{minActivity, widestTerm};
+ghost use Rattle.row.specs.Activity.{minActivity, minTerm, termWidth, widestTerm};
 ghost use Rattle.row.specs.Answers.{propagatedRowOf};
 ghost use Rattle.row.specs.Kinds.{propagateRowOf, rowMovesOf, signed};
 ghost use Rattle.row.specs.Moved.{movedBounds};
@@ -26,7 +33,49 @@ fn coef(word: u32) -> i32
     if 2_000_000 < c {
         return 0;
     }
-    (c as i32) - 1_000_000
+    (c as i32) - MAX_COEF
+}
+
+// 1 where the coefficient is below 0, else 0.
+fn is_negative(a: i32) -> usize
+    ensures { λ r. ⌜ r ≡ cond (ltZ a (pos 0)) 1 0 ⌝ }
+{
+    if a < 0 { 1 } else { 0 }
+}
+
+fn product(a: i32, x: i32) -> i64
+    requires { ⌜ Within 1_000_000 a × Within 32_768 x ⌝ }
+    ensures { λ r. ⌜ r ≡ a *ℤ x ⌝ }
+{
+    (a as i64) * (x as i64)
+}
+
+// The least of a · x over the bounds of variable j, and how far the greatest lies above it. The least is at the lower
+// bound for a above 0, at the upper for a below 0, and the greatest at the other one: which place is read is counted,
+// so that no branch has to be foreseen.
+fn term_reach(a: i32, bounds: &[i32], j: usize) -> Reach
+    requires { ⌜ (j < 128) × (2 * j + 1 < length (now bounds)) × Within 1_000_000 a
+        × Within 32_768 (lower (now bounds) j) × Within 32_768 (upper (now bounds) j) ⌝ }
+    ensures least { λ r.
+        let B = now (bounds .entry) in
+        ⌜ r .least ≡ minTerm a (lower B j) (upper B j) ⌝ }
+    ensures width { λ r.
+        let B = now (bounds .entry) in
+        ⌜ r .widest ≡ termWidth a (lower B j) (upper B j) ⌝ }
+{
+    let near = 2 * j + is_negative(a);
+    let least = product(a, bounds[near]);
+    let most = product(a, bounds[4 * j + 1 - near]);
+    Reach {
+        least: least,
+        widest: most - least,
+    }
+}
+
+fn greater(x: i64, y: i64) -> i64
+    ensures { λ r. ⌜ r ≡ maxZ x y ⌝ }
+{
+    if x <= y { y } else { x }
 }
 
 // Lmin and the width of the widest term, of the row itself (sign 1) or of its negated form (sign −1).
@@ -46,10 +95,9 @@ fn reach_packed(words: &[u32], sign: i32, bounds: &[i32]) -> Reach
     while j < words.len() {
         let word = words[j];
         let a = sign * coef(word);
-        let low = bounds[2 * j];
-        let high = bounds[2 * j + 1];
-        least += term(a, low, high);
-        widest = wider(widest, a, low, high);
+        let reach = term_reach(a, bounds, j);
+        least += reach.least;
+        widest = greater(widest, reach.widest);
         j += 1 + (word % 128) as usize;
     }
     Reach { least, widest }
@@ -132,7 +180,7 @@ fn right_side(side: u32) -> i32
     if 2_000_000_000 < b {
         return 0;
     }
-    (b as i32) - 1_000_000_000
+    (b as i32) - MAX_RHS
 }
 
 // Propagates the row that the words and the word of its right side say.

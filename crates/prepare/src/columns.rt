@@ -1,5 +1,6 @@
 // The sets of rows that hear of a variable: for each, those that hear a bound of it rise and those that hear one fall.
 use row_set::insert;
+use workspace::HEARERS_AT;
 use workspace::put;
 ghost use mathlib.Core.Bool.{true};
 ghost use mathlib.Core.Path.{_≡_};
@@ -70,8 +71,8 @@ fn write_column(n: usize, m: usize, coefs: &[i32], kinds: &[u8], j: usize, ws: &
     let mut rise = [0u32; 4];
     let mut fall = [0u32; 4];
     gather(n, m, coefs, kinds, j, &mut rise, &mut fall);
-    put(&rise, 384 + 8 * j, ws);
-    put(&fall, 388 + 8 * j, ws);
+    put(&rise, HEARERS_AT + 8 * j, ws);
+    put(&fall, HEARERS_AT + 4 + 8 * j, ws);
 }
 
 // Writes the sets of every variable.

@@ -2,7 +2,10 @@
 use crate::columns::write_columns;
 use pack::pack_rows;
 use pack::pack_sides;
+use workspace::BOX_AT;
 use workspace::OUR_MARK;
+use workspace::SET_AT;
+use workspace::SIDES_AT;
 ghost use mathlib.Core.Path.{_≡_};
 ghost use Prim.Native.Nat.{ℕ, _*_, _<_, _≤_};
 ghost use lib.ListN.{getD, length, replicate};
@@ -50,8 +53,8 @@ pub fn write(n: usize, m: usize, coefs: &[i32], rhs: &[i32], kinds: &[u8], ws: &
         ⌜ Written n m A (now (ws .exit)) ⌝ }
 {
     write_head(n, m, ws);
-    fill(4, 8, 4_294_967_295, ws);
-    fill(8, 264, 32_768, ws);
+    fill(SET_AT, BOX_AT, 4_294_967_295, ws);
+    fill(BOX_AT, SIDES_AT, 32_768, ws);
     pack_sides(m, rhs, kinds, ws);
     write_columns(n, m, coefs, kinds, ws);
     pack_rows(n, m, coefs, ws);

@@ -14,22 +14,9 @@ use Rattle.prepared_row.specs.Heard.{Missed}
 use Rattle.row_set.specs.Bits.{bitAt}
 use Rattle.workspace.specs.Layout.{boxIn}
 
--- the bounds of variable k are the same in both boxes
-abbrev pub SameAt : List ℤ → List ℤ → ℕ → Type 0
-SameAt P Q k = (lower P k ≡ lower Q k) × (upper P k ≡ upper Q k)
-
 -- the bounds of variable j are in range, in order, and no more than 4,096 apart
 abbrev pub plainAt : List ℤ → ℕ → Bool
 plainAt B j = leZ minBound (lower B j) && leZ (lower B j) (upper B j) && leZ (upper B j) (minZ (lower B j +ℤ maxWidth) maxBound)
-
--- the variables from p on and below q have the bounds of `new`, the others those of `old`: the box is now `box`. A row that is not in the
--- set D′ now was not in D before, and hears nothing of those variables.
-pub record Taken (W : List ℕ) (old new : List ℤ) (D : List ℕ) (p q : ℕ) (box : List ℤ) (D′ : List ℕ) : Type 0 where
-  pub len : length box ≡ length old
-  pub set : length D′ ≡ length D
-  pub within : (k : ℕ) → p ≤ k → k < q → SameAt box new k
-  pub without : (k : ℕ) → (k < p) ⊎ (q ≤ k) → SameAt box old k
-  pub heard : (r : ℕ) → r < 128 → bitAt D′ r ≡ 0 → (bitAt D r ≡ 0) × ((k : ℕ) → p ≤ k → k < q → Missed W r old new k)
 
 -- the numbers from place p on and below q are those of `new`, the others as they were
 pub record Copied (p q : ℕ) (new before box : List ℤ) : Type 0 where
@@ -37,11 +24,8 @@ pub record Copied (p q : ℕ) (new before box : List ℤ) : Type 0 where
   pub within : (i : ℕ) → p ≤ i → i < q → at box i ≡ at new i
   pub without : (i : ℕ) → (i < p) ⊎ (q ≤ i) → at box i ≡ at before i
 
--- the same since the box that W keeps, whose numbers say the bounds of 128 variables: those from p on and below q have the bounds of `new`,
--- those from q on the bounds that they had, and of the others nothing is said
-pub record TakenKept (W : List ℕ) (new before : List ℤ) (D : List ℕ) (p q : ℕ) (box : List ℤ) (D′ : List ℕ) : Type 0 where
-  pub len : length box ≡ length before
+-- The box that W keeps, whose numbers say the bounds of 128 variables, becomes `new`: a row that is not in the set D′ now was not in D
+-- before, and hears nothing of the variables from p on and below q.
+pub record NotedKept (W : List ℕ) (new : List ℤ) (D : List ℕ) (p q : ℕ) (D′ : List ℕ) : Type 0 where
   pub set : length D′ ≡ length D
-  pub within : (k : ℕ) → p ≤ k → k < q → SameAt box new k
-  pub above : (k : ℕ) → q ≤ k → SameAt box before k
   pub heard : (r : ℕ) → r < 128 → bitAt D′ r ≡ 0 → (bitAt D r ≡ 0) × ((k : ℕ) → p ≤ k → k < q → Missed W r (boxIn 128 W) new k)

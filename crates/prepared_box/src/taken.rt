@@ -1,9 +1,9 @@
 // The box that the workspace knows becomes the lent one, and the rows that hear of a bound that differs are to be
 // looked at too. Most bounds are the same: blocks of variables are copied and compared with what the workspace keeps,
-// each in a loop without a branch, and only where one differs its kept bounds are read.
-use prepared_row::notes::differs_at;
-use prepared_row::notes::note_at;
-use workspace::read_box;
+// each in a loop without a branch, and only where one differs its variables are looked at one by one.
+use prepared_row::notes::note_bound;
+use workspace::SET_AT;
+use workspace::kept_bound;
 ghost use mathlib.Core.Bool.{true};
 ghost use mathlib.Core.Path.{_≡_};
 ghost use Prim.Native.Nat.{ℕ, _*_, _+_, _<_, _≤_};
@@ -13,7 +13,7 @@ ghost use Rattle.model.specs.Rows.{Rows};
 ghost use Rattle.row_set.specs.Readers.{Calm};
 ghost use Rattle.workspace.specs.Layout.{boundOf, dirtyOf, rowsIn, variablesOf, workspaceLen};
 ghost use Rattle.workspace.specs.Prepared.{Prepared};
-ghost use Rattle.prepared_box.specs.TakenBox.{Copied, Taken, TakenKept};
+ghost use Rattle.prepared_box.specs.TakenBox.{Copied, NotedKept};
 
 // The variables of a block.
 const BLOCK: usize = 32;
@@ -33,40 +33,35 @@ fn copy_same(ws: &[u32], from: usize, to: usize, seen: &mut [i32], new: &[i32]) 
     while i < to {
         let bound = new[i];
         seen[i] = bound;
-        same &= ((ws[8 + i] % 65_536) as i32) - 32_768 == bound;
+        same &= kept_bound(ws, i) == bound;
         i += 1;
     }
     same
 }
 
-// The variables from `from` on and below `to` get their new bounds, whatever they had.
-fn note_block(ws: &[u32], from: usize, to: usize, old: &mut [i32], new: &[i32], dirty: &mut [u32])
-    requires { ⌜ (length (now ws) ≡ workspaceLen) × (from ≤ to) × (to ≤ 128) × (length (now dirty) ≡ 4)
-        × (2 * to ≤ length (now old)) × (2 * to ≤ length (now new)) ⌝ }
+// The rows that hear of a bound of variable j that is not the one that the workspace keeps are to be looked at.
+fn note_kept(ws: &[u32], j: usize, new: &[i32], dirty: &mut [u32])
+    requires { ⌜ (length (now ws) ≡ workspaceLen) × (j < 128) × (2 * j + 1 < length (now new))
+        × (length (now dirty) ≡ 4) ⌝ }
     ensures { λ _.
-        ⌜ Taken (now (ws .entry)) (now (old .entry)) (now (new .entry)) (now (dirty .entry)) from to
-        (now (old .exit)) (now (dirty .exit)) ⌝ }
+        ⌜ NotedKept (now (ws .entry)) (now (new .entry)) (now (dirty .entry)) j (j + 1) (now (dirty .exit)) ⌝ }
+{
+    note_bound(ws, j, kept_bound(ws, 2 * j), new[2 * j], dirty);
+    note_bound(ws, j, kept_bound(ws, 2 * j + 1), new[2 * j + 1], dirty);
+}
+
+// The same of the variables from `from` on and below `to`.
+fn note_block(ws: &[u32], from: usize, to: usize, new: &[i32], dirty: &mut [u32])
+    requires { ⌜ (length (now ws) ≡ workspaceLen) × (from ≤ to) × (to ≤ 128) × (length (now dirty) ≡ 4)
+        × (2 * to ≤ length (now new)) ⌝ }
+    ensures { λ _.
+        ⌜ NotedKept (now (ws .entry)) (now (new .entry)) (now (dirty .entry)) from to (now (dirty .exit)) ⌝ }
 {
     let mut j = from;
     while j < to {
-        if differs_at(old, new, j) {
-            note_at(ws, j, old, new, dirty);
-        }
+        note_kept(ws, j, new, dirty);
         j += 1;
     }
-}
-
-// The same, from the bounds that the workspace keeps. They are read from variable 0 on: the blocks below, which get
-// their bounds later, are their room.
-fn take_block(ws: &[u32], from: usize, to: usize, seen: &mut [i32], new: &[i32], dirty: &mut [u32])
-    requires { ⌜ (length (now ws) ≡ workspaceLen) × (from ≤ to) × (to ≤ 128) × (length (now dirty) ≡ 4)
-        × (2 * to ≤ length (now seen)) × (2 * to ≤ length (now new)) ⌝ }
-    ensures { λ _.
-        ⌜ TakenKept (now (ws .entry)) (now (new .entry)) (now (seen .entry)) (now (dirty .entry)) from to
-        (now (seen .exit)) (now (dirty .exit)) ⌝ }
-{
-    read_box(ws, &mut seen[..2 * to]);
-    note_block(ws, from, to, seen, new, dirty);
 }
 
 // All n variables get their new bounds, block by block from the last on; what is left of n is the first block. Only
@@ -74,20 +69,20 @@ fn take_block(ws: &[u32], from: usize, to: usize, seen: &mut [i32], new: &[i32],
 fn take_all(n: usize, ws: &[u32], seen: &mut [i32], new: &[i32], dirty: &mut [u32])
     requires { ⌜ (length (now ws) ≡ workspaceLen) × (n ≤ 128) × (length (now dirty) ≡ 4)
         × (length (now seen) ≡ 2 * n) × (length (now new) ≡ 2 * n) ⌝ }
-    ensures { λ _.
-        ⌜ TakenKept (now (ws .entry)) (now (new .entry)) (now (seen .entry)) (now (dirty .entry)) 0 n
-        (now (seen .exit)) (now (dirty .exit)) ⌝ }
+    ensures copied { λ _. ⌜ Copied 0 (2 * n) (now (new .entry)) (now (seen .entry)) (now (seen .exit)) ⌝ }
+    ensures noted { λ _.
+        ⌜ NotedKept (now (ws .entry)) (now (new .entry)) (now (dirty .entry)) 0 n (now (dirty .exit)) ⌝ }
 {
     let mut end = n;
     while BLOCK <= end {
         let from = end - BLOCK;
         if !copy_same(ws, 2 * from, 2 * from + 2 * BLOCK, seen, new) {
-            take_block(ws, from, end, seen, new, dirty);
+            note_block(ws, from, end, new, dirty);
         }
         end = from;
     }
     if !copy_same(ws, 0, 2 * end, seen, new) {
-        take_block(ws, 0, end, seen, new, dirty);
+        note_block(ws, 0, end, new, dirty);
     }
 }
 
@@ -98,7 +93,7 @@ fn read_set(ws: &[u32], dirty: &mut [u32])
 {
     let mut i = 0;
     while i < 4 {
-        dirty[i] = ws[4 + i];
+        dirty[i] = ws[SET_AT + i];
         i += 1;
     }
 }

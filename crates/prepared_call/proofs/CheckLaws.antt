@@ -9,18 +9,19 @@ use mathlib.Core.List.{List, [], _∷_}
 use mathlib.Core.Logic.{⊎-elim, inl, inr}
 use mathlib.Core.Path.{_∙_, _≡_, ap, refl, sym}
 use Rattle.call.specs.FieldChecks.{budgetChecks}
+use Rattle.call.proofs.FieldLaws.{own-propagation}
 use Rattle.integer.proofs.Parts.{zarith}
 use Rattle.integer.proofs.Tests.{T→true, and-l, and-r, eqb-test, or-cases, true→T}
 use Rattle.model.specs.Checks.{bits, boxChecks, first, inRange, lengthChecks, modelChecks, modelFault, must, none, numberChecks, sizeChecks, tableByteChecks, tableLengthChecks}
 use Rattle.model.specs.Limits.{maxBound, maxCoef, maxRhs, maxRows, maxVariables, minBound, minCoef, minRhs}
 use Rattle.model.specs.Model.{modelOf}
 use Rattle.model.specs.Rows.{Rows}
-use Rattle.model.specs.State.{State, stateOf}
+use Rattle.model.specs.State.{stateOf}
 use Rattle.model.proofs.CheckLaws.{bits-all, first-append, first-none, inRange-all, narrow-all, numbered, shape-test, size-test}
 use Rattle.prepared_box.proofs.OursLaws.{is-ours, ours-is}
 use Rattle.prepared_row.specs.Reasons.{Lent}
-use Rattle.semantics.specs.Call.{callOf, hasBudget, hasRow, hasTable, hasVariable, isUnknown, kindOf}
-use Rattle.semantics.specs.CallChecks.{callFault, lentTable, recordChecks}
+use Rattle.semantics.specs.Call.{callOf, hasTable, kindOf}
+use Rattle.semantics.specs.CallChecks.{callFault, lentTable}
 use Rattle.semantics.proofs.Accepted.{fault-of-own}
 use Rattle.workspace.specs.Layout.{isOurs, rowsIn, variablesOf}
 use Rattle.workspace.specs.Prepared.{Ours, Prepared}
@@ -91,11 +92,6 @@ module _ {W : List ℕ} {A : Rows} (p : Prepared W A) (B : List ℤ) where
         T→true (bits (A .kinds)) (bits-all (A .kinds) .1 (v .kinds)),
       )
 
-  -- and of the call's own, that of its budget
-  own-first : (s : State) (budget : ℕ) → first (recordChecks (kindOf 2) s (callOf s 2 0 0 budget)) ≡ first (budgetChecks budget)
-  unfolding recordChecks budgetChecks kindOf callOf first isUnknown hasRow hasVariable hasBudget
-  own-first s budget = refl
-
   numbered-box : (ok : Bool) → T (numbered (must ok 5 ∷ boxChecks n B))
   unfolding boxChecks
   numbered-box ok = tt
@@ -108,4 +104,4 @@ module _ {W : List ℕ} {A : Rows} (p : Prepared W A) (B : List ℤ) where
       let xs = must (eqb (length B) (2 * n)) 5 ∷ boxChecks n B in
       ap first (rw (is-ours (p .ours), f, and-true (eqb (length B) (2 * n))))
       ∙ first-append xs (budgetChecks budget) (numbered-box (eqb (length B) (2 * n)))
-      ∙ sym (fault-of-own s (callOf s 2 0 0 budget) refl refl refl ∙ rw (model-fault, own-first s budget))
+      ∙ sym (fault-of-own s (callOf s 2 0 0 budget) refl refl refl ∙ rw (model-fault, sym (own-propagation s budget)))

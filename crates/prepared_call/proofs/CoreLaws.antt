@@ -16,19 +16,21 @@ use Rattle.model.proofs.BoxLaws.{empty-is}
 use Rattle.prepared_propagation.specs.Known.{Known}
 use Rattle.prepared_propagation.specs.Reasons.{Reasons, endingRow, noRow, reasonsFrom, reasonsOf, reasonsTo}
 use Rattle.prepared_propagation.specs.declared.PreparedEnd.{PreparedEnd}
+use Rattle.prepared_propagation.proofs.KeepsLaws.{keeps-box, keeps-none}
 use Rattle.prepared_row.specs.Visit.{Looking}
 use Rattle.propagation.specs.Results.{propagationOf}
 use Rattle.propagation.specs.declared.Propagation.{Propagation}
 use Rattle.propagation.specs.declared.Propagation.the-variants as made
 use Rattle.row_set.specs.Readers.{Calm}
-use Rattle.semantics.specs.Perform.{Answer, propagated}
+use Rattle.semantics.specs.Perform.{propagated}
 use Rattle.semantics.specs.Propagate.{Propagated, converged, infeasible, isNone, passTo, propagate, propagateFrom}
 use Rattle.semantics.specs.Run.{answersNone, isRefused}
+use Rattle.workspace.specs.Kept.{SameBut}
 use Rattle.workspace.specs.Layout.{decode, rowsIn, variablesOf}
 use Rattle.workspace.specs.Prepared.{Prepared}
-use Rattle.workspace.proofs.KeptLaws.{prepared-kept}
+use Rattle.workspace.proofs.KeptLaws.{prepared-kept, same-join}
 use Rattle.prepared_call.specs.Core.{Accepting, Kept, Ran, Running}
-use Rattle.prepared_call.specs.PreparedCall.{Keeps, Propagates, infeasibleRow, preparedAnswer}
+use Rattle.prepared_call.specs.PreparedCall.{Propagates, infeasibleRow, preparedAnswer}
 use Rattle.prepared_call.specs.declared.PreparedPropagation.the-variants as code
 
 -- ---- the passes
@@ -122,7 +124,8 @@ module _ (budget : ℕ) {W : List ℕ} {B : List ℤ} (k : ℕ) (e : isEmpty (va
   unfolding preparedAnswer infeasibleRow answersNone isRefused isNone propagate reasonsOf
   empty-is-none = record {
     told = tt;
-    keeps = record { variables = refl; rows = refl; infeasible = λ _. refl; valid = λ z. absurd z; box = λ z. absurd z };
+    keeps = keeps-none W _ B tt;
+    valid = λ z. absurd z;
     answer = λ A q. rw e;
     box = λ A q. rw e;
     reasons = λ A q. rw (e, z);
@@ -169,7 +172,8 @@ module _ (budget : ℕ) {W : List ℕ} {B : List ℤ} (k : ℕ) (e : isEmpty (va
   unfolding preparedAnswer infeasibleRow answersNone isRefused isNone propagationOf
   infeasible-is f = record {
     told = tt;
-    keeps = record { variables = refl; rows = refl; infeasible = λ _. refl; valid = λ z. absurd z; box = λ z. absurd z };
+    keeps = keeps-none W _ B′ tt;
+    valid = λ z. absurd z;
     answer = λ A q. answer-is A q f;
     box = left-box;
     reasons = reasons-are;
@@ -195,20 +199,15 @@ module _ (budget : ℕ) {W : List ℕ} {B : List ℤ} (k : ℕ) (e : isEmpty (va
         let f : p .row ≡ noRow = ap (λ (x : Reasons). x .infeasible) (r .reasons A q) ∙ no-row budget 0 0 n m A B R (not-none A q) in
         ap (reasons-with R′) (sym f) ∙ reasons-are A q
 
-    keeps-box : (a : Answer) → T (not (answersNone a)) → Keeps W W′ a B′
-    keeps-box a t = record {
-      variables = w .second .before 1 (omega arith) ∙ w .first .before 1 (omega arith);
-      rows = w .second .before 2 (omega arith) ∙ w .first .before 2 (omega arith);
-      infeasible = λ z. absurd (T-not (answersNone a) t z);
-      valid = λ _. r .valid h .0;
-      box = λ _. w .box;
-    }
+    both-kept : SameBut 4 264 W W′
+    both-kept = same-join (omega arith) (omega arith) (w .first) (w .second)
 
     pub converged-is : {passes moved : ℕ} → p .end ≡ made.Converged passes moved → Propagates budget W B k (code.Converged passes moved) W′ B′ R′
     unfolding preparedAnswer infeasibleRow answersNone isRefused isNone propagationOf
     converged-is f = record {
       told = tt;
-      keeps = keeps-box _ tt;
+      keeps = keeps-box _ refl both-kept (w .box) tt;
+      valid = λ _. r .valid h .0;
       answer = λ A q. answer-is A q f;
       box = left-box;
       reasons = reasons-none;
@@ -219,7 +218,8 @@ module _ (budget : ℕ) {W : List ℕ} {B : List ℤ} (k : ℕ) (e : isEmpty (va
     unfolding preparedAnswer infeasibleRow answersNone isRefused isNone propagationOf
     spent-is f = record {
       told = tt;
-      keeps = keeps-box _ tt;
+      keeps = keeps-box _ refl both-kept (w .box) tt;
+      valid = λ _. r .valid h .0;
       answer = λ A q. answer-is A q f;
       box = left-box;
       reasons = reasons-none;

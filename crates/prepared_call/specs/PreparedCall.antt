@@ -1,5 +1,5 @@
--- The prepared propagate call: its checks in their order, its answer in the semantics, and what it keeps in the workspace. W is the
--- workspace, B the box and R the list of reasons that it is lent.
+-- The prepared propagate call: its checks in their order, its answer in the semantics, and what it comes to. W is the workspace, B the
+-- box and R the list of reasons that it is lent.
 use Prim.Native.Nat.{_*_, ℕ}
 use lib.Dec.{T, eqb}
 use lib.IntN.{ℤ}
@@ -11,11 +11,12 @@ use Rattle.call.specs.FieldChecks.{budgetChecks}
 use Rattle.model.specs.Checks.{Check, boxChecks, first, must}
 use Rattle.model.specs.Rows.{Rows}
 use Rattle.model.specs.Valid.{ValidBox}
+use Rattle.prepared_propagation.specs.Keeps.{Keeps}
 use Rattle.prepared_propagation.specs.Reasons.{noRow, reasonsOf}
 use Rattle.semantics.specs.Perform.{Answer, propagated, refused}
 use Rattle.semantics.specs.Propagate as ended
 use Rattle.semantics.specs.Run.{answersNone, isRefused}
-use Rattle.workspace.specs.Layout.{boxIn, isOurs, rowsIn, variablesOf}
+use Rattle.workspace.specs.Layout.{isOurs, rowsIn, variablesOf}
 use Rattle.workspace.specs.Prepared.{Prepared}
 use Rattle.prepared_call.specs.declared.PreparedPropagation.{PreparedPropagation}
 use Rattle.prepared_call.specs.declared.PreparedPropagation.the-variants.{BudgetSpent, Converged, Infeasible, Refused}
@@ -53,25 +54,14 @@ infeasibleRow (Infeasible passes moved row) = row
 infeasibleRow (Converged passes moved) = noRow
 infeasibleRow (BudgetSpent passes moved) = noRow
 
--- ---- what is kept
-
--- of the workspace W before, W′ after, the answer a and the box B′ that was left
-pub record Keeps (W W′ : List ℕ) (a : Answer) (B′ : List ℤ) : Type 0 where
-  -- n and m stay
-  pub variables : variablesOf W′ ≡ variablesOf W
-  pub rows : rowsIn W′ ≡ rowsIn W
-  -- a call that ends infeasible keeps nothing: the box that the workspace knows is the parent's, which the next sibling is compared with
-  pub infeasible : T (answersNone a) → W′ ≡ W
-  -- any other leaves a valid box, and keeps it
-  pub valid : T (not (answersNone a)) → ValidBox (variablesOf W) B′
-  pub box : T (not (answersNone a)) → boxIn (variablesOf W) W′ ≡ B′
-
 -- ---- an accepted call that is lent k numbers for the reasons: what is so of any workspace, and what of one that is prepared for the
 -- rows A, whichever they are
 
 pub record Propagates (budget : ℕ) (W : List ℕ) (B : List ℤ) (k : ℕ) (r : PreparedPropagation) (W′ : List ℕ) (B′ : List ℤ) (R′ : List ℕ) : Type 0 where
   pub told : T (not (isRefused (preparedAnswer r)))
   pub keeps : Keeps W W′ (preparedAnswer r) B′
+  -- a call that does not end infeasible leaves a valid box
+  pub valid : T (not (answersNone (preparedAnswer r))) → ValidBox (variablesOf W) B′
   -- the answer with its counts, and the box, are those of a settle of the model with the lent box
   pub answer : (A : Rows) → Prepared W A
       → let w = ended.propagate budget (variablesOf W) (rowsIn W) A B in preparedAnswer r ≡ propagated (w .ending) (w .passes) (w .moved)

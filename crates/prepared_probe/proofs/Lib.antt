@@ -1,2 +1,4 @@
+pub mod HalfLaws
+pub mod MeaningLaws
 pub mod ProbeCheckLaws
 pub mod SideLaws

@@ -3,9 +3,10 @@ use Prim.Native.Nat.{_*_, _+_, _<_, ℕ}
 use denote.Enum.Declared.{tagOf}
 use lib.Dec.{T, T-not}
 use lib.IntN.{ℤ}
+use lib.ListN.{length, replicate}
 use mathlib.Core.Bool.{_||_, false, not, true}
 use mathlib.Core.List.{List, [], _∷_}
-use mathlib.Core.Logic.{⊎-elim}
+use mathlib.Core.Logic.{inl, inr, ⊎-elim}
 use mathlib.Core.Path.{_∙_, _≡_, ap, refl, subst, sym}
 use native.Mathlib.Omega.{arith}
 use types.Run.{OneOf}
@@ -18,6 +19,8 @@ use Rattle.model.specs.Rows.{Rows}
 use Rattle.model.specs.Valid.{Between, ValidBox}
 use Rattle.model.proofs.BoxLaws.{at-boxOf, empty-is, isEmpty→eq, nonEmpty-isn't}
 use Rattle.prepared_propagation.specs.Known.{Known}
+use Rattle.prepared_propagation.specs.Reasons.{noRow, reasonsFrom, reasonsOf}
+use Rattle.prepared_row.specs.Reasons.{Lent}
 use Rattle.probing.specs.Results.{probingOf}
 use Rattle.probing.specs.declared.sides.Probing.{Probing}
 use Rattle.probing.specs.declared.sides.Probing.the-variants as probing
@@ -30,7 +33,6 @@ use Rattle.propagation.specs.declared.Propagation.{Propagation}
 use Rattle.reducer.specs.OpenCalls.{probingAnswer}
 use Rattle.row.proofs.ImpliedBoxLaws.{valid-empty}
 use Rattle.row_set.specs.Readers.{Calm}
-use Rattle.semantics.specs.Perform.{Answer}
 use Rattle.semantics.specs.Probe.{Probed, fix, joinSides, probe}
 use Rattle.semantics.specs.Propagate.{isNone, propagate, propagateFrom}
 use Rattle.semantics.specs.Run.{answersNone, probeInfeasible}
@@ -39,7 +41,6 @@ use Rattle.workspace.specs.Kept.{SameBut}
 use Rattle.workspace.specs.Layout.{boxIn, decode, dirtyOf, rowsIn, variablesOf}
 use Rattle.workspace.specs.Prepared.{Prepared}
 use Rattle.workspace.proofs.KeptLaws.{prepared-kept}
-use Rattle.prepared_probe.specs.Kept.{Keeps}
 use Rattle.prepared_probe.specs.Sides.{Boxed, InRange, SideLeft}
 
 -- ---- a side
@@ -79,6 +80,16 @@ module _ {n m : ℕ} {W : List ℕ} {B : List ℤ} (b : Boxed n m W B) where
         let p = boxed-propagated budget s S e in
         let q : isEmpty n S ≡ true = sym (side-none budget m A (b .sized .some) (b .sized .box) s S p) ∙ z in
         ap (propagationOf s) (f ∙ sym (isEmpty→eq n S (true→T (isEmpty n S) q))) ∙ p
+
+    -- and what they tell
+    pub boxed-reasons : (budget len : ℕ) {S R′ : List ℕ} {row : ℕ} → S ≡ replicate len noRow
+        → R′ ≡ reasonsFrom budget n m (decode n m W) B S .movers → row ≡ reasonsFrom budget n m (decode n m W) B S .infeasible
+        → record { movers = R′; infeasible = row } ≡ reasonsOf budget n m A B len
+    unfolding reasonsOf
+    boxed-reasons budget len z e f = rw (e, f, z, rows-are, nonEmpty-isn't (b .sized .some) (b .nonEmpty)) refl
+
+pub lent-same : {n : ℕ} {R S : List ℕ} → Lent n R → length S ≡ length R → Lent n S
+lent-same l e = record { len = ⊎-elim (λ x. inl (e ∙ x)) (λ x. inr (e ∙ x)) (l .len) }
 
 pub left-some : {n : ℕ} (s : Propagation) (S : List ℤ) → 0 < n → isNone (propagationOf s S .ending) ≡ false → ValidBox n S → NonEmpty n S → SideLeft n s S
 left-some s S h z v p = record { valid = v; none = z ∙ sym (nonEmpty-isn't h p) }
@@ -148,18 +159,6 @@ module _ (k budget m : ℕ) (A : Rows) (t t′ : List ℕ) (p : Probing) {n : �
       (λ q. q) (probed-valid .shape)
 
 -- ---- what is kept
-
-pub keeps-none : (W : List ℕ) (a : Answer) (Q : List ℤ) → T (answersNone a) → Keeps W W a Q
-keeps-none W a Q z = record { variables = refl; rows = refl; infeasible = λ _. refl; box = λ y. absurd (T-not (answersNone a) y z) }
-
-pub keeps-box : {n : ℕ} {W W′ : List ℕ} (a : Answer) {Q : List ℤ} → n ≡ variablesOf W → SameBut 4 264 W W′ → boxIn n W′ ≡ Q
-    → T (not (answersNone a)) → Keeps W W′ a Q
-keeps-box a e s b z = record {
-  variables = s .before 1 (omega arith);
-  rows = s .before 2 (omega arith);
-  infeasible = λ y. absurd (T-not (answersNone a) z y);
-  box = λ _. rw e at b;
-}
 
 pub kept-prepared : {n : ℕ} {W X Y : List ℕ} {A : Rows} {B : List ℤ} {D : List ℕ} → Prepared W A → n ≡ variablesOf W → SameBut 4 8 W X → SameBut 8 264 X Y
     → dirtyOf X ≡ D → boxIn n Y ≡ B → ValidBox n B → NonEmpty n B → Calm n (rowsIn W) A B D → Prepared Y A

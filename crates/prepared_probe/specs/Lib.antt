@@ -1,3 +1,4 @@
 pub mod Checks
-pub mod Kept
+pub mod Meaning
+pub mod Reasons
 pub mod Sides

@@ -3,7 +3,10 @@ use boxes::copy_box;
 use boxes::make_empty;
 use model::MAX_BOX;
 use prepared_box::taken::take_box;
+use prepared_propagation::PreparedEnd;
 use prepared_propagation::propagate_prepared;
+use prepared_propagation::reasons::NO_ROW;
+use prepared_propagation::reasons::no_reasons;
 use probing::sides::Probing;
 use probing::sides::join;
 use probing::sides::untried;
@@ -21,6 +24,9 @@ ghost use lib.ListN.{length};
 ghost use Rattle.model.specs.Box.{NonEmpty, isEmpty, isFree};
 ghost use Rattle.model.specs.Rows.{Rows};
 ghost use Rattle.model.specs.Valid.{ValidBox, ValidTable};
+ghost use Rattle.prepared_propagation.specs.Keeps.{Keeps};
+ghost use Rattle.prepared_propagation.specs.Reasons.{reasonsOf};
+ghost use Rattle.prepared_row.specs.Reasons.{Lent};
 ghost use Rattle.prepared_row.specs.Visit.{Sized};
 ghost use Rattle.probing.specs.Results.{probingOf};
 ghost use Rattle.propagation.specs.Results.{propagationOf};
@@ -30,8 +36,16 @@ ghost use Rattle.semantics.specs.Propagate.{propagate};
 ghost use Rattle.workspace.specs.Kept.{SameBut};
 ghost use Rattle.workspace.specs.Layout.{boxIn, rowsIn, variablesOf, workspaceLen};
 ghost use Rattle.workspace.specs.Prepared.{Prepared};
-ghost use Rattle.prepared_probe.specs.Kept.{Keeps};
+ghost use Rattle.prepared_probe.specs.Checks.{sidesFit};
+ghost use Rattle.prepared_probe.specs.Reasons.{probeReasons, sideReasons};
 ghost use Rattle.prepared_probe.specs.Sides.{Boxed, InRange, SideLeft};
+
+// What the two sides come to, and of each the row that was infeasible, `NO_ROW` where none was.
+pub struct ProbedSides {
+    pub probing: Probing,
+    pub row0: u32,
+    pub row1: u32,
+}
 
 // A side, fixed already, is propagated: the rows to look at are those of the box that the workspace knows, and those
 // that hear of a bound in which the side differs from it. One that is infeasible is left empty, whatever the workspace
@@ -43,23 +57,28 @@ fn propagate_side(
     budget: u32,
     seen: &mut [i32],
     side: &mut [i32],
-) -> Propagation
-    requires { ⌜ Boxed n m (now ws) (now side) × (length (now seen) ≡ length (now side)) ⌝ }
+    reasons: &mut [u32],
+) -> PreparedEnd
+    requires { ⌜ Boxed n m (now ws) (now side) × (length (now seen) ≡ length (now side)) × Lent n (now reasons) ⌝ }
     ensures answer { λ p.
         ⌜ ((A : Rows) → Prepared (now (ws .entry)) A
-        → propagationOf p (now (side .exit)) ≡ propagate budget n m A (now (side .entry))) ⌝ }
-    ensures left { λ p. ⌜ SideLeft n p (now (side .exit)) ⌝ }
+        → propagationOf (p .end) (now (side .exit)) ≡ propagate budget n m A (now (side .entry))) ⌝ }
+    ensures reasons { λ p.
+        ⌜ ((A : Rows) → Prepared (now (ws .entry)) A
+        → record { movers = now (reasons .exit); infeasible = p .row }
+        ≡ reasonsOf budget n m A (now (side .entry)) (length (now (reasons .entry)))) ⌝ }
+    ensures left { λ p. ⌜ SideLeft n (p .end) (now (side .exit)) ⌝ }
 {
+    no_reasons(reasons);
     let mut dirty = [0u32; SET_WORDS];
     take_box(n, ws, side, seen, &mut dirty);
-    let mut reasons = [0u32; 1];
-    let told = propagate_prepared(n, m, ws, side, budget, seen, &mut dirty, &mut reasons[..0]);
+    let told = propagate_prepared(n, m, ws, side, budget, seen, &mut dirty, reasons);
     let end = told.end;
     let Propagation::Infeasible(_, _) = end else {
-        return end;
+        return told;
     };
     make_empty(side);
-    end
+    told
 }
 
 // Side v of k, in the lent buffer: the box with k fixed at v, propagated with the budget.
@@ -72,24 +91,30 @@ fn try_side(
     v: i32,
     budget: u32,
     side: &mut [i32],
-) -> Propagation
+    reasons: &mut [u32],
+) -> PreparedEnd
     requires { ⌜ Boxed n m (now ws) (now bounds) × T (isFree (now bounds) k) × (k < n) ⌝ }
     requires { ⌜ (v ≡ pos 0) ⊎ (v ≡ pos 1) ⌝ }
-    requires { ⌜ length (now side) ≡ length (now bounds) ⌝ }
+    requires { ⌜ (length (now side) ≡ length (now bounds)) × Lent n (now reasons) ⌝ }
     ensures answer { λ p.
         ⌜ ((A : Rows) → Prepared (now (ws .entry)) A → (w : ℕ) → v ≡ pos w
-        → propagationOf p (now (side .exit)) ≡ propagate budget n m A (fix n (now (bounds .entry)) k w)) ⌝ }
-    ensures left { λ p. ⌜ SideLeft n p (now (side .exit)) ⌝ }
+        → propagationOf (p .end) (now (side .exit)) ≡ propagate budget n m A (fix n (now (bounds .entry)) k w)) ⌝ }
+    ensures reasons { λ p.
+        ⌜ ((A : Rows) → Prepared (now (ws .entry)) A → (w : ℕ) → v ≡ pos w
+        → record { movers = now (reasons .exit); infeasible = p .row }
+        ≡ sideReasons k w budget n m A (now (bounds .entry)) (length (now (reasons .entry)))) ⌝ }
+    ensures left { λ p. ⌜ SideLeft n (p .end) (now (side .exit)) ⌝ }
 {
     copy_box(bounds, side);
     side[2 * k] = v;
     side[2 * k + 1] = v;
     let len = bounds.len();
     let mut seen = [0i32; MAX_BOX];
-    propagate_side(n, m, ws, budget, &mut seen[..len], side)
+    propagate_side(n, m, ws, budget, &mut seen[..len], side, reasons)
 }
 
-// The free variable k is probed; the workspace is only read.
+// The free variable k is probed; the workspace is only read. The first half of the reasons is side 0's, the other
+// side 1's.
 fn try_sides(
     n: usize,
     m: usize,
@@ -98,20 +123,52 @@ fn try_sides(
     table: &mut [u8],
     k: usize,
     budget: u32,
-) -> Probing
+    reasons: &mut [u32],
+) -> ProbedSides
     requires { ⌜ Boxed n m (now ws) (now bounds) × T (isFree (now bounds) k) × (k < n) ⌝ }
-    requires { ⌜ ValidTable n (now table) ⌝ }
+    requires { ⌜ ValidTable n (now table) × T (sidesFit n (now reasons)) ⌝ }
     ensures answer { λ r.
-        ⌜ ((A : Rows) → Prepared (now (ws .entry)) A → probingOf r (now (bounds .exit)) (now (table .exit))
+        ⌜ ((A : Rows) → Prepared (now (ws .entry)) A → probingOf (r .probing) (now (bounds .exit)) (now (table .exit))
         ≡ probe k budget n m A (now (bounds .entry)) (now (table .entry))) ⌝ }
+    ensures reasons { λ r.
+        ⌜ ((A : Rows) → Prepared (now (ws .entry)) A
+        → record { movers = now (reasons .exit); row0 = r .row0; row1 = r .row1 }
+        ≡ probeReasons k budget n m A (now (bounds .entry)) (length (now (reasons .entry)))) ⌝ }
     ensures range { λ r. ⌜ InRange (now (bounds .exit)) ⌝ }
 {
     let len = bounds.len();
+    let half = reasons.len() / 2;
     let mut zero = [0i32; MAX_BOX];
-    let s0 = try_side(n, m, ws, bounds, k, 0, budget, &mut zero[..len]);
+    let s0 = try_side(
+        n,
+        m,
+        ws,
+        bounds,
+        k,
+        0,
+        budget,
+        &mut zero[..len],
+        &mut reasons[..half],
+    );
     let mut one = [0i32; MAX_BOX];
-    let s1 = try_side(n, m, ws, bounds, k, 1, budget, &mut one[..len]);
-    join(n, k, s0, s1, &zero, &one, bounds, table)
+    let s1 = try_side(
+        n,
+        m,
+        ws,
+        bounds,
+        k,
+        1,
+        budget,
+        &mut one[..len],
+        &mut reasons[half..],
+    );
+    let end0 = s0.end;
+    let end1 = s1.end;
+    ProbedSides {
+        probing: join(n, k, end0, end1, &zero, &one, bounds, table),
+        row0: s0.row,
+        row1: s1.row,
+    }
 }
 
 // The box becomes the one that the workspace knows, with the rows to look at in it.
@@ -140,24 +197,37 @@ pub fn probe_prepared(
     table: &mut [u8],
     k: usize,
     budget: u32,
-) -> Probing
+    reasons: &mut [u32],
+) -> ProbedSides
     requires { ⌜ (n ≡ variablesOf (now ws)) × (m ≡ rowsIn (now ws)) × Sized n m (now ws) (now bounds)
-        × ValidTable n (now table) × T (isEmpty n (now bounds) || isFree (now bounds) k) × (k < n) ⌝ }
+        × ValidTable n (now table) × T (isEmpty n (now bounds) || isFree (now bounds) k) × (k < n)
+        × T (sidesFit n (now reasons)) ⌝ }
     ensures answer { λ r.
-        ⌜ ((A : Rows) → Prepared (now (ws .entry)) A → probingOf r (now (bounds .exit)) (now (table .exit))
+        ⌜ ((A : Rows) → Prepared (now (ws .entry)) A → probingOf (r .probing) (now (bounds .exit)) (now (table .exit))
         ≡ probe k budget n m A (now (bounds .entry)) (now (table .entry))) ⌝ }
+    ensures reasons { λ r.
+        ⌜ ((A : Rows) → Prepared (now (ws .entry)) A
+        → record { movers = now (reasons .exit); row0 = r .row0; row1 = r .row1 }
+        ≡ probeReasons k budget n m A (now (bounds .entry)) (length (now (reasons .entry)))) ⌝ }
     ensures prepared { λ r. ⌜ ((A : Rows) → Prepared (now (ws .entry)) A → Prepared (now (ws .exit)) A) ⌝ }
-    ensures kept { λ r. ⌜ Keeps (now (ws .entry)) (now (ws .exit)) (probingAnswer r) (now (bounds .exit)) ⌝ }
+    ensures kept { λ r.
+        ⌜ Keeps (now (ws .entry)) (now (ws .exit)) (probingAnswer (r .probing)) (now (bounds .exit)) ⌝ }
 {
     if boxes::is_empty(bounds) {
-        return Probing::Infeasible(untried(), untried());
+        no_reasons(reasons);
+        return ProbedSides {
+            probing: Probing::Infeasible(untried(), untried()),
+            row0: NO_ROW,
+            row1: NO_ROW,
+        };
     }
-    let answer = try_sides(n, m, ws, bounds, table, k, budget);
-    let Probing::Infeasible(_, _) = answer else {
+    let told = try_sides(n, m, ws, bounds, table, k, budget, reasons);
+    let probing = told.probing;
+    let Probing::Infeasible(_, _) = probing else {
         let len = bounds.len();
         let mut seen = [0i32; MAX_BOX];
         keep(n, ws, bounds, &mut seen[..len]);
-        return answer;
+        return told;
     };
-    answer
+    told
 }

@@ -1,3 +1,4 @@
+pub mod KeepsLaws
 pub mod MeaningLaws
 pub mod PassLaws
 pub mod PassesLaws

@@ -42,7 +42,7 @@ record Meant (n m : ℕ) (B : List ℤ) (W : Propagated) (S : Reasons) : Type 0 
   row : T (isNone (W .ending)) → S .infeasible < m
 
 -- a bound that moved on from one inside B is not B's
-moved-on : {n : ℕ} {B P Q : List ℤ} → Inside n P B → Inside n Q P → (i : ℕ) → i < 2 * n → (at P i ≡ at Q i → ⊥) → at Q i ≡ at B i → ⊥
+pub moved-on : {n : ℕ} {B P Q : List ℤ} → Inside n P B → Inside n Q P → (i : ℕ) → i < 2 * n → (at P i ≡ at Q i → ⊥) → at Q i ≡ at B i → ⊥
 moved-on {n} {B} {P} {Q} a b i h d e = ⊎-elim low high (half i)
   where
     low : i ≡ 2 * (i / 2) → ⊥

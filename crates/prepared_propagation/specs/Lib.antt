@@ -1,3 +1,4 @@
+pub mod Keeps
 pub mod Known
 pub mod Meaning
 pub mod Reasons

@@ -1,4 +1,4 @@
--- What the two calls on a prepared model come to in the C interface: with the workspace W, the box B, the reasons R or the table t, and
+-- What the two calls on a prepared model come to in the C interface: with the workspace W, the box B, the reasons R, a probe's table t and
 -- the answer A that they are lent, the number that they return, and what they leave (W′, B′, ..). Of any workspace: `refused` and
 -- `accepted`. Of one that is prepared for the rows M, whichever they are: the others.
 use Prim.Native.Nat.{ℕ}
@@ -10,14 +10,15 @@ use mathlib.Core.Path.{_≡_}
 use Rattle.model.specs.Rows.{Rows}
 use Rattle.model.specs.State.{stateOf}
 use Rattle.prepared_call.specs.PreparedCall.{propagateFault, reasonsFit}
-use Rattle.prepared_probe.specs.Checks.{probeFault}
+use Rattle.prepared_probe.specs.Checks.{probeFault, sidesFit}
+use Rattle.prepared_probe.specs.Reasons.{probeReasons}
 use Rattle.prepared_propagation.specs.Reasons.{reasonsOf}
 use Rattle.replies.specs.Replies.{answerLength, callReply}
 use Rattle.semantics.specs.Call.{callOf}
 use Rattle.semantics.specs.Perform.{perform}
 use Rattle.workspace.specs.Layout.{rowsIn, variablesOf}
 use Rattle.workspace.specs.Prepared.{Prepared}
-use Rattle.prepared_replies.specs.PreparedReplies.{Said, faultWith, preparedReply}
+use Rattle.prepared_replies.specs.PreparedReplies.{Said, faultWith, preparedReply, withRows}
 
 pub record PropagateSaid (budget : ℕ) (W : List ℕ) (B : List ℤ) (R A : List ℕ) (r : ℕ) (W′ : List ℕ) (B′ : List ℤ) (R′ A′ : List ℕ) : Type 0 where
   -- "On a refusal no lent number changes, the answer's among them."
@@ -34,12 +35,16 @@ pub record PropagateSaid (budget : ℕ) (W : List ℕ) (B : List ℤ) (R A : Lis
       → R′ ≡ reasonsOf budget (variablesOf W) (rowsIn W) M B (length R) .movers
   pub prepared : (M : Rows) → Prepared W M → Prepared W′ M
 
-pub record ProbeSaid (variable budget : ℕ) (W : List ℕ) (B : List ℤ) (t A : List ℕ) (r : ℕ) (W′ : List ℕ) (B′ : List ℤ) (t′ A′ : List ℕ) : Type 0 where
-  pub refused : let number = faultWith A (probeFault W B t variable budget) in
-      (number ≡ 0 → ⊥) → (r ≡ number) × (W′ ≡ W) × (B′ ≡ B) × (t′ ≡ t) × (A′ ≡ A)
-  pub accepted : faultWith A (probeFault W B t variable budget) ≡ 0 → r ≡ 0
-  pub defined : (M : Rows) → Prepared W M → length A ≡ answerLength
+pub record ProbeSaid (variable budget : ℕ) (W : List ℕ) (B : List ℤ) (t R A : List ℕ) (r : ℕ) (W′ : List ℕ) (B′ : List ℤ) (t′ R′ A′ : List ℕ) : Type 0 where
+  pub refused : let number = faultWith A (probeFault W B t R variable budget) in
+      (number ≡ 0 → ⊥) → (r ≡ number) × (W′ ≡ W) × (B′ ≡ B) × (t′ ≡ t) × (R′ ≡ R) × (A′ ≡ A)
+  pub accepted : faultWith A (probeFault W B t R variable budget) ≡ 0 → r ≡ 0
+  -- the answer, the box and the table are those of a probe of the model; then stand the rows of the two sides
+  pub defined : (M : Rows) → Prepared W M → sidesFit (variablesOf W) R ≡ true → length A ≡ answerLength
       → let s = stateOf (variablesOf W) (rowsIn W) B M t in
       let p = perform s (callOf s 3 0 variable budget) in
-      Said (callReply (p .answer)) A r A′ × (stateOf (variablesOf W) (rowsIn W) B′ M t′ ≡ p .state)
+      let told = probeReasons variable budget (variablesOf W) (rowsIn W) M B (length R) in
+      Said (withRows (callReply (p .answer)) (told .row0) (told .row1)) A r A′ × (stateOf (variablesOf W) (rowsIn W) B′ M t′ ≡ p .state)
+  pub reasons : (M : Rows) → Prepared W M → faultWith A (probeFault W B t R variable budget) ≡ 0
+      → R′ ≡ probeReasons variable budget (variablesOf W) (rowsIn W) M B (length R) .movers
   pub prepared : (M : Rows) → Prepared W M → Prepared W′ M

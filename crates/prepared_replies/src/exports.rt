@@ -1,6 +1,6 @@
 // The two calls on a prepared model behind one check more, of the answer's length.
 use crate::prepared_reply;
-use call_replies::probe_reply;
+use crate::put_probe;
 use prepared_call::propagate;
 use prepared_probe::probe;
 use replies::reply::put;
@@ -31,25 +31,27 @@ pub fn propagate_said(
     )
 }
 
-// 01's probe: the answer is that of any probe. Refused by 5, 6, 7, 23, 10, 13, 14 and 15.
+// 01's probe: the answer is that of any probe, then the infeasible rows of the two sides. Refused by 5, 6, 7, 23, 10,
+// 13, 14 and 15.
 pub fn probe_said(
     workspace: &mut [u32],
     bounds: &mut [i32],
     table: &mut [u8],
     variable: u32,
     budget: u32,
+    reasons: &mut [u32],
     answer: &mut [u64],
 ) -> u32
     ensures { λ r.
         ⌜ ProbeSaid variable budget (now (workspace .entry)) (now (bounds .entry)) (now (table .entry))
-        (now (answer .entry)) r (now (workspace .exit)) (now (bounds .exit)) (now (table .exit))
-        (now (answer .exit)) ⌝ }
+        (now (reasons .entry)) (now (answer .entry)) r (now (workspace .exit)) (now (bounds .exit)) (now (table .exit))
+        (now (reasons .exit)) (now (answer .exit)) ⌝ }
 {
     if answer.len() != ANSWER {
         return 5;
     }
-    put(
-        probe_reply(probe(workspace, bounds, table, variable, budget)),
+    put_probe(
+        probe(workspace, bounds, table, variable, budget, reasons),
         answer,
     )
 }

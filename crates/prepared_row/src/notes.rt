@@ -1,6 +1,7 @@
 // Which rows are to be looked at once a box has become another: those that hear of a bound that moved. The box that the
 // rows know, `old`, becomes the new one as the moves are noted.
 use row_set::add;
+use workspace::HEARERS_AT;
 ghost use mathlib.Core.Bool.{false};
 ghost use mathlib.Core.Path.{_≡_};
 ghost use Prim.Native.Nat.{ℕ, _*_, _+_, _<_};
@@ -11,14 +12,14 @@ ghost use Rattle.workspace.specs.Layout.{fallOf, riseOf, workspaceLen};
 ghost use Rattle.prepared_row.specs.Heard.{Deaf, Missed, Noting};
 
 // A bound of variable j went from `old` to `new`.
-fn note_bound(ws: &[u32], j: usize, old: i32, new: i32, dirty: &mut [u32])
+pub fn note_bound(ws: &[u32], j: usize, old: i32, new: i32, dirty: &mut [u32])
     requires { ⌜ (length (now ws) ≡ workspaceLen) × (j < 128) × (length (now dirty) ≡ 4) ⌝ }
     ensures { λ _.
         let W = now (ws .entry) in
         ⌜ ((r : ℕ) → r < 128 → bitAt (now (dirty .exit)) r ≡ 0
         → (bitAt (now (dirty .entry)) r ≡ 0) × Deaf (riseOf W j) (fallOf W j) r old new) ⌝ }
 {
-    let at = 384 + 8 * j;
+    let at = HEARERS_AT + 8 * j;
     if old < new {
         add(&ws[at..at + 4], dirty);
         return;
@@ -29,7 +30,7 @@ fn note_bound(ws: &[u32], j: usize, old: i32, new: i32, dirty: &mut [u32])
 }
 
 // The bounds of variable j become those of `new`.
-pub fn note_at(ws: &[u32], j: usize, old: &mut [i32], new: &[i32], dirty: &mut [u32])
+fn note_at(ws: &[u32], j: usize, old: &mut [i32], new: &[i32], dirty: &mut [u32])
     requires { ⌜ (length (now ws) ≡ workspaceLen) × (j < 128) × (length (now dirty) ≡ 4)
         × (2 * j + 1 < length (now old)) × (2 * j + 1 < length (now new)) ⌝ }
     ensures left { λ _.
@@ -51,7 +52,7 @@ pub fn note_at(ws: &[u32], j: usize, old: &mut [i32], new: &[i32], dirty: &mut [
 }
 
 // Whether a bound of variable j differs. Most do not, so this is asked in the loop and costs no call.
-pub fn differs_at(old: &[i32], new: &[i32], j: usize) -> bool
+fn differs_at(old: &[i32], new: &[i32], j: usize) -> bool
     requires { ⌜ (2 * j + 1 < length (now old)) × (2 * j + 1 < length (now new)) ⌝ }
     ensures { λ b.
         ⌜ (b ≡ false → (lower (now (new .entry)) j ≡ lower (now (old .entry)) j)

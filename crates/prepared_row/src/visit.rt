@@ -5,6 +5,8 @@ use packed_row::propagate_row_packed;
 use packed_row::row_moves_packed;
 use row::propagation::RowPropagation;
 use row_set::remove;
+use workspace::ROWS_AT;
+use workspace::SIDES_AT;
 ghost use mathlib.Core.Path.{_≡_};
 ghost use Prim.Native.Nat.{ℕ, _%_, _<_, _≤_};
 ghost use lib.ListN.{length};
@@ -104,10 +106,10 @@ pub fn visit_at(
         ⌜ now (reasons .exit)
         ≡ rowReasons r B (propagateRowOf n (rowAt n (decode n m (now (ws .entry))) r) B) (now (reasons .entry)) ⌝ }
 {
-    let start = 1_408 + r * n;
+    let start = ROWS_AT + r * n;
     visit(
         &ws[start..start + n],
-        ws[264 + r],
+        ws[SIDES_AT + r],
         ws,
         r,
         bounds,
@@ -122,6 +124,6 @@ pub fn moves_at(n: usize, m: usize, ws: &[u32], r: usize, bounds: &[i32]) -> boo
     requires { ⌜ Sized n m (now ws) (now bounds) × (r < m) ⌝ }
     ensures { λ b. ⌜ b ≡ rowMovesOf n (rowAt n (decode n m (now (ws .entry))) r) (now (bounds .entry)) ⌝ }
 {
-    let start = 1_408 + r * n;
-    row_moves_packed(&ws[start..start + n], ws[264 + r], bounds)
+    let start = ROWS_AT + r * n;
+    row_moves_packed(&ws[start..start + n], ws[SIDES_AT + r], bounds)
 }

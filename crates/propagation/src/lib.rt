@@ -49,9 +49,9 @@ impl Tally {
     }
 }
 
-// Propagates the rows by what is known of them: their index, and which of them are clean. A pass is left by its label
-// at the first row that is infeasible, and counts as made. Where the budget's passes are made, a last look decides
-// whether it is spent.
+// Propagates the rows by what is known of them: their index, and which of them are clean. The passes are left by their
+// label at the first row that is infeasible, which leaves the empty box; that pass counts as made. Where the budget's
+// passes are made, a last look decides whether it is spent.
 pub fn propagate_marked(
     n: usize,
     m: usize,
@@ -83,7 +83,6 @@ pub fn propagate_marked(
     }
     let mut passes: u32 = 0;
     let mut tally = Tally { moved: 0 };
-    let mut infeasible = false;
     'passes: while passes < budget {
         passes += 1;
         let before = tally.moved;
@@ -102,13 +101,8 @@ pub fn propagate_marked(
                 seen,
                 marks,
             ) {
-                RowPropagation::Infeasible => {
-                    infeasible = true;
-                    break 'passes;
-                }
-                RowPropagation::Tightened(moved) => {
-                    tally = tally.add(moved);
-                }
+                RowPropagation::Infeasible => break 'passes,
+                RowPropagation::Tightened(moved) => tally = tally.add(moved),
                 RowPropagation::Unchanged => {}
             }
             r = next_row(m, marks, r + 1);
@@ -117,7 +111,7 @@ pub fn propagate_marked(
             return Propagation::Converged(passes, before);
         }
     }
-    if infeasible {
+    if boxes::is_empty(bounds) {
         return Propagation::Infeasible(passes, tally.moved);
     }
     last_look(n, m, bounds, coefs, rhs, kinds, marks, passes, tally.moved)

@@ -4,12 +4,10 @@
 // gives for the call made of the very n, m, numbers and buffer lengths handed over. `meaning`: what the answer means
 // for the points; `ending`: that the call ended within its budget. Every call is refused by the model's checks first,
 // 3, 5, 6, 7, 23, 8, 9 and 16 (`model_fault`), and then by those that its own comment names.
-use call::Call;
-use call::PROPAGATE;
-use call::PROPAGATE_ROW;
 use matrix_row::propagate_row_at;
-use open_checks::call_fault;
 use open_checks::probe_fault;
+use open_checks::propagation_fault;
+use open_checks::row_call_fault;
 use probing::sides::Probing;
 use probing::sides::Side;
 use propagation::Propagation;
@@ -94,13 +92,7 @@ pub fn propagate_row(
         let r' = stateOf n m (now (bounds .exit)) A [] in
         ⌜ Means s r' (rowAnswer r) ⌝ }
 {
-    let call = Call {
-        kind: PROPAGATE_ROW,
-        row,
-        variable: 0,
-        budget: 0,
-    };
-    let fault = call_fault(n, m, bounds, coefs, rhs, kinds, call);
+    let fault = row_call_fault(n, m, bounds, coefs, rhs, kinds, row);
     if fault != 0 {
         return PropagateRowAnswer::Refused(fault);
     }
@@ -137,13 +129,7 @@ pub fn propagate(
         let r' = stateOf n m (now (bounds .exit)) A [] in
         ⌜ Ends (callOf s 2 0 0 budget) s r' (propagateAnswer r) ⌝ }
 {
-    let call = Call {
-        kind: PROPAGATE,
-        row: 0,
-        variable: 0,
-        budget,
-    };
-    let fault = call_fault(n, m, bounds, coefs, rhs, kinds, call);
+    let fault = propagation_fault(n, m, bounds, coefs, rhs, kinds, budget);
     if fault != 0 {
         return PropagateAnswer::Refused(fault);
     }

@@ -22,7 +22,7 @@ use Rattle.semantics.specs.Unmoved.{UnmovedQuiet, UnmovedSpans, anySpent, sideS
 use Rattle.semantics.proofs.CallLaws.{perform-accepted, step-accepted}
 use Rattle.semantics.proofs.Unmoved.{run-empty, still-step, unmoved-quiet, unmoved-spans}
 use Rattle.round.specs.Rest.{RoundRests}
-use Rattle.round.specs.Round.{andThen, anyChange, isChange, probeCall, probes, propagateCall, removals, round, tightenings, upwards}
+use Rattle.round.specs.Round.{andThen, anyChange, isChange, probeCall, probes, propagateCall, removals, round, roundBudget, tightenings, upwards}
 use Rattle.round.proofs.RoundLaws.{accepts-probe, accepts-propagation, change-append, run-append}
 use Rattle.round.proofs.SpentLaws.{spent-append}
 
@@ -108,10 +108,10 @@ module _ (s : State) (v : ValidState s) (p : NonEmpty (s .model .n) (s .model .b
   unfolding propagateCall UnmovedQuiet callOf kindOf act withBox answersNone
   quiet w =
       let M = s .model in
-      let c = callOf s 2 0 0 1000 in
+      let c = callOf s 2 0 0 roundBudget in
       let e = accepts-propagation v in
       let q = still-first w in
-      unmoved-quiet 1000 (M .n) (M .m) (M .rows) (M .box) (v .model .some) p (omega arith)
+      unmoved-quiet roundBudget (M .n) (M .m) (M .rows) (M .box) (v .model .some) p (omega arith)
       (rw (perform-accepted s c e) at (q .1))
       (ap (λ (r : State). r .model .box) (sym (step-accepted s c e) ∙ q .0))
 
@@ -121,12 +121,12 @@ module _ (s : State) (v : ValidState s) (p : NonEmpty (s .model .n) (s .model .b
   spans k h f w =
       let M = s .model in
       let g = T→true (isFree (M .box) k) f in
-      let c = callOf s 3 0 k 1000 in
+      let c = callOf s 3 0 k roundBudget in
       let e = accepts-probe v h g in
       let u : Still s (c ∷ []) = rw g at w in
       let q = still-first u in
       let z = or-l (sideSpent (perform s c .answer)) false (u .unspent) in
-      unmoved-spans k 1000 (M .n) (M .m) (M .rows) (M .box) (s .table) h p f
+      unmoved-spans k roundBudget (M .n) (M .m) (M .rows) (M .box) (s .table) h p f
       (rw (perform-accepted s c e) at (q .1))
       (false→T _ (rw (perform-accepted s c e) at z))
       (ap (λ (r : State). r .model .box) (sym (step-accepted s c e) ∙ q .0))

@@ -2,7 +2,7 @@
 use Prim.Native.Nat.{_*_, _+_, _-_, _<_, _≤_, suc, zero, ℕ}
 use lib.Dec.{T, eqb, eqb→eq}
 use lib.IntN.{ℤ}
-use lib.ListN.{length}
+use lib.ListN.{length, replicate}
 use mathlib.Core.Bool.{Bool, _&&_, _||_, cond, false, not, or-assoc, or-false, or-true, true}
 use mathlib.Core.List.{List, [], _++_, _∷_, append-assoc}
 use mathlib.Core.Logic.{⊎-elim}
@@ -12,9 +12,10 @@ use native.Mathlib.Omega.{arith}
 use Rattle.integer.proofs.Tests.{cond-ind, T→false, decide, true→T}
 use Rattle.model.specs.Box.{isEmpty, at, isFree}
 use Rattle.semantics.specs.Perform.{act, perform}
-use Rattle.model.specs.Valid.{ValidState}
+use Rattle.model.specs.Valid.{ValidModel, ValidState, ValidTable}
 use Rattle.semantics.specs.Run.{CallClass, classOf, run, step, isRefused}
-use Rattle.model.specs.Rows.{rowAt, rowOf, setRow}
+use Rattle.model.specs.Model.{Model, modelOf}
+use Rattle.model.specs.Rows.{Rows, rowAt, rowOf}
 use Rattle.row.specs.Activity.{maxActivity}
 use Rattle.row.specs.Outcome as outcomes
 use Rattle.row.specs.Outcome.{isChanged, isInfeasible}
@@ -26,11 +27,12 @@ use Rattle.row_change.proofs.KindChangeLaws.{tighten-kinded-ind, tighten-kinded
 use Rattle.row_change.proofs.TighteningLaws.{tighten-fails}
 use Rattle.semantics.specs.CallChecks.{callFault}
 use Rattle.semantics.specs.Call.{Call, callOf, hasBudget, hasRow, hasTable, hasVariable, isUnknown, kindOf}
-use Rattle.model.specs.State.{State, withRow}
+use Rattle.model.specs.State.{State, stateOf}
 use Rattle.semantics.proofs.Accepted.{accepts, lent-own}
 use Rattle.semantics.proofs.CallLaws.{step-ind}
 use Rattle.semantics.proofs.Preserved.{Preserves, run-preserves}
-use Rattle.round.specs.Round.{andThen, anyChange, isChange, probes, propagateCall, removals, removeCall, round, tightenCall, tightenings, unlessEmpty, upwards}
+use Rattle.round.specs.Round.{andThen, anyChange, isChange, probes, propagateCall, removals, removeCall, round, roundBudget, tightenCall, tightenings, unlessEmpty, upwards}
+use Rattle.semantics.proofs.Demand3.{zeros-valid}
 use Rattle.semantics.proofs.ClassLaws.{classBy, tighten-class}
 use Rattle.semantics.proofs.RowChange.{row-valid, withRow-same}
 use Rattle.model.proofs.RowsLaws.{at-rowOf}
@@ -40,9 +42,9 @@ use Rattle.round.specs.TightenedAt.{TightenedAt}
 -- ---- the calls of a round are direct ones, and accepted
 
 module _ {s : State} (v : ValidState s) where
-  pub accepts-propagation : callFault s (callOf s 2 0 0 1000) ≡ 0
+  pub accepts-propagation : callFault s (callOf s 2 0 0 roundBudget) ≡ 0
   unfolding callOf kindOf hasRow hasVariable hasBudget hasTable isUnknown
-  accepts-propagation = accepts s (callOf s 2 0 0 1000) (record {
+  accepts-propagation = accepts s (callOf s 2 0 0 roundBudget) (record {
     lent = lent-own refl refl refl;
     model = v .model;
     table = λ _. v .table;
@@ -70,9 +72,9 @@ module _ {s : State} (v : ValidState s) where
     free-binary : T (isEmpty (s .model .n) (s .model .box) || isFree (s .model .box) k)
     free-binary = rw f (true→T (isEmpty (s .model .n) (s .model .box) || true) (or-true (isEmpty (s .model .n) (s .model .box))))
 
-    pub accepts-probe : callFault s (callOf s 3 0 k 1000) ≡ 0
+    pub accepts-probe : callFault s (callOf s 3 0 k roundBudget) ≡ 0
     unfolding callOf kindOf hasRow hasVariable hasBudget hasTable isUnknown
-    accepts-probe = accepts s (callOf s 3 0 k 1000) (record {
+    accepts-probe = accepts s (callOf s 3 0 k roundBudget) (record {
       lent = lent-own refl refl refl;
       model = v .model;
       table = λ _. v .table;
@@ -201,6 +203,22 @@ module _ {count i : ℕ} {f : ℕ → State → List Call} {s t : State} {b : Bo
   pub turns-lengths : SameLengths s t
   turns-lengths = same-lengths (w .made) (w .start)
 
+-- a loop that is lent no table: its turns, whatever the table is
+pub record AnyTurns (count : ℕ) (f : ℕ → State → List Call) (n m : ℕ) (B : List ℤ) (A A′ : Rows) (b : Bool) (i : ℕ) : Type 0 where
+  pub beside : (t : List ℕ) → ValidTable n t → Turns count f (stateOf n m B A t) (stateOf n m B A′ t) b i
+
+-- those beside a table all 0 tell of the rows
+module _ {count i : ℕ} {f : ℕ → State → List Call} {n m : ℕ} {B : List ℤ} {A A′ : Rows} {b : Bool} (w : AnyTurns count f n m B A A′ b i) where
+  pub any-within : i ≤ count
+  any-within = w .beside _ (zeros-valid n) .within
+
+  pub any-valid : ValidModel (modelOf n m B A′)
+  unfolding stateOf
+  any-valid = turns-valid (w .beside _ (zeros-valid n)) .model
+
+  pub any-lengths : SameLengths (stateOf n m B A (replicate (4 * (n * n)) 0)) (stateOf n m B A′ (replicate (4 * (n * n)) 0))
+  any-lengths = turns-lengths (w .beside _ (zeros-valid n))
+
 -- ---- a coefficient that fails the rule's test
 
 -- a class other than changed
@@ -254,37 +272,29 @@ module _ (s : State) (r k : ℕ) where
       go false q = no-call s
 
 -- what is asked where the greatest activity of a row is found, and where a coefficient is tested
-module _ {s : State} (v : ValidState s) {r : ℕ} (h : r < s .model .m) where
-  pub row-ready : (r * s .model .n + s .model .n ≤ length (s .model .rows .coefs)) × ValidCoefs (s .model .n) (rowOf (s .model .n) (s .model .rows .coefs) r) (s .model .box)
-  row-ready = (row-fits (v .model) r h, row-valid (s .model) r (v .model) h .coefs)
+module _ {M : Model} (v : ValidModel M) {r : ℕ} (h : r < M .m) where
+  pub row-ready : (r * M .n + M .n ≤ length (M .rows .coefs)) × ValidCoefs (M .n) (rowOf (M .n) (M .rows .coefs) r) (M .box)
+  row-ready = (row-fits v r h, row-valid M r v h .coefs)
 
-  pub looked-at : {k : ℕ} {most : ℤ} → k < s .model .n → most ≡ maxActivity (s .model .n) (rowOf (s .model .n) (s .model .rows .coefs) r) (s .model .box)
-      → TightenedAt (s .model .n) (s .model .box) (s .model .rows .coefs) (s .model .rows .rhs) r k most
+  pub looked-at : {k : ℕ} {most : ℤ} → k < M .n → most ≡ maxActivity (M .n) (rowOf (M .n) (M .rows .coefs) r) (M .box)
+      → TightenedAt (M .n) (M .box) (M .rows .coefs) (M .rows .rhs) r k most
   looked-at {k} i e = record {
-    box = omega (arith, v .model .box .len);
+    box = omega (arith, v .box .len);
     coefs = omega (arith, row-ready .0);
-    rhs = rw (v .model .rhsLen) h;
-    coef = rw (sym (at-rowOf (s .model .n) (s .model .rows .coefs) r k i)) (coefs-small (row-ready .1) k);
+    rhs = rw (v .rhsLen) h;
+    coef = rw (sym (at-rowOf (M .n) (M .rows .coefs) r k i)) (coefs-small (row-ready .1) k);
     small = rw e (max-activity-small (row-ready .1));
   }
 
 -- ---- the phases of a round
 
--- the removal of a row leaves the box
-remove-box : (s : State) (r : ℕ) → step s (callOf s 5 r 0 0) .model .box ≡ s .model .box
-unfolding act callOf kindOf withRow setRow
-remove-box s r = step-ind s (callOf s 5 r 0 0) (λ u. u .model .box ≡ s .model .box) (λ _. refl) refl
-
--- so the box of a loop over removals stays one that is not empty
+-- the turn of a row to be removed, in a box that is not empty
 pub remove-turn : {count r : ℕ} {s t u : State} {k : CallClass} {b d e : Bool}
     → Turns count removeCall s t b r → isEmpty (t .model .n) (t .model .box) ≡ false → r < count
     → (k ≡ classOf t (callOf t 5 r 0 0)) × (u ≡ step t (callOf t 5 r 0 0)) → d ≡ isChange k → e ≡ (b || d)
-    → Turns count removeCall s u e (r + 1) × (isEmpty (t .model .n) (u .model .box) ≡ false)
+    → Turns count removeCall s u e (r + 1)
 unfolding removeCall unlessEmpty
-remove-turn {count} {r} {t = t} w z h o g k = (
-  turn count removeCall w h (rw z (one-call (callOf t 5 r 0 0) o g)) k,
-  ap (λ (B : List ℤ). isEmpty (t .model .n) B) (ap (λ (x : State). x .model .box) (o .1) ∙ remove-box t r) ∙ z,
-)
+remove-turn {count} {r} {t = t} w z h o g = turn count removeCall w h (rw z (one-call (callOf t 5 r 0 0) o g))
 
 -- "at None" no row is removed
 no-calls : (count : ℕ) (f : ℕ → State → List Call) (s : State) → ((i : ℕ) → f i s ≡ []) → upwards count f s ≡ []

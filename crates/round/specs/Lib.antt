@@ -1,3 +1,4 @@
 pub mod Round
+pub mod Phase
 pub mod TightenedAt
 pub mod Rest

@@ -23,9 +23,13 @@ upwards (suc count) f s = andThen (upwards count f) (f count) s
 unfoldable pub unlessEmpty : (State → List Call) → State → List Call
 unlessEmpty f s = cond (isEmpty (s .model .n) (s .model .box)) [] (f s)
 
--- 01's settle, with 1,000 passes
+-- "with 1,000 passes", "with 1,000": the budget of a round's propagation, and of each side of its probes
+abbrev pub roundBudget : ℕ
+roundBudget = 1000
+
+-- 01's settle
 unfoldable pub propagateCall : State → List Call
-propagateCall s = callOf s 2 0 0 1000 ∷ []
+propagateCall s = callOf s 2 0 0 roundBudget ∷ []
 
 -- 01's drop of row r
 unfoldable pub removeCall : ℕ → State → List Call
@@ -36,7 +40,7 @@ unfoldable pub tightenCall : ℕ → ℕ → State → List Call
 tightenCall r k s = cond (isFree (s .model .box) k) (callOf s 4 r k 0 ∷ []) []
 
 unfoldable pub probeCall : ℕ → State → List Call
-probeCall k s = cond (isFree (s .model .box) k) (callOf s 3 0 k 1000 ∷ []) []
+probeCall k s = cond (isFree (s .model .box) k) (callOf s 3 0 k roundBudget ∷ []) []
 
 unfoldable pub removals : State → List Call
 removals s = upwards (s .model .m) removeCall s

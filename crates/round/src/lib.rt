@@ -20,12 +20,14 @@ ghost use Prim.Native.Nat.{_*_, _+_, _<_};
 ghost use Rattle.model.specs.Box.{at, isFree};
 ghost use Rattle.probing.specs.Marked.{Marked};
 ghost use Rattle.row_change.specs.Tightening.{mayTighten};
-ghost use Rattle.model.specs.Valid.{ValidState};
+ghost use Rattle.model.specs.Model.{modelOf};
+ghost use Rattle.model.specs.Valid.{ValidModel, ValidState};
 ghost use Rattle.semantics.specs.Run.{run as ran};
 ghost use Rattle.semantics.specs.Unmoved.{anySpent};
 ghost use Rattle.call.specs.Classes.{classIs};
 ghost use Rattle.model.specs.Rows.{rowsOf};
 ghost use Rattle.model.specs.State.{stateOf};
+ghost use Rattle.round.specs.Phase.{Phase};
 ghost use Rattle.round.specs.TightenedAt.{TightenedAt};
 ghost use Rattle.round.specs.Round.{anyChange, isChange, probes, removals, round as roundOf};
 ghost use Rattle.round.specs.Round.{tightenRow, tightenings};
@@ -57,19 +59,12 @@ fn remove_rows(
     coefs: &mut [i32],
     rhs: &mut [i32],
     kinds: &mut [u8],
-    table: &[u8],
 ) -> bool
-    requires { ⌜ ValidState (stateOf n m (now bounds) (rowsOf (now coefs) (now rhs) (now kinds)) (now table)) ⌝ }
-    ensures left { λ r.
+    requires { ⌜ ValidModel (modelOf n m (now bounds) (rowsOf (now coefs) (now rhs) (now kinds))) ⌝ }
+    ensures { λ r.
         let A = rowsOf (now (coefs .entry)) (now (rhs .entry)) (now (kinds .entry)) in
         let A' = rowsOf (now (coefs .exit)) (now (rhs .exit)) (now (kinds .exit)) in
-        let s = stateOf n m (now (bounds .entry)) A (now (table .entry)) in
-        let r' = stateOf n m (now (bounds .entry)) A' (now (table .entry)) in
-        ⌜ r' ≡ ran s (removals s) ⌝ }
-    ensures changed { λ r.
-        let A = rowsOf (now (coefs .entry)) (now (rhs .entry)) (now (kinds .entry)) in
-        let s = stateOf n m (now (bounds .entry)) A (now (table .entry)) in
-        ⌜ r ≡ anyChange s (removals s) ⌝ }
+        ⌜ Phase removals n m (now (bounds .entry)) A A' r ⌝ }
 {
     if boxes::is_empty(bounds) {
         return false;
@@ -118,21 +113,14 @@ fn tighten_row(
     coefs: &mut [i32],
     rhs: &mut [i32],
     kinds: &[u8],
-    table: &[u8],
     row: u32,
 ) -> bool
     requires { ⌜ row < m ⌝ }
-    requires { ⌜ ValidState (stateOf n m (now bounds) (rowsOf (now coefs) (now rhs) (now kinds)) (now table)) ⌝ }
-    ensures left { λ r.
+    requires { ⌜ ValidModel (modelOf n m (now bounds) (rowsOf (now coefs) (now rhs) (now kinds))) ⌝ }
+    ensures { λ r.
         let A = rowsOf (now (coefs .entry)) (now (rhs .entry)) (now (kinds .entry)) in
         let A' = rowsOf (now (coefs .exit)) (now (rhs .exit)) (now (kinds .entry)) in
-        let s = stateOf n m (now (bounds .entry)) A (now (table .entry)) in
-        let r' = stateOf n m (now (bounds .entry)) A' (now (table .entry)) in
-        ⌜ r' ≡ ran s (tightenRow row s) ⌝ }
-    ensures changed { λ r.
-        let A = rowsOf (now (coefs .entry)) (now (rhs .entry)) (now (kinds .entry)) in
-        let s = stateOf n m (now (bounds .entry)) A (now (table .entry)) in
-        ⌜ r ≡ anyChange s (tightenRow row s) ⌝ }
+        ⌜ Phase (tightenRow row) n m (now (bounds .entry)) A A' r ⌝ }
 {
     let mut most = maximum_activity_at(n, coefs, row as usize, bounds);
     let mut changed = false;
@@ -166,24 +154,17 @@ fn tighten_rows(
     coefs: &mut [i32],
     rhs: &mut [i32],
     kinds: &[u8],
-    table: &[u8],
 ) -> bool
-    requires { ⌜ ValidState (stateOf n m (now bounds) (rowsOf (now coefs) (now rhs) (now kinds)) (now table)) ⌝ }
-    ensures left { λ r.
+    requires { ⌜ ValidModel (modelOf n m (now bounds) (rowsOf (now coefs) (now rhs) (now kinds))) ⌝ }
+    ensures { λ r.
         let A = rowsOf (now (coefs .entry)) (now (rhs .entry)) (now (kinds .entry)) in
         let A' = rowsOf (now (coefs .exit)) (now (rhs .exit)) (now (kinds .entry)) in
-        let s = stateOf n m (now (bounds .entry)) A (now (table .entry)) in
-        let r' = stateOf n m (now (bounds .entry)) A' (now (table .entry)) in
-        ⌜ r' ≡ ran s (tightenings s) ⌝ }
-    ensures changed { λ r.
-        let A = rowsOf (now (coefs .entry)) (now (rhs .entry)) (now (kinds .entry)) in
-        let s = stateOf n m (now (bounds .entry)) A (now (table .entry)) in
-        ⌜ r ≡ anyChange s (tightenings s) ⌝ }
+        ⌜ Phase tightenings n m (now (bounds .entry)) A A' r ⌝ }
 {
     let mut changed = false;
     let mut r: u32 = 0;
     while (r as usize) < m {
-        if tighten_row(n, m, bounds, coefs, rhs, kinds, table, r) {
+        if tighten_row(n, m, bounds, coefs, rhs, kinds, r) {
             changed = true;
         }
         r += 1;
@@ -325,10 +306,10 @@ pub fn round(
 {
     let propagation = propagate(n, m, bounds, coefs, rhs, kinds, PASSES);
     let mut changed = is_changed(class_of_propagation(propagation));
-    if remove_rows(n, m, bounds, coefs, rhs, kinds, table) {
+    if remove_rows(n, m, bounds, coefs, rhs, kinds) {
         changed = true;
     }
-    if tighten_rows(n, m, bounds, coefs, rhs, kinds, table) {
+    if tighten_rows(n, m, bounds, coefs, rhs, kinds) {
         changed = true;
     }
     let probing = probe_variables(n, m, bounds, coefs, rhs, kinds, table);

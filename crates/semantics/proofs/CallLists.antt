@@ -212,7 +212,7 @@ valid-lengths : (s : State) → ValidState s → lengthsOf s ≡ record { box = 
 unfolding lengthsOf
 valid-lengths s v = rw (v .model .box .len, v .model .coefsLen, v .model .rhsLen, v .model .kindsLen, v .table .len)
 
-same-record : {s r : State} (xs : List ℕ) (i : ℕ) → ValidState s → ValidState r → (s .model .n ≡ r .model .n) × (s .model .m ≡ r .model .m) → recordAt r xs i ≡ recordAt s xs i
+pub same-record : {s r : State} (xs : List ℕ) (i : ℕ) → ValidState s → ValidState r → (s .model .n ≡ r .model .n) × (s .model .m ≡ r .model .m) → recordAt r xs i ≡ recordAt s xs i
 unfolding recordAt
 same-record {s} {r} xs i v w e = rw (valid-lengths s v, valid-lengths r w, e .0, e .1)
 

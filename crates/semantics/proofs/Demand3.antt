@@ -25,7 +25,7 @@ use Rattle.semantics.proofs.Preserved.{Preserves, narrowed-inside, narr
 
 -- ---- the models that are handed in
 
-zeros-valid : (n : ℕ) → ValidTable n (replicate (4 * (n * n)) 0)
+pub zeros-valid : (n : ℕ) → ValidTable n (replicate (4 * (n * n)) 0)
 zeros-valid n = let z : ℕ = 0 in
     record { len = length-replicate (4 * (n * n)) z; bits = λ i. let e = getD-zeros (4 * (n * n)) i in omega arith }
 

@@ -1,9 +1,9 @@
 // The workspace of a prepared model: a lent buffer of 32-bit numbers. Whatever it holds, what is read from it is in
 // range; whether it was written by us is asked of its length and head alone.
 ghost use mathlib.Core.Path.{_≡_};
-ghost use Prim.Native.Nat.{ℕ, _*_, _+_, _≤_};
+ghost use Prim.Native.Nat.{ℕ, _*_, _+_, _<_, _≤_};
 ghost use lib.IntN.{negℤ, pos, _+ℤ_};
-ghost use lib.ListN.{drop, length, take};
+ghost use lib.ListN.{drop, getD, length, take};
 ghost use lib.Signed.{_≤ℤ_};
 ghost use Rattle.model.specs.Box.{at};
 ghost use Rattle.model.specs.Limits.{maxBound, minBound};
@@ -12,6 +12,21 @@ ghost use Rattle.workspace.specs.Kept.{SameBut};
 ghost use Rattle.workspace.specs.Layout.{boundOf, boxIn, dirtyOf, isOurs, workspaceLen};
 
 pub const WORKSPACE_LEN: usize = 16_768;
+
+// Where the rows to look at stand in it.
+pub const SET_AT: usize = 4;
+
+// The box that is kept.
+pub const BOX_AT: usize = 8;
+
+// The right side and the kind of each row.
+pub const SIDES_AT: usize = 264;
+
+// The rows that hear of each variable.
+pub const HEARERS_AT: usize = 384;
+
+// The words of the rows.
+pub const ROWS_AT: usize = 1_408;
 
 // "AST1", as bytes.
 pub const OUR_MARK: u32 = 827_609_921;
@@ -42,17 +57,12 @@ fn bound(word: u32) -> i32
     ((word % 65_536) as i32) - 32_768
 }
 
-// The box that is kept.
-pub fn read_box(ws: &[u32], bounds: &mut [i32])
-    requires { ⌜ (length (now ws) ≡ workspaceLen) × (length (now bounds) ≤ 256) ⌝ }
-    ensures { λ _.
-        ⌜ ((n : ℕ) → length (now (bounds .entry)) ≡ 2 * n → now (bounds .exit) ≡ boxIn n (now (ws .entry))) ⌝ }
+// Number i of the box that is kept.
+pub fn kept_bound(ws: &[u32], i: usize) -> i32
+    requires { ⌜ (length (now ws) ≡ workspaceLen) × (i < 256) ⌝ }
+    ensures { λ r. ⌜ r ≡ boundOf (getD (now (ws .entry)) (8 + i) 0) ⌝ }
 {
-    let mut i = 0;
-    while i < bounds.len() {
-        bounds[i] = bound(ws[8 + i]);
-        i += 1;
-    }
+    bound(ws[BOX_AT + i])
 }
 
 // Writes numbers from a place on.
@@ -76,7 +86,7 @@ pub fn keep_set(dirty: &[u32], ws: &mut [u32])
     ensures kept { λ _. ⌜ dirtyOf (now (ws .exit)) ≡ now (dirty .entry) ⌝ }
     ensures others { λ _. ⌜ SameBut 4 8 (now (ws .entry)) (now (ws .exit)) ⌝ }
 {
-    put(dirty, 4, ws);
+    put(dirty, SET_AT, ws);
 }
 
 // z + by, which is not below 0.
@@ -97,7 +107,7 @@ pub fn keep_box(bounds: &[i32], ws: &mut [u32])
 {
     let mut i = 0;
     while i < bounds.len() {
-        ws[8 + i] = raised(bounds[i], 32_768);
+        ws[BOX_AT + i] = raised(bounds[i], 32_768);
         i += 1;
     }
 }

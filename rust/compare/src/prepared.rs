@@ -34,6 +34,14 @@ impl Operation {
         }
     }
 
+    /// How many propagations it tells of.
+    fn sides(self) -> usize {
+        match self {
+            Operation::Propagate { .. } => 1,
+            Operation::Probe { .. } => 2,
+        }
+    }
+
     fn name(self) -> &'static str {
         match self {
             Operation::Propagate { .. } => "propagate",
@@ -45,7 +53,7 @@ impl Operation {
 /// The checks of the call that prepares, in their order.
 const PREPARE_CHECKS: [u32; 8] = [3, 5, 6, 7, 23, 8, 9, 16];
 
-/// What a call on a prepared model can be lent, owned. A propagation has no table, a probe no reasons.
+/// What a call on a prepared model can be lent, owned. A propagation has no table.
 #[derive(Clone, Debug, PartialEq, Eq)]
 pub struct Lent {
     pub workspace: Vec<u32>,
@@ -131,7 +139,7 @@ pub struct Coverage {
 }
 
 /// What a long enough run must have met.
-const MET: [&str; 28] = [
+const MET: [&str; 33] = [
     "down",
     "again",
     "up",
@@ -157,6 +165,11 @@ const MET: [&str; 28] = [
     "probe: fixed",
     "probe: both feasible",
     "probe: a side spent",
+    "probe: no reasons asked for",
+    "probe: infeasible, the box was empty",
+    "probe: a bound moved in one side alone",
+    "probe: a bound moved by another row in each side",
+    "probe: bounds moved in an infeasible side",
     "after an infeasible call",
     "after a budget was spent",
     "another workspace's content",
@@ -439,10 +452,9 @@ impl<B: Backend> Walk<'_, B> {
 
     /// The buffers of a call, full of what no call leaves there.
     fn lend(&mut self, operation: Operation, workspace: Vec<u32>, bounds: Vec<i32>) -> Lent {
-        let reasons = match operation {
-            Operation::Propagate { .. } if self.rng.chance(80) => vec![0x5a5a_5a5a; bounds.len()],
-            _ => vec![],
-        };
+        let sides = operation.sides();
+        let told = if self.rng.chance(80) { sides * bounds.len() } else { 0 };
+        let reasons = vec![0x5a5a_5a5a; told];
         let table = match operation {
             Operation::Probe { .. } => self.table.clone(),
             Operation::Propagate { .. } => vec![],
@@ -483,19 +495,29 @@ impl<B: Backend> Walk<'_, B> {
                 calls::probe(*n, *m, bounds, coefs, rhs, kinds, table, variable, budget, answer)
             }
         };
-        if matches!(operation, Operation::Propagate { .. }) {
-            answer[3] = after.answer[3];
-            assert_eq!(
-                after.answer[3] != u64::from(NO_ROW),
-                after.answer[0] == 0 && !is_empty(&before.bounds)
-            );
-        }
+        let infeasible = infeasible_sides(operation, before, after);
+        let rows = match operation {
+            Operation::Propagate { .. } => 3..4,
+            Operation::Probe { .. } => 8..10,
+        };
+        answer[rows.clone()].copy_from_slice(&after.answer[rows.clone()]);
+        let told: Vec<bool> =
+            after.answer[rows].iter().map(|&row| row != u64::from(NO_ROW)).collect();
+        assert_eq!(told, infeasible, "{before:?}");
         assert_eq!((said, &*answer, &*bounds), (0, &after.answer, &after.bounds), "{before:?}");
         assert_eq!(*table, after.table, "{before:?}");
-        if after.answer[0] != 0 {
-            for (i, &reason) in after.reasons.iter().enumerate() {
-                assert_eq!(reason != NO_ROW, before.bounds[i] != after.bounds[i], "{before:?}");
-            }
+        if after.answer[0] == 0 || after.reasons.is_empty() {
+            return;
+        }
+        // A bound moved exactly if it moved in each side that is feasible; a probed variable is set by its sides.
+        let probed = match operation {
+            Operation::Propagate { .. } => None,
+            Operation::Probe { variable, .. } => Some(variable as usize),
+        };
+        for i in (0..bounds.len()).filter(|i| Some(i / 2) != probed) {
+            let mut sides = after.reasons.chunks(bounds.len()).zip(&infeasible);
+            let moved = sides.all(|(side, &infeasible)| infeasible || side[i] != NO_ROW);
+            assert_eq!(moved, before.bounds[i] != after.bounds[i], "{before:?}");
         }
     }
 
@@ -513,6 +535,7 @@ impl<B: Backend> Walk<'_, B> {
             if after.answer[3] + after.answer[6] > 0 {
                 self.coverage.met("probe: a side spent");
             }
+            self.note_sides(before, after);
             self.last = None;
             return;
         }
@@ -538,6 +561,31 @@ impl<B: Backend> Walk<'_, B> {
         }
         if told.clone().any(|&row| self.model.kinds[row as usize] == 1) {
             self.coverage.met("propagate: bounds moved by an = row");
+        }
+    }
+
+    /// Counts what the reasons of an accepted probe met.
+    fn note_sides(&mut self, before: &Lent, after: &Lent) {
+        if is_empty(&before.bounds) {
+            self.coverage.met("probe: infeasible, the box was empty");
+        }
+        if before.reasons.is_empty() {
+            self.coverage.met("probe: no reasons asked for");
+            return;
+        }
+        let (zero, one) = after.reasons.split_at(before.bounds.len());
+        if after.answer[0] == 2
+            && zero.iter().zip(one).any(|(a, b)| (*a == NO_ROW) != (*b == NO_ROW))
+        {
+            self.coverage.met("probe: a bound moved in one side alone");
+        }
+        if zero.iter().zip(one).any(|(a, b)| a != b && *a != NO_ROW && *b != NO_ROW) {
+            self.coverage.met("probe: a bound moved by another row in each side");
+        }
+        let rows = &after.answer[8..10];
+        let moved = [zero, one].map(|side| side.iter().any(|&row| row != NO_ROW));
+        if rows.iter().zip(moved).any(|(&row, moved)| row != u64::from(NO_ROW) && moved) {
+            self.coverage.met("probe: bounds moved in an infeasible side");
         }
     }
 
@@ -608,8 +656,14 @@ impl<B: Backend> Walk<'_, B> {
         match rng.between(0, 6) {
             0 => resize(rng, &mut lent.bounds),
             1 => resize(rng, &mut lent.answer),
-            2 if probe => resize(rng, &mut lent.table),
-            2 => lent.reasons = vec![7; 2 * self.prepared.n + rng.pick(&[1, 2])],
+            2 if probe && rng.chance(50) => resize(rng, &mut lent.table),
+            2 => {
+                // One or two too many; of a probe also the room of one side.
+                let n = self.prepared.n;
+                let needed = 2 * operation.sides() * n;
+                let one_side = if probe { 2 * n } else { needed + 1 };
+                lent.reasons = vec![7; rng.pick(&[needed + 1, needed + 2, one_side])];
+            }
             3 => {
                 resize(rng, &mut lent.workspace);
                 return false;
@@ -686,7 +740,7 @@ fn compare(
                 prepared::propagate(prepared, bounds, budget, reasons, answer)
             }
             Operation::Probe { variable, budget } => {
-                prepared::probe(prepared, bounds, table, variable, budget, answer)
+                prepared::probe(prepared, bounds, table, variable, budget, reasons, answer)
             }
         }
     };
@@ -709,6 +763,16 @@ fn compare(
          {right}\n{rows}",
         lent.bounds
     ))
+}
+
+/// Of each side of an accepted call whether a row of it was infeasible: none is in the empty box.
+fn infeasible_sides(operation: Operation, before: &Lent, after: &Lent) -> Vec<bool> {
+    let tried = !is_empty(&before.bounds);
+    match (operation, after.answer[0]) {
+        (_, 0) => vec![tried; operation.sides()],
+        (Operation::Probe { .. }, 1) => vec![after.answer[1] == 1, after.answer[1] == 0],
+        _ => vec![false; operation.sides()],
+    }
 }
 
 fn any<'a, T>(rng: &mut Rng, buffer: &'a mut [T]) -> &'a mut T {

@@ -29,6 +29,10 @@ enum Bug {
     InfeasibleRowBlamed,
     InfeasibleRowIsTheLast,
     ProbeKeepsASide,
+    ProbeTellsOneSide,
+    ProbeSidesSwapped,
+    ProbeRowsSwapped,
+    ProbeTakesRoomOfOneSide,
     WritesBeyond,
     RowsOfAnother,
 }
@@ -185,11 +189,16 @@ impl Incremental {
     }
 
     fn probe(&self, loan: Loan, variable: u32, budget: u32) -> u32 {
-        let Loan { workspace: ws, bounds, table, answer, .. } = loan;
+        let Loan { workspace: ws, bounds, reasons, table, answer } = loan;
         if !self.is_ours(ws) {
             return 5;
         }
-        let Prepared { n, coefs, rhs, kinds } = rows(ws);
+        let prepared = rows(ws);
+        let one_side = self.0 == Bug::ProbeTakesRoomOfOneSide && reasons.len() == 2 * prepared.n;
+        if !reasons.is_empty() && reasons.len() != 4 * prepared.n && !one_side {
+            return 5;
+        }
+        let Prepared { n, coefs, rhs, kinds } = prepared.clone();
         let before = bounds.to_vec();
         let said = calls::probe(
             n,
@@ -203,12 +212,46 @@ impl Incremental {
             budget,
             answer,
         );
+        if said == 0 {
+            self.tell_sides(&prepared, &before, variable, budget, reasons, answer);
+        }
         if said == 0 && answer[0] != 0 && !bounds::is_empty(&before) {
             let kept = if self.0 == Bug::ProbeKeepsASide { before } else { bounds.to_vec() };
             let set = if self.0 == Bug::ProbeKeepsASide { 0 } else { 1 };
             self.keep(ws, &kept, &[set; 120]);
         }
         said
+    }
+}
+
+impl Incremental {
+    /// The reasons and the infeasible row of each side, from passes over all rows.
+    fn tell_sides(
+        &self,
+        prepared: &Prepared,
+        before: &[i32],
+        variable: u32,
+        budget: u32,
+        reasons: &mut [u32],
+        answer: &mut [u64],
+    ) {
+        reasons.fill(NO_ROW);
+        answer[8..10].fill(NO_ROW.into());
+        if bounds::is_empty(before) {
+            return;
+        }
+        let (zero, one) = reasons.split_at_mut(reasons.len() / 2);
+        for (value, told) in [zero, one].into_iter().enumerate() {
+            if self.0 == Bug::ProbeTellsOneSide && value == 1 {
+                continue;
+            }
+            let swapped = |bug| if self.0 == bug { 1 - value } else { value };
+            let mut side = before.to_vec();
+            side[2 * variable as usize..][..2].fill(swapped(Bug::ProbeSidesSwapped) as i32);
+            let m = prepared.rhs.len();
+            let ended = self.passes(prepared.rows(), m, &mut side, budget, &mut [1; 120], told);
+            answer[8 + swapped(Bug::ProbeRowsSwapped)] = ended[3];
+        }
     }
 }
 
@@ -270,6 +313,10 @@ fn catches_each_broken_copy() {
         InfeasibleRowBlamed,
         InfeasibleRowIsTheLast,
         ProbeKeepsASide,
+        ProbeTellsOneSide,
+        ProbeSidesSwapped,
+        ProbeRowsSwapped,
+        ProbeTakesRoomOfOneSide,
         WritesBeyond,
         RowsOfAnother,
     ] {

@@ -137,16 +137,45 @@ pub fn propagate(
     })
 }
 
-/// The probe of the rows that were prepared: after 5, 6, 7 and 23 its own checks, as on a model.
+/// What side `value` of a probe tells, "the box with k set to v"; of the empty box no side is tried.
+fn trace_side(lent: &[i32], rows: Rows, variable: usize, value: i32, budget: u32) -> Traced {
+    let mut side = lent.to_vec();
+    if !bounds::is_empty(lent) {
+        side[2 * variable..][..2].fill(value);
+    }
+    trace(&mut side, rows, budget)
+}
+
+/// The probe of the rows that were prepared: after 5, 6, 7 and 23 its own checks, as on a model. `reasons` has a number
+/// for each bound of side 0 and then for each of side 1, or none; the infeasible rows of the sides stand after the
+/// places of a probe.
 pub fn probe(
     prepared: Option<&Prepared>,
     bounds: &mut [i32],
     table: &mut [u8],
     variable: u32,
     budget: u32,
+    reasons: &mut [u32],
     answer: &mut [u64],
 ) -> u32 {
-    let checked = ours(prepared, bounds, |n| vec![(table.len(), 4 * n * n)]);
-    let Ok(Prepared { n, coefs, rhs, kinds }) = checked else { return 5 };
-    calls::probe(*n, rhs.len(), bounds, coefs, rhs, kinds, table, variable, budget, answer)
+    let checked = ours(prepared, bounds, |n| {
+        let needed = if reasons.is_empty() { 0 } else { 4 * n };
+        vec![(table.len(), 4 * n * n), (reasons.len(), needed)]
+    });
+    let Ok(prepared) = checked else { return 5 };
+    let Prepared { n, coefs, rhs, kinds } = prepared;
+    let lent = bounds.to_vec();
+    let number =
+        calls::probe(*n, rhs.len(), bounds, coefs, rhs, kinds, table, variable, budget, answer);
+    if number != 0 {
+        return number;
+    }
+    let rows = prepared.rows();
+    let sides = [0, 1].map(|value| trace_side(&lent, rows, variable as usize, value, budget));
+    if !reasons.is_empty() {
+        reasons.copy_from_slice(&[&sides[0].reasons[..], &sides[1].reasons].concat());
+    }
+    answer[8] = sides[0].infeasible.into();
+    answer[9] = sides[1].infeasible.into();
+    0
 }

@@ -113,6 +113,62 @@ fn the_call_fills_the_reasons_or_is_lent_none() {
     }
 }
 
+/// What a probe of variable 0 tells in 4n numbers: its case and value, the reasons of each side, the infeasible rows.
+fn probed(rows: &Prepared, bounds: &mut [i32]) -> ([u64; 2], [Vec<u32>; 2], [u32; 2]) {
+    let (n, mut answer) = (rows.n, [7; 12]);
+    let (mut table, mut reasons) = (vec![0; 4 * n * n], vec![9; 4 * n]);
+    let said = prepared::probe(Some(rows), bounds, &mut table, 0, 9, &mut reasons, &mut answer);
+    assert_eq!((said, &answer[10..]), (0, &[0, 0][..]));
+    let sides = [&reasons[..2 * n], &reasons[2 * n..]].map(<[u32]>::to_vec);
+    ([answer[0], answer[1]], sides, [answer[8] as u32, answer[9] as u32])
+}
+
+#[test]
+fn each_side_of_a_probe_has_its_rows() {
+    // x + y ≤ 2, z ≤ y, x ≥ z: with x at 1 row 0 moves y; with x at 0 row 2 moves z. The box has none of it.
+    let rows = prepared(&[([1, 1, 0], 2, 0), ([0, -1, 1], 0, 0), ([-1, 0, 1], 0, 0)]);
+    let mut bounds = [0, 1, 0, 2, 0, 1];
+    let (case, sides, infeasible) = probed(&rows, &mut bounds);
+    assert_eq!((case[0], bounds), (2, [0, 1, 0, 2, 0, 1]));
+    assert_eq!(sides, [vec![NO, NO, NO, NO, NO, 2], vec![NO, NO, NO, 0, NO, NO]]);
+    assert_eq!(infeasible, [NO, NO]);
+    // y ≤ 1 + x by row 0 where x is 0, y ≤ 2 − x by row 1 where x is 1: both sides move y, each by its own row.
+    let rows = prepared(&[([-1, 1], 1, 0), ([1, 1], 2, 0)]);
+    let mut bounds = [0, 1, 0, 9];
+    let (_, sides, _) = probed(&rows, &mut bounds);
+    assert_eq!((sides, bounds), ([vec![NO, NO, NO, 0], vec![NO, NO, NO, 1]], [0, 1, 0, 1]));
+}
+
+#[test]
+fn an_infeasible_side_of_a_probe_has_its_row() {
+    // x ≤ y and x + y ≤ 1: x at 1 raises y by row 0, and then row 1 is infeasible.
+    let rows = prepared(&[([1, -1], 0, 0), ([1, 1], 1, 0)]);
+    let mut bounds = [0, 1, 0, 1];
+    let (case, sides, infeasible) = probed(&rows, &mut bounds);
+    assert_eq!((case, bounds), ([1, 0], [0, 0, 0, 1]));
+    assert_eq!(sides, [vec![NO; 4], vec![NO, NO, 0, NO]]);
+    assert_eq!(infeasible, [NO, 1]);
+    // 2x = 1 has no side, and the empty box tries none.
+    let rows = prepared(&[([3], 9, 0), ([2], 1, 1)]);
+    let mut bounds = [0, 1];
+    assert_eq!(probed(&rows, &mut bounds), ([0, 0], [vec![NO; 2], vec![NO; 2]], [1, 1]));
+    assert_eq!(probed(&rows, &mut bounds), ([0, 0], [vec![NO; 2], vec![NO; 2]], [NO, NO]));
+}
+
+#[test]
+fn a_probe_is_lent_room_for_both_sides_or_for_none() {
+    let rows = prepared(&[([2, 0], 5, 0), ([-1, 1], 0, 0)]);
+    for len in 0..10 {
+        let (mut bounds, mut table) = ([0, 1, 0, 1], [0; 16]);
+        let (mut reasons, mut answer) = (vec![9; len], [7; 12]);
+        let said =
+            prepared::probe(Some(&rows), &mut bounds, &mut table, 0, 9, &mut reasons, &mut answer);
+        assert_eq!(said, if len == 0 || len == 8 { 0 } else { 5 });
+        assert_eq!(reasons.contains(&9), said == 5);
+        assert_eq!(answer.contains(&7), said == 5);
+    }
+}
+
 #[test]
 fn the_order_of_the_checks() {
     let rows = prepared(&[([2, 0], 5, 0)]);
@@ -133,7 +189,7 @@ fn the_order_of_the_checks() {
     let probe = |ours: bool, bounds: &[i32], table: Vec<u8>, variable, budget| {
         let (mut bounds, mut table, mut answer) = (bounds.to_vec(), table, vec![0; 12]);
         let rows = ours.then_some(&rows);
-        prepared::probe(rows, &mut bounds, &mut table, variable, budget, &mut answer)
+        prepared::probe(rows, &mut bounds, &mut table, variable, budget, &mut [], &mut answer)
     };
     assert_eq!(probe(false, &[0, 1, 0, 1], vec![0; 16], 0, 1), 5);
     assert_eq!(probe(true, &[0, 40_000, 0, 1], vec![2; 15], 2, 0), 5);

@@ -69,6 +69,8 @@ impl Backend for Native {
                     table_len,
                     variable,
                     budget,
+                    reasons,
+                    reasons_len,
                     answer,
                     answer_len,
                 ),

@@ -11,7 +11,7 @@ use Rattle.row_change.specs.Answers.{removalOutcome}
 use Rattle.row_change.specs.KindChanges.{removeRowOf}
 use Rattle.semantics.specs.CallChecks.{callFault}
 use Rattle.semantics.specs.Perform.{Answer, act, perform, removed}
-use Rattle.semantics.specs.Call.{Call, callOf, hasRow, hasTable, kindOf}
+use Rattle.semantics.specs.Call.{Call, callOf, hasRow, kindOf}
 use Rattle.model.specs.State.{State, stateOf}
 use Rattle.model.specs.Model.{modelOf}
 use Rattle.reducer.specs.OpenCalls.{performed, removeAnswer}
@@ -29,9 +29,8 @@ before s = state s (rowsOf (s .args .coefs .now) (s .args .rhs .now) (s .args .k
 abbrev call : tie.Start → Call
 call s = callOf (before s) 5 (s .args .row) 0 0
 
-call-fault-requires : tie.Need-call-fault-requires
-unfolding kindOf hasTable
-call-fault-requires c κs = tt
+row-call-fault-requires : tie.Need-row-call-fault-requires
+row-call-fault-requires c κs = search needs
 
 same-length : tie.Need-same-length
 same-length c = search needs
@@ -46,7 +45,7 @@ returns : tie.Need-returns
 unfolding removeAnswer
 returns c =
     let s = c .before .before .before .before .before .before in
-    promised (before s) (before s) (call s) _ (perform-refused (before s) (call s) (c .before .call-fault .ensures) (c .if1 .taken))
+    promised (before s) (before s) (call s) _ (perform-refused (before s) (call s) (c .before .row-call-fault .ensures .1) (c .if1 .taken))
 
 -- the call is accepted: its row lies in the matrix
 module _ (c : tie.Else1) where
@@ -66,7 +65,7 @@ module _ (c : tie.Else1) where
   A = rowsOf (s .args .coefs .now) (s .args .rhs .now) (s .args .kinds .now)
 
   no-fault : callFault (before s) (call s) ≡ 0
-  no-fault = sym (c .before .call-fault .ensures) ∙ c .if1 .left
+  no-fault = sym (c .before .row-call-fault .ensures .1) ∙ c .if1 .left
 
   on : ValidModel (modelOf n (s .args .m) B A) × (r < s .args .m)
   unfolding kindOf hasRow
@@ -144,7 +143,7 @@ pub remove-redundant-row-spec : {M : Type 1} → statement M
 remove-redundant-row-spec =
     tie.close
     (tie.spec
-    call-fault-requires
+    row-call-fault-requires
     same-length
     same-length-2
     same-length-3

@@ -11,7 +11,7 @@ use Rattle.row_change.specs.Answers.{tighteningOutcome}
 use Rattle.row_change.specs.KindChanges.{tightenRowOf}
 use Rattle.semantics.specs.CallChecks.{callFault}
 use Rattle.semantics.specs.Perform.{Answer, act, perform, tightened}
-use Rattle.semantics.specs.Call.{Call, callOf, hasRow, hasTable, hasVariable, kindOf}
+use Rattle.semantics.specs.Call.{Call, callOf, hasRow, hasVariable, kindOf}
 use Rattle.model.specs.State.{State, stateOf}
 use Rattle.model.specs.Model.{modelOf}
 use Rattle.semantics.proofs.Accepted.{accepted}
@@ -30,9 +30,8 @@ before s = state s (rowsOf (s .args .coefs .now) (s .args .rhs .now) (s .args .k
 abbrev call : tie.Start → Call
 call s = callOf (before s) 4 (s .args .row) (s .args .variable) 0
 
-call-fault-requires : tie.Need-call-fault-requires
-unfolding kindOf hasTable
-call-fault-requires c κs = tt
+tightening-fault-requires : tie.Need-tightening-fault-requires
+tightening-fault-requires c κs = search needs
 
 same-length : tie.Need-same-length
 same-length c = search needs
@@ -44,7 +43,7 @@ returns : tie.Need-returns
 unfolding tightenAnswer
 returns c =
     let s = c .before .before .before .before .before in
-    promised (before s) (before s) (call s) _ (perform-refused (before s) (call s) (c .before .call-fault .ensures) (c .if1 .taken))
+    promised (before s) (before s) (call s) _ (perform-refused (before s) (call s) (c .before .tightening-fault .ensures) (c .if1 .taken))
 
 -- the call is accepted: its row lies in the matrix
 module _ (c : tie.Else1) where
@@ -64,7 +63,7 @@ module _ (c : tie.Else1) where
   A = rowsOf (s .args .coefs .now) (s .args .rhs .now) (s .args .kinds .now)
 
   no-fault : callFault (before s) (call s) ≡ 0
-  no-fault = sym (c .before .call-fault .ensures) ∙ c .if1 .left
+  no-fault = sym (c .before .tightening-fault .ensures) ∙ c .if1 .left
 
   on : ValidModel (modelOf n (s .args .m) B A) × (r < s .args .m)
   unfolding kindOf hasRow
@@ -137,7 +136,7 @@ pub tighten-coefficient-spec : {M : Type 1} → statement M
 tighten-coefficient-spec =
     tie.close
     (tie.spec
-    call-fault-requires
+    tightening-fault-requires
     same-length
     same-length-2
     returns

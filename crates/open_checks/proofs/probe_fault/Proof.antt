@@ -1,15 +1,16 @@
--- `open_checks::probe_fault`: the checks of model and table, then the record's, which look at neither rows nor table.
+-- `open_checks::probe_fault`: the checks of model and table, then those of variable and budget, which look at neither rows nor table.
 -- Assumes nothing.
 use borrow.Author.Needs.{needs}
 use mathlib.Core.Path.{_∙_, _≡_, sym}
 use Rattle.model.specs.Valid.{ValidModel}
 use Rattle.model.proofs.CheckLaws.{table-fault-none}
-use Rattle.semantics.specs.CallChecks.{lentTable, recordChecks}
-use Rattle.semantics.specs.Call.{callOf, hasTable, kindOf}
+use Rattle.semantics.specs.CallChecks.{lentTable}
+use Rattle.semantics.specs.Call.{hasTable, kindOf}
 use Rattle.model.specs.Rows.{rowsOf}
 use Rattle.model.specs.State.{State, stateOf}
 use Rattle.model.specs.Model.{modelOf}
 use Rattle.semantics.proofs.Accepted.{modelFaultOf}
+use Rattle.call.proofs.FieldLaws.{own-probe}
 use Rattle.open_checks.proofs.RefusalLaws.{model-refuses, own-fault}
 use Rattle.open_checks.proofs.probe_fault.Statement.{statement}
 use Rattle.open_checks.proofs.probe_fault.Tie as tie
@@ -37,16 +38,16 @@ valid c =
     table-fault-none (modelOf (a .n) (a .m) (a .bounds .now) (rowsOf (a .coefs .now) (a .rhs .now) (a .kinds .now))) (a .table .now) .0
     (sym (c .before .model-table-fault .ensures) ∙ c .if1 .left) .0
 
-record-fault-requires : tie.Need-record-fault-requires
-record-fault-requires c κs = (valid c .box, valid c .some)
+probe-fields-fault-requires : tie.Need-probe-fields-fault-requires
+probe-fields-fault-requires c κs = (valid c .box, valid c .some)
 
 returns-2 : tie.Need-returns-2
-unfolding recordChecks stateOf callOf
+unfolding stateOf
 returns-2 c =
     let e = c .before in
     let s = e .before .before .before .before in
-    own-fault (state s) 3 0 (s .args .variable) (s .args .budget) (fault-is (e .before)) (e .if1 .left) (c .record-fault .ensures)
+    own-fault (state s) 3 0 (s .args .variable) (s .args .budget) (fault-is (e .before)) (e .if1 .left) (c .probe-fields-fault .ensures ∙ own-probe (state s) (s .args .variable) (s .args .budget))
 
 pub probe-fault-spec : {M : Type 1} → statement M
 probe-fault-spec =
-    tie.close (tie.spec model-table-fault-requires returns record-fault-requires returns-2)
+    tie.close (tie.spec model-table-fault-requires returns probe-fields-fault-requires returns-2)

@@ -1,6 +1,6 @@
 -- `packed_row::reach_packed`: the invariant says that the sweep stands at a word that is read (`skipAt`), and that the sum and the
 -- greatest width are those of the terms so far; from word to word it passes only over terms that are 0. Assumes nothing.
-use Prim.Native.Nat.{_*_, _+_, _-_, _%_, _<_, _≤_, min, ℕ}
+use Prim.Native.Nat.{_*_, _+_, _-_, _%_, _<_, min, ℕ}
 use lib.IntN.{_*ℤ_, ℤ}
 use lib.ListN.{getD, length}
 use mathlib.Core.List.{List}
@@ -17,8 +17,8 @@ use Rattle.model.specs.Box.{at, lower, upper}
 use Rattle.row.specs.Activity.{greatest, minActivity, widestTerm}
 use Rattle.row.specs.Kinds.{signed}
 use Rattle.row.specs.ValidRow.{ValidCoefs}
-use Rattle.row.proofs.ReachLaws.{greatest-more, minTermAt, widthAt}
-use Rattle.row.proofs.RowLoops.{bounds-small, coefs-small, min-terms, turn, turn-fits}
+use Rattle.row.proofs.ReachLaws.{greatest-more, minTermAt, termWidth-within, widthAt}
+use Rattle.row.proofs.RowLoops.{bounds-small, coefs-small, min-terms, term-within, turn, turn-fits}
 use Rattle.row.proofs.SignedLaws.{sign-bits, sign-is, signed-bits, signed-coefs, signed-fits}
 use Rattle.sweep.specs.Steps.{Steps}
 use Rattle.sweep.proofs.StepLaws.{signed-steps, step-sum, step-widest}
@@ -81,12 +81,6 @@ module _ (h : tie.At-loop Inv-loop μ-loop) where
   small : Within 1_000_000 (at A j) × (Within 32_768 (lower B j) × Within 32_768 (upper B j))
   small = (coefs-small v j, (bounds-small v (2 * j), bounds-small v (2 * j + 1)))
 
-  l-is : toZ w32 (ofZ w32 (lower B j)) ≡ lower B j
-  l-is = toZ-ofZ {w = w32} (within-fits w32 tt (small .1 .0))
-
-  u-is : toZ w32 (ofZ w32 (upper B j)) ≡ upper B j
-  u-is = toZ-ofZ {w = w32} (within-fits w32 tt (small .1 .1))
-
   -- as far as it has come, and as far as it will
   here : j < length W → min j (length W) ≡ j
   here k = omega arith
@@ -116,49 +110,44 @@ module _ (c : tie.After-coef Inv-loop μ-loop) where
 mul-a : tie.Need-mul-a Inv-loop μ-loop
 mul-a c = a-fits c
 
-mul-low : tie.Need-mul-low Inv-loop μ-loop
-mul-low c = omega arith
-
-mul-low-2 : tie.Need-mul-low-2 Inv-loop μ-loop
-mul-low-2 c = omega arith
-
-shared-slice-copy-out-low : tie.Need-shared-slice-copy-out-low Inv-loop μ-loop
-shared-slice-copy-out-low c = omega arith
-
-mul-high : tie.Need-mul-high Inv-loop μ-loop
-mul-high c = omega arith
-
-add-high : tie.Need-add-high Inv-loop μ-loop
-add-high c = omega arith
-
-mul-high-2 : tie.Need-mul-high-2 Inv-loop μ-loop
-mul-high-2 c = omega arith
-
-shared-slice-copy-out-high : tie.Need-shared-slice-copy-out-high Inv-loop μ-loop
-shared-slice-copy-out-high c = omega arith
-
-term-requires : tie.Need-term-requires Inv-loop μ-loop
-term-requires c κs = let f = c .before .before in let h = head f in rw (a-is f, l-is h, u-is h) (small h)
+term-reach-requires : tie.Need-term-reach-requires Inv-loop μ-loop
+term-reach-requires c κs =
+    let h = head c in
+    (omega (arith, s h .pre .0 .few), omega (arith, s h .pre .0 .box .len), rw (a-is c) (small h .0), small h .1 .0, small h .1 .1)
 
 -- what the turn adds
-module _ (c : tie.After-term Inv-loop μ-loop) where
+module _ (c : tie.After-term-reach Inv-loop μ-loop) where
   abbrev found : tie.After-coef Inv-loop μ-loop
-  found = c .before .before .before
+  found = c .before
 
   abbrev top : tie.At-loop Inv-loop μ-loop
   top = head found
 
-  next : toZ w64 (ofZ w64 (c .term .result)) ≡ minTermAt (A top) (B top) (j top)
-  next = toZ-ofZ {w = w64} (record { sfits = c .term .ok }) ∙ (rw (a-is found, l-is top, u-is top) at (c .term .ensures))
+  found-least : c .term-reach .result .least ≡ minTermAt (A top) (B top) (j top)
+  found-least = rw (a-is found) at (c .term-reach .ensures .0)
+
+  next : toZ w64 (ofZ w64 (c .term-reach .result .least)) ≡ minTermAt (A top) (B top) (j top)
+  next = ap (λ (z : ℤ). toZ w64 (ofZ w64 z)) found-least
+      ∙ toZ-ofZ {w = w64} (within-fits w64 tt (term-within (small top .0) (small top .1 .0) (small top .1 .1)))
+
+  found-width : c .term-reach .result .widest ≡ widthAt (A top) (B top) (j top)
+  found-width = rw (a-is found) at (c .term-reach .ensures .1)
+
+  width-is : toZ w64 (ofZ w64 (c .term-reach .result .widest)) ≡ widthAt (A top) (B top) (j top)
+  width-is = ap (λ (z : ℤ). toZ w64 (ofZ w64 z)) found-width
+      ∙ toZ-ofZ {w = w64} (within-fits w64 tt (termWidth-within (small top .0) (small top .1 .0) (small top .1 .1)))
 
   so-far : toZ w64 (top .loop .least) ≡ total (j top) (minTermAt (A top) (B top))
   so-far = rw (here top (within found)) at (top .loop .inv .1)
 
 add-least : tie.Need-add-least Inv-loop μ-loop
-add-least c = let h = top c in turn-fits (min-terms (v h)) (j h) (so-far c) (next c) (within (found c))
+add-least c =
+    let t = c .before .before in
+    let h = top t in
+    turn-fits (min-terms (v h)) (j h) (so-far t) (next t) (within (found t))
 
-wider-requires : tie.Need-wider-requires Inv-loop μ-loop
-wider-requires c κs = let f = found c in let h = head f in rw (a-is f, l-is h, u-is h) (small h)
+greater-requires : tie.Need-greater-requires Inv-loop μ-loop
+greater-requires c κs = tt
 
 cast-j : tie.Need-cast-j Inv-loop μ-loop
 cast-j c = omega arith
@@ -167,22 +156,23 @@ add-j : tie.Need-add-j Inv-loop μ-loop
 add-j c = omega arith
 
 add-j-2 : tie.Need-add-j-2 Inv-loop μ-loop
-add-j-2 c = omega (arith, s (top (c .before)) .pre .0 .few)
+add-j-2 c = omega (arith, s (top (c .before .before .before .before)) .pre .0 .few)
 
 loop-less : tie.Need-loop-less Inv-loop μ-loop
 loop-less c = omega arith
 
 loop-again : tie.Need-loop-again Inv-loop μ-loop
 loop-again c =
-    let t = c .before in
+    let t = c .before .before .before .before in
     let h = top t in
     let k = within (found t) in
     let e = there h k in (
       skip-next (W h) 0 (j h) _ k (h .loop .inv .0) (omega arith),
-      toZ-ofZ (add-least t) ∙ turn (min-terms (v h)) (j h) (so-far t) (next t) ∙ step-sum (steps h) k (B h)
+      toZ-ofZ (add-least (c .before .before)) ∙ turn (min-terms (v h)) (j h) (so-far t) (next t) ∙ step-sum (steps h) k (B h)
           ∙ ap (λ (i : ℕ). total i (minTermAt (A h) (B h))) e,
-      toZ-ofZ {w = w64} (record { sfits = c .wider .ok })
-          ∙ (rw (a-is (found t), l-is h, u-is h) at (c .wider .ensures))
+      toZ-ofZ {w = w64} (record { sfits = c .greater .ok })
+          ∙ c .greater .ensures
+          ∙ ap (maxZ (toZ w64 (h .loop .widest))) (width-is t)
           ∙ ap (λ (x : ℤ). maxZ x (widthAt (A h) (B h) (j h))) (rw (here h k) at (h .loop .inv .2))
           ∙ sym (greatest-more (widthAt (A h) (B h)) (j h))
           ∙ step-widest (steps h) k (B h)
@@ -212,16 +202,9 @@ reach-packed-spec =
     shared-slice-read-word
     coef-requires
     mul-a
-    mul-low
-    mul-low-2
-    shared-slice-copy-out-low
-    mul-high
-    add-high
-    mul-high-2
-    shared-slice-copy-out-high
-    term-requires
+    term-reach-requires
     add-least
-    wider-requires
+    greater-requires
     cast-j
     add-j
     add-j-2

@@ -29,26 +29,29 @@ same-length-2 c = search needs
 same-length-3 : tie.Need-same-length-3
 same-length-3 c = search needs
 
+same-length-4 : tie.Need-same-length-4
+same-length-4 c = search needs
+
 -- what is lent, with the rows A
 abbrev before : tie.Start → Rows → State
 before s A = let W = s .args .ws .now in stateOf (variablesOf W) (rowsIn W) (s .args .bounds .now) A (s .args .table .now)
 
 abbrev fault : tie.Start → ℕ
-fault s = probeFault (s .args .ws .now) (s .args .bounds .now) (s .args .table .now) (s .args .variable) (s .args .budget)
+fault s = let a = s .args in probeFault (a .ws .now) (a .bounds .now) (a .table .now) (a .reasons .now) (a .variable) (a .budget)
 
 returns : tie.Need-returns
 unfolding probeAnswer
 returns c =
-    let s = c .before .before .before .before .before .before .before in
+    let s = c .before .before .before .before .before .before .before .before .before in
     let a = s .args in
     let e = c .before .probe-fault .ensures in (
-      (λ _. (ap refused e, refl, refl, refl)),
+      (λ _. (ap refused e, refl, refl, refl, refl)),
       (
         (λ z. absurd (c .if1 .taken (e ∙ z))),
         (
-          (λ A P. perform-refused (before s A) (callOf (before s A) 3 0 (a .variable) (a .budget))
-              (e ∙ fault-is (a .ws .now) (a .bounds .now) (a .table .now) (a .variable) (a .budget) P) (c .if1 .taken)),
-          (λ A P. P),
+          (λ A P fits. perform-refused (before s A) (callOf (before s A) 3 0 (a .variable) (a .budget))
+              (e ∙ fault-is (a .ws .now) (a .bounds .now) (a .table .now) (a .reasons .now) (a .variable) (a .budget) P fits) (c .if1 .taken)),
+          ((λ z. absurd (c .if1 .taken (e ∙ z))), (λ A P. P)),
         ),
       ),
     )
@@ -56,13 +59,13 @@ returns c =
 -- the probe is accepted
 module _ (c : tie.Else1) where
   abbrev start : tie.Start
-  start = c .before .before .before .before .before .before .before
+  start = c .before .before .before .before .before .before .before .before .before
 
   no-fault : fault start ≡ 0
   no-fault = sym (c .before .probe-fault .ensures) ∙ c .if1 .left
 
-  fits : Accepted (start .args .ws .now) (start .args .bounds .now) (start .args .table .now) (start .args .variable)
-  fits = accepted (start .args .ws .now) (start .args .bounds .now) (start .args .table .now) (start .args .variable) (start .args .budget) no-fault
+  fits : let a = start .args in Accepted (a .ws .now) (a .bounds .now) (a .table .now) (a .reasons .now) (a .variable)
+  fits = let a = start .args in accepted (a .ws .now) (a .bounds .now) (a .table .now) (a .reasons .now) (a .variable) (a .budget) no-fault
 
 slice-read-n : tie.Need-slice-read-n
 slice-read-n c = omega (arith, fits (c .before) .ours .len)
@@ -78,15 +81,12 @@ cast-m c = omega (arith, fits (c .before .before) .ours .fewRows)
 
 probe-prepared-requires : tie.Need-probe-prepared-requires
 probe-prepared-requires c κs =
-    let f = fits (c .before .before .before .before .before) in
+    let f = fits (c .before .before .before .before .before .before) in
     let o = f .ours in
-    (refl, refl, record { some = o .some; few = o .few; fewRows = o .fewRows; len = o .len; box = f .box }, f .table, f .free, f .variable)
+    (refl, refl, record { some = o .some; few = o .few; fewRows = o .fewRows; len = o .len; box = f .box }, f .table, f .free, f .variable, f .reasons)
 
 probe-answer-requires : tie.Need-probe-answer-requires
 probe-answer-requires c κs = search needs
-
-same-length-4 : tie.Need-same-length-4
-same-length-4 c = search needs
 
 same-length-5 : tie.Need-same-length-5
 same-length-5 c = search needs
@@ -94,11 +94,17 @@ same-length-5 c = search needs
 same-length-6 : tie.Need-same-length-6
 same-length-6 c = search needs
 
+same-length-7 : tie.Need-same-length-7
+same-length-7 c = search needs
+
+same-length-8 : tie.Need-same-length-8
+same-length-8 c = search needs
+
 returns-2 : tie.Need-returns-2
 unfolding isRefused
 returns-2 c =
-    let d = c .before .before .before .before .before .before in
-    let e = d .before .before .before .before .before .before in
+    let d = c .before .before .before .before .before .before .before .before in
+    let e = d .before .before .before .before .before .before .before in
     let a = start e .args in
     let W = a .ws .now in
     let said = c .probe-answer .ensures in
@@ -107,12 +113,12 @@ returns-2 c =
     let u = d .probe-prepared .last .1 .1 .1 .1 .0 in (
       (λ f. absurd (f (no-fault e))),
       (
-        (λ _. (rw said tt, rw said (told .1 .1))),
+        (λ _. (rw said tt, rw said (told .1 .1 .1))),
         (
-          (λ A P. ap (λ x. performed x (stateOf (variablesOf W) (rowsIn W) Q A u)) said
-              ∙ probing-performed (variablesOf W) (rowsIn W) (a .bounds .now) A (a .budget) (a .table .now) (a .variable) (d .probe-prepared .result) Q u
-              (sym (fault-is W (a .bounds .now) (a .table .now) (a .variable) (a .budget) P) ∙ no-fault e) (told .0 A P)),
-          told .1 .0,
+          (λ A P fits. ap (λ x. performed x (stateOf (variablesOf W) (rowsIn W) Q A u)) said
+              ∙ probing-performed (variablesOf W) (rowsIn W) (a .bounds .now) A (a .budget) (a .table .now) (a .variable) (d .probe-prepared .result .probing) Q u
+              (sym (fault-is W (a .bounds .now) (a .table .now) (a .reasons .now) (a .variable) (a .budget) P fits) ∙ no-fault e) (told .0 A P)),
+          ((λ _. told .1 .0), told .1 .1 .0),
         ),
       ),
     )
@@ -125,6 +131,7 @@ probe-spec =
     same-length
     same-length-2
     same-length-3
+    same-length-4
     returns
     slice-read-n
     cast-n
@@ -132,7 +139,8 @@ probe-spec =
     cast-m
     probe-prepared-requires
     probe-answer-requires
-    same-length-4
     same-length-5
     same-length-6
+    same-length-7
+    same-length-8
     returns-2)

@@ -6,15 +6,15 @@ use lib.Dec.{T}
 use lib.IntN.{_+ℤ_, pos, ℤ}
 use lib.ListN.{length}
 use lib.Signed.{_≤ℤ_}
-use mathlib.Core.Bool.{Bool, cond, false, not, true}
+use mathlib.Core.Bool.{cond, false, not}
 use mathlib.Core.List.{List}
 use mathlib.Core.Logic.{_⊎_, inl, inr, ⊎-elim}
-use mathlib.Core.Path.{_∙_, _≡_, ap, refl, subst, sym}
+use mathlib.Core.Path.{_∙_, _≡_, ap, refl, sym}
 use native.Mathlib.Nat.{sub-zero}
 use native.Mathlib.Omega.{arith}
 use Rattle.integer.proofs.Parts.{zarith, zify}
 use Rattle.integer.proofs.Tests.{false→T}
-use Rattle.model.specs.Box.{NonEmpty, isEmpty, width}
+use Rattle.model.specs.Box.{isEmpty, width}
 use Rattle.model.specs.Rows.{Row, Rows, rowAt, rowsOf}
 use Rattle.model.specs.Valid.{ValidBox}
 use Rattle.row.specs.Answers.{propagatedRowOf}
@@ -26,31 +26,31 @@ use Rattle.propagation.specs.Results.{propagationOf}
 use Rattle.propagation.specs.declared.Propagation.the-variants as code
 use Rattle.propagation.proofs.PropagationLoops.{PassIs, pass-begins, pass-converged, pass-infeasible, pass-moved, pass-over, pass-width, passes-made, row-feasible, row-infeasible, sum-fits}
 use Rattle.row.proofs.ImpliedBoxLaws.{valid-nonEmpty}
+use Rattle.row.proofs.KindLaws.{kinded-infeasible-box, kinded-valid}
+use Rattle.model.proofs.BoxLaws.{empty-is, nonEmpty-isn't}
 use Rattle.row_marks.specs.Marks.{Watched}
-use Rattle.marked_row.proofs.MarkedRowLaws.{Ready, left-by, model-at, ready, ready-trans, ready-visit, tightened, unmoved}
+use Rattle.marked_row.proofs.MarkedRowLaws.{Ready, broken, left-by, model-at, ready, ready-trans, ready-visit, tightened, unmoved}
 use Rattle.propagation.proofs.propagate_marked.Statement.{statement}
 use Rattle.propagation.proofs.propagate_marked.Tie as tie
 
 abbrev Inv-rows : tie.InvT-rows
-Inv-rows n m bounds₀ coefs rhs kinds budget across₀ signs₀ seen₀ marks₀ passes tally₀ infeasible₀ before r₀ bounds across signs seen marks tally infeasible r =
+Inv-rows n m bounds₀ coefs rhs kinds budget across₀ signs₀ seen₀ marks₀ passes tally₀ before r₀ bounds across signs seen marks tally r =
     (r ≤ m)
     × PassIs n r (rowsOf coefs rhs kinds) bounds₀ before false (tally .moved) bounds
     × Ready n m (rowsOf coefs rhs kinds) bounds₀ across₀ signs₀ seen₀ marks₀ bounds across signs seen marks
-    × (infeasible ≡ false)
 
 abbrev μ-rows : tie.MeasureT-rows
-μ-rows n m bounds₀ coefs rhs kinds budget across₀ signs₀ seen₀ marks₀ passes tally₀ infeasible₀ before r₀ bounds across signs seen marks tally infeasible r = m - r
+μ-rows n m bounds₀ coefs rhs kinds budget across₀ signs₀ seen₀ marks₀ passes tally₀ before r₀ bounds across signs seen marks tally r = m - r
 
 abbrev Inv-passes : tie.InvT-passes
-Inv-passes n m bounds₀ coefs rhs kinds budget across₀ signs₀ seen₀ marks₀ passes₀ tally₀ infeasible₀ bounds across signs seen marks passes tally infeasible =
+Inv-passes n m bounds₀ coefs rhs kinds budget across₀ signs₀ seen₀ marks₀ passes₀ tally₀ bounds across signs seen marks passes tally =
     (passes ≤ budget)
     × (propagateFrom (budget - passes) passes (tally .moved) n m (rowsOf coefs rhs kinds) bounds ≡ propagateFrom budget 0 0 n m (rowsOf coefs rhs kinds) bounds₀)
     × Ready n m (rowsOf coefs rhs kinds) bounds₀ across₀ signs₀ seen₀ marks₀ bounds across signs seen marks
-    × (infeasible ≡ false)
     × ((pos (tally .moved) +ℤ width n bounds) ≤ℤ width n bounds₀)
 
 abbrev μ-passes : tie.MeasureT-passes
-μ-passes n m bounds₀ coefs rhs kinds budget across₀ signs₀ seen₀ marks₀ passes₀ tally₀ infeasible₀ bounds across signs seen marks passes tally infeasible = budget - passes
+μ-passes n m bounds₀ coefs rhs kinds budget across₀ signs₀ seen₀ marks₀ passes₀ tally₀ bounds across signs seen marks passes tally = budget - passes
 
 is-empty-requires : tie.Need-is-empty-requires Inv-rows μ-rows Inv-passes μ-passes
 is-empty-requires c κs = let p = c .before .before .before .before .before .pre .0 in omega (arith, p .some, p .box .len)
@@ -70,7 +70,7 @@ passes-holds c =
     let s = c .before .before .before .before .before .before .before in
     let p = s .pre .0 in
     let e = sym (c .before .is-empty .ensures _ (p .some) (p .box)) ∙ c .if1 .left in
-    (omega arith, rw sub-zero, ready (p .box) (valid-nonEmpty (p .box) (false→T (isEmpty (s .args .n) (s .args .bounds .now)) e)) (s .pre .1 .0), refl, simp zify (omega zarith))
+    (omega arith, rw sub-zero, ready (p .box) (valid-nonEmpty (p .box) (false→T (isEmpty (s .args .n) (s .args .bounds .now)) e)) (s .pre .1 .0), simp zify (omega zarith))
 
 add-passes : tie.Need-add-passes Inv-rows μ-rows Inv-passes μ-passes
 add-passes c = omega arith
@@ -84,7 +84,7 @@ rows-holds : tie.Need-rows-holds Inv-rows μ-rows Inv-passes μ-passes
 rows-holds c =
     let i = c .before .before .before .passes .inv in
     let t = c .next-row .ensures in
-    (t .1, pass-over _ 0 _ (pass-begins _ _ _ _) (i .2 .nonEmpty) (i .2 .watched .clean) (t .0) (t .1) (t .2), ready (i .2 .box) (i .2 .nonEmpty) (i .2 .watched), i .3)
+    (t .1, pass-over _ 0 _ (pass-begins _ _ _ _) (i .2 .nonEmpty) (i .2 .watched .clean) (t .0) (t .1) (t .2), ready (i .2 .box) (i .2 .nonEmpty) (i .2 .watched))
 
 -- the call, where it comes to a pass
 module _ (h : tie.At-passes Inv-rows μ-rows Inv-passes μ-passes) where
@@ -190,7 +190,7 @@ add-requires : tie.Need-add-requires Inv-rows μ-rows Inv-passes μ-passes
 add-requires c κs =
     let d = c .before .before .before .before .before .before .before .before .before .before .before in
     let told = c .before .moved .given .1 in
-    sum-fits (one-row d (inl (told, refl))) (B₀ (h d)) (h d .passes .inv .4) (s (h d) .pre .0) (row-ready d (tightened _ (Q d) (heard d) told) .nonEmpty)
+    sum-fits (one-row d (inl (told, refl))) (B₀ (h d)) (h d .passes .inv .3) (s (h d) .pre .0) (row-ready d (tightened _ (Q d) (heard d) told) .nonEmpty)
 
 enum-told-2 : tie.Need-enum-told-2 Inv-rows μ-rows Inv-passes μ-passes
 enum-told-2 c = search needs
@@ -231,7 +231,7 @@ rows-again c =
     let a = c .before .before in
     let t = c .next-row2 .ensures in
     let y = row-ready (d a) (feasible a) in
-    (t .1, pass-over _ _ _ (counted a) (y .nonEmpty) (y .watched .clean) (t .0) (t .1) (t .2), y, k a .rows .inv .3)
+    (t .1, pass-over _ _ _ (counted a) (y .nonEmpty) (y .watched .clean) (t .0) (t .1) (t .2), y)
 
 -- a pass over all rows
 passed : (c : tie.After-rows Inv-rows μ-rows Inv-passes μ-passes) →
@@ -284,60 +284,55 @@ passes-again c =
       omega arith,
       pass-moved (budget q) (made q) (before q) (n q) (m q) (A q) (B q) (e .before .before .before .before .passes-test .taken) (q .passes .inv .1) (passed e) (c .if2 .left),
       pass-ready e,
-      e .before .rows .inv .3,
-      pass-width (passed e) (B₀ q) (q .passes .inv .4),
+      pass-width (passed e) (B₀ q) (q .passes .inv .3),
     )
 
--- where the two ways out of the passes meet
-abbrev after : ℕ → ℕ → Rows → Bool → ℕ → ℕ → List ℤ → Propagated
-after n m A i p k B = cond i (propagationOf (code.Infeasible p k) B) (propagateFrom 0 p k n m A B)
+-- where the two ways out of the passes meet: the box is empty exactly if a row was infeasible
+abbrev after : ℕ → ℕ → Rows → ℕ → ℕ → List ℤ → Propagated
+after n m A p k B = cond (isEmpty n B) (propagationOf (code.Infeasible p k) B) (propagateFrom 0 p k n m A B)
 
-after-is : (n m : ℕ) (A : Rows) {i j : Bool} {p q k l : ℕ} {B P : List ℤ} → i ≡ j → p ≡ q → k ≡ l → B ≡ P → after n m A i p k B ≡ after n m A j q l P
-after-is n m A d e t f = rw (d, e, t, f)
+after-is : (n m : ℕ) (A : Rows) {p q k l : ℕ} {B P : List ℤ} → p ≡ q → k ≡ l → B ≡ P → after n m A p k B ≡ after n m A q l P
+after-is n m A e t f = rw (e, t, f)
 
 -- of a box that is equal to one
-valid-is : {n : ℕ} {B P : List ℤ} → B ≡ P → ValidBox n P × NonEmpty n P → ValidBox n B × NonEmpty n B
+valid-is : {n : ℕ} {B P : List ℤ} → B ≡ P → ValidBox n P → ValidBox n B
 valid-is e v = rw e v
 
 watched-is : {n m : ℕ} {A : Rows} {B P : List ℤ} {a a′ s s′ : List ℕ} {e e′ : List ℤ} {k k′ : List ℕ} → B ≡ P → a ≡ a′ → s ≡ s′ → e ≡ e′ → k ≡ k′
     → Watched n m A P a′ s′ e′ k′ → Watched n m A B a s e k
 watched-is b a s e k w = rw (b, a, s, e, k) w
 
-true-not-false : true ≡ false → ⊥
-true-not-false e = subst (λ (b : Bool). T b) e tt
-
--- the lengths of what is lent, what is known of the rows, and the box where no row was infeasible
-record Left (q : tie.At-passes Inv-rows μ-rows Inv-passes μ-passes) (infeasible : Bool) (bounds : List ℤ) (across signs : List ℕ) (seen : List ℤ) (marks : List ℕ) : Type 0 where
+-- what the call comes to, what is known of the rows, and the lengths of what is lent
+record Left (q : tie.At-passes Inv-rows μ-rows Inv-passes μ-passes) (passes moved : ℕ) (bounds : List ℤ) (across signs : List ℕ) (seen : List ℤ) (marks : List ℕ) : Type 0 where
+  answer : after (n q) (m q) (A q) passes moved bounds ≡ propagate (budget q) (n q) (m q) (A q) (B₀ q)
+  box : ValidBox (n q) bounds
+  watched : Watched (n q) (m q) (A q) bounds across signs seen marks
   boxLen : length bounds ≡ length (B₀ q)
   acrossLen : length across ≡ length (s q .args .across .now)
   signsLen : length signs ≡ length (s q .args .signs .now)
   seenLen : length seen ≡ length (s q .args .seen .now)
   marksLen : length marks ≡ length (s q .args .marks .now)
-  watched : Watched (n q) (m q) (A q) bounds across signs seen marks
-  valid : infeasible ≡ false → ValidBox (n q) bounds × NonEmpty (n q) bounds
 
 met : (c : tie.Left-passes Inv-rows μ-rows Inv-passes μ-passes) →
-    let q = c .before in
     let o = c .passes-test in
-    (after (n q) (m q) (A q) (o .infeasible) (o .passes) (o .tally .moved) (o .bounds) ≡ propagate (budget q) (n q) (m q) (A q) (B₀ q)) × Left q (o .infeasible) (o .bounds) (o .across) (o .signs) (o .seen) (o .marks)
+    Left (c .before) (o .passes) (o .tally .moved) (o .bounds) (o .across) (o .signs) (o .seen) (o .marks)
 unfolding propagationOf
 met c =
     let q = c .before in
     let y = q .passes .inv .2 in
+    let some = s q .pre .0 .some in
     ⊎-elim
-    (λ w. (
-      after-is (n q) (m q) (A q) (w .8 ∙ q .passes .inv .3) (w .6) (ap (λ t. t .moved) (w .7)) (w .1)
-          ∙ sym (whole q ∙ passes-made (budget q) (made q) (before q) (n q) (m q) (A q) (B q) (w .0 .left) (q .passes .inv .1)),
-      record {
-        boxLen = ap length (w .1) ∙ y .boxLen;
-        acrossLen = ap length (w .2) ∙ y .acrossLen;
-        signsLen = ap length (w .3) ∙ y .signsLen;
-        seenLen = ap length (w .4) ∙ y .seenLen;
-        marksLen = ap length (w .5) ∙ y .marksLen;
-        watched = watched-is (w .1) (w .2) (w .3) (w .4) (w .5) (y .watched);
-        valid = λ _. valid-is (w .1) (y .box, y .nonEmpty);
-      },
-    ))
+    (λ w. record {
+      answer = after-is (n q) (m q) (A q) (w .6) (ap (λ t. t .moved) (w .7)) (w .1) ∙ rw (nonEmpty-isn't some (y .nonEmpty))
+          (sym (whole q ∙ passes-made (budget q) (made q) (before q) (n q) (m q) (A q) (B q) (w .0 .left) (q .passes .inv .1)));
+      box = valid-is (w .1) (y .box);
+      watched = watched-is (w .1) (w .2) (w .3) (w .4) (w .5) (y .watched);
+      boxLen = ap length (w .1) ∙ y .boxLen;
+      acrossLen = ap length (w .2) ∙ y .acrossLen;
+      signsLen = ap length (w .3) ∙ y .signsLen;
+      seenLen = ap length (w .4) ∙ y .seenLen;
+      marksLen = ap length (w .5) ∙ y .marksLen;
+    })
     (λ w.
     let i : tie.In-rows Inv-rows μ-rows Inv-passes μ-passes = record { before = record { before = record { before = record { before = record { before = q; passes-test = w .0 }; next-row-arg = w .1 }; next-row = w .2 }; rows = w .3 }; rows-test = w .4 } in
     let d : tie.After-propagate-row-marked Inv-rows μ-rows Inv-passes μ-passes = record {
@@ -352,67 +347,80 @@ met c =
     } in
     let z = ready-trans y (w .3 .inv .2) in
     let k = w .10 .kept in
-    let e = row-infeasible (n q) (r (row d)) (A q) (B q) (before q) _ (Q d) (w .3 .inv .1) (heard d) (m q) (w .4 .taken) (w .20 .given .1) in (
-      after-is (n q) (m q) (A q) (w .28) (w .26) (ap (λ t. t .moved) (w .27)) (w .21)
-          ∙ sym (whole q ∙ pass-infeasible (budget q) (made q) (before q) (n q) (m q) (A q) (B q) (w .0 .taken) (q .passes .inv .1) e),
-      record {
-        boxLen = ap length (w .21) ∙ k .1 .1 .0 ∙ z .boxLen;
-        acrossLen = ap length (w .22) ∙ k .1 .1 .1 .1 .1 .1 .1 .0 ∙ z .acrossLen;
-        signsLen = ap length (w .23) ∙ k .1 .1 .1 .1 .1 .1 .1 .1 .0 ∙ z .signsLen;
-        seenLen = ap length (w .24) ∙ k .1 .1 .1 .1 .1 .1 .1 .1 .1 .0 ∙ z .seenLen;
-        marksLen = ap length (w .25) ∙ k .1 .1 .1 .1 .1 .1 .1 .1 .1 .1 .0 ∙ z .marksLen;
-        watched = watched-is (w .21) (w .22) (w .23) (w .24) (w .25) (w .10 .ensures .1);
-        valid = λ f. absurd (true-not-false (sym (w .28) ∙ f));
-      },
-    ))
+    let e = row-infeasible (n q) (r (row d)) (A q) (B q) (before q) _ (Q d) (w .3 .inv .1) (heard d) (m q) (w .4 .taken) (w .20 .given .1) in
+    let empty = left d ∙ kinded-infeasible-box (n q) (its d) (P (row d)) (broken _ (Q d) (heard d) (w .20 .given .1)) in
+    record {
+      answer = after-is (n q) (m q) (A q) (w .26) (ap (λ t. t .moved) (w .27)) (w .21) ∙ rw (empty-is (n q) (Q d) empty)
+          (sym (whole q ∙ pass-infeasible (budget q) (made q) (before q) (n q) (m q) (A q) (B q) (w .0 .taken) (q .passes .inv .1) e));
+      box = valid-is (w .21 ∙ left d) (kinded-valid (its d) (w .3 .inv .2 .box));
+      watched = watched-is (w .21) (w .22) (w .23) (w .24) (w .25) (w .10 .ensures .1);
+      boxLen = ap length (w .21) ∙ k .1 .1 .0 ∙ z .boxLen;
+      acrossLen = ap length (w .22) ∙ k .1 .1 .1 .1 .1 .1 .1 .0 ∙ z .acrossLen;
+      signsLen = ap length (w .23) ∙ k .1 .1 .1 .1 .1 .1 .1 .1 .0 ∙ z .signsLen;
+      seenLen = ap length (w .24) ∙ k .1 .1 .1 .1 .1 .1 .1 .1 .1 .0 ∙ z .seenLen;
+      marksLen = ap length (w .25) ∙ k .1 .1 .1 .1 .1 .1 .1 .1 .1 .1 .0 ∙ z .marksLen;
+    })
     (c .passes-test .came)
 
+is-empty-requires-2 : tie.Need-is-empty-requires-2 Inv-rows μ-rows Inv-passes μ-passes
+is-empty-requires-2 c κs = let e = c .before in omega (arith, s (e .before) .pre .0 .some, met e .box .len)
+
+-- the second test tells which way it was
+tells : (c : tie.After-is-empty2 Inv-rows μ-rows Inv-passes μ-passes) → c .is-empty2 .result ≡ isEmpty (n (c .before .before .before)) (c .before .before .passes-test .bounds)
+tells c = let e = c .before .before in c .is-empty2 .ensures _ (s (e .before) .pre .0 .some) (met e .box)
+
 same-length-7 : tie.Need-same-length-7 Inv-rows μ-rows Inv-passes μ-passes
-same-length-7 c = met (c .before) .1 .boxLen
+same-length-7 c = met (c .before .before .before) .boxLen
 
 same-length-8 : tie.Need-same-length-8 Inv-rows μ-rows Inv-passes μ-passes
-same-length-8 c = met (c .before) .1 .acrossLen
+same-length-8 c = met (c .before .before .before) .acrossLen
 
 same-length-9 : tie.Need-same-length-9 Inv-rows μ-rows Inv-passes μ-passes
-same-length-9 c = met (c .before) .1 .signsLen
+same-length-9 c = met (c .before .before .before) .signsLen
 
 same-length-10 : tie.Need-same-length-10 Inv-rows μ-rows Inv-passes μ-passes
-same-length-10 c = met (c .before) .1 .seenLen
+same-length-10 c = met (c .before .before .before) .seenLen
 
 same-length-11 : tie.Need-same-length-11 Inv-rows μ-rows Inv-passes μ-passes
-same-length-11 c = met (c .before) .1 .marksLen
+same-length-11 c = met (c .before .before .before) .marksLen
 
 returns-3 : tie.Need-returns-3 Inv-rows μ-rows Inv-passes μ-passes
-returns-3 c = let k = met (c .before) in (rw (c .if3 .taken) at (k .0), k .1 .watched)
+unfolding propagationOf
+returns-3 c = let k = met (c .before .before .before) in (rw (sym (tells (c .before)) ∙ c .if3 .taken) at (k .answer), k .watched)
 
 last-look-requires : tie.Need-last-look-requires Inv-rows μ-rows Inv-passes μ-passes
 last-look-requires c κs =
     let e = c .before .before in
-    let q = e .before .before in
-    let k = met (e .before) .1 in
-    let v = k .valid (e .if3 .left) in
-    (model-at (s q .pre .0) (v .0), (v .1, k .watched .clean, omega (arith, s q .pre .1 .1, k .marksLen)))
+    let q = e .before .before .before .before in
+    let k = met (e .before .before .before) in (
+      model-at (s q .pre .0) (k .box),
+      (
+        valid-nonEmpty (k .box) (false→T (isEmpty (n q) (e .before .before .before .passes-test .bounds)) (sym (tells (e .before)) ∙ e .if3 .left)),
+        k .watched .clean,
+        omega (arith, s q .pre .1 .1, k .marksLen),
+      ),
+    )
 
 same-length-12 : tie.Need-same-length-12 Inv-rows μ-rows Inv-passes μ-passes
-same-length-12 c = met (c .before .before .before .before) .1 .boxLen
+same-length-12 c = met (c .before .before .before .before .before .before) .boxLen
 
 same-length-13 : tie.Need-same-length-13 Inv-rows μ-rows Inv-passes μ-passes
-same-length-13 c = met (c .before .before .before .before) .1 .acrossLen
+same-length-13 c = met (c .before .before .before .before .before .before) .acrossLen
 
 same-length-14 : tie.Need-same-length-14 Inv-rows μ-rows Inv-passes μ-passes
-same-length-14 c = met (c .before .before .before .before) .1 .signsLen
+same-length-14 c = met (c .before .before .before .before .before .before) .signsLen
 
 same-length-15 : tie.Need-same-length-15 Inv-rows μ-rows Inv-passes μ-passes
-same-length-15 c = met (c .before .before .before .before) .1 .seenLen
+same-length-15 c = met (c .before .before .before .before .before .before) .seenLen
 
 same-length-16 : tie.Need-same-length-16 Inv-rows μ-rows Inv-passes μ-passes
-same-length-16 c = met (c .before .before .before .before) .1 .marksLen
+same-length-16 c = met (c .before .before .before .before .before .before) .marksLen
 
 returns-4 : tie.Need-returns-4 Inv-rows μ-rows Inv-passes μ-passes
 returns-4 c =
     let e = c .before .before .before in
-    let k = met (e .before) in
-    (c .last-look .ensures ∙ rw (e .if3 .left) at (k .0), k .1 .watched)
+    let k = met (e .before .before .before) in
+    (c .last-look .ensures ∙ rw (sym (tells (e .before)) ∙ e .if3 .left) at (k .answer), k .watched)
 
 pub propagate-marked-spec : {M : Type 1} → statement M
 propagate-marked-spec =
@@ -446,6 +454,7 @@ propagate-marked-spec =
     returns-2
     passes-less
     passes-again
+    is-empty-requires-2
     same-length-7
     same-length-8
     same-length-9

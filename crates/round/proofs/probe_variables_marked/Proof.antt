@@ -12,7 +12,7 @@ use Rattle.semantics.specs.Call.{callOf}
 use Rattle.model.specs.Rows.{rowsOf}
 use Rattle.model.specs.State.{State, stateOf}
 use Rattle.semantics.specs.Unmoved.{anySpent}
-use Rattle.round.specs.Round.{probeCall, probes, upwards}
+use Rattle.round.specs.Round.{probeCall, probes, roundBudget, upwards}
 use Rattle.round.proofs.RoundLaws.{Turns, accepts-probe, all-turns, call-turn, flag-kept, no-turn, skip-turn, turns-lengths, turns-valid}
 use Rattle.round.proofs.SpentLaws.{spent-call, spent-skip, spent-turn, spent-turns}
 use Rattle.round.proofs.probe_variables_marked.Statement.{statement}
@@ -76,7 +76,7 @@ loop-again c =
     let free = isFree (l .bounds) (l .k) in
     let s₀ = entry s in
     let t₀ = stateOf (s .args .n) (s .args .m) (l .bounds) (rowsOf (s .args .coefs .now) (s .args .rhs .now) (s .args .kinds .now)) (l .table) in
-    let call = callOf t₀ 3 0 (l .k) 1000 in
+    let call = callOf t₀ 3 0 (l .k) roundBudget in
     let f = probeCall in
     let h = t .loop-test .taken in
     ⊎-elim

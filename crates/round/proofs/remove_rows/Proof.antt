@@ -12,49 +12,52 @@ use Rattle.step.proofs.StepLaws.{ran-remove}
 use Rattle.model.specs.Rows.{rowsOf}
 use Rattle.model.specs.State.{stateOf}
 use Rattle.round.specs.Round.{removeCall, removals}
-use Rattle.round.proofs.RoundLaws.{Turns, accepts-removal, all-turns, remove-turn, flag-kept, flag-raised, no-removals, no-turn, turns-lengths, turns-valid}
+use Rattle.round.proofs.RoundLaws.{AnyTurns, accepts-removal, all-turns, any-lengths, any-valid, any-within, flag-kept, flag-raised, no-removals, no-turn, remove-turn, turns-valid}
 use Rattle.round.proofs.remove_rows.Statement.{statement}
 use Rattle.round.proofs.remove_rows.Tie as tie
 
 abbrev Inv-loop : tie.InvT-loop
-Inv-loop n m bounds coefs₀ rhs₀ kinds₀ table changed₀ r₀ coefs rhs kinds changed r =
-    Turns m removeCall (stateOf n m bounds (rowsOf coefs₀ rhs₀ kinds₀) table) (stateOf n m bounds (rowsOf coefs rhs kinds) table) changed r × (isEmpty n bounds ≡ false)
+Inv-loop n m bounds coefs₀ rhs₀ kinds₀ changed₀ r₀ coefs rhs kinds changed r =
+    AnyTurns m removeCall n m bounds (rowsOf coefs₀ rhs₀ kinds₀) (rowsOf coefs rhs kinds) changed r × (isEmpty n bounds ≡ false)
 
 abbrev μ-loop : tie.MeasureT-loop
-μ-loop n m bounds coefs₀ rhs₀ kinds₀ table changed₀ r₀ coefs rhs kinds changed r = m - r
+μ-loop n m bounds coefs₀ rhs₀ kinds₀ changed₀ r₀ coefs rhs kinds changed r = m - r
 
 is-empty-requires : tie.Need-is-empty-requires Inv-loop μ-loop
-unfolding stateOf
-is-empty-requires c κs = let v = c .before .before .pre in omega (arith, v .model .some, v .model .box .len)
+is-empty-requires c κs = let v = c .before .pre in omega (arith, v .some, v .box .len)
+
+-- what the box's first variable tells
+told : (c : tie.After-is-empty Inv-loop μ-loop) → let a = c .before .before .args in c .is-empty .result ≡ isEmpty (a .n) (a .bounds .now)
+told c = let v = c .before .before .pre in c .is-empty .ensures _ (v .some) (v .box)
 
 returns : tie.Need-returns Inv-loop μ-loop
 unfolding stateOf
 returns c =
-    let s = c .before .before .before .before in
-    let v = s .pre .model in
-    let p = no-removals (stateOf (s .args .n) (s .args .m) (s .args .bounds .now) (rowsOf (s .args .coefs .now) (s .args .rhs .now) (s .args .kinds .now)) (s .args .table .now))
-    (sym (c .before .is-empty .ensures (s .args .n) (v .some) (v .box)) ∙ c .if1 .taken) in
-    (p .left, p .changed)
+    let a = c .before .before .before .args in
+    let A = rowsOf (a .coefs .now) (a .rhs .now) (a .kinds .now) in
+    let e = sym (told (c .before)) ∙ c .if1 .taken in
+    record {
+      left = λ t _. no-removals (stateOf (a .n) (a .m) (a .bounds .now) A t) e .left;
+      changed = λ t _. no-removals (stateOf (a .n) (a .m) (a .bounds .now) A t) e .changed;
+    }
 
 loop-holds : tie.Need-loop-holds Inv-loop μ-loop
 unfolding stateOf
 loop-holds c =
-    let s = c .before .before .before .before in
-    let v = s .pre .model in
-    (no-turn (s .args .m) removeCall (s .pre), sym (c .before .is-empty .ensures (s .args .n) (v .some) (v .box)) ∙ c .if1 .left)
+    let s = c .before .before .before in
+    (record { beside = λ t w. no-turn (s .args .m) removeCall (record { model = s .pre; table = w }) }, sym (told (c .before)) ∙ c .if1 .left)
 
 cast-loop : tie.Need-cast-loop Inv-loop μ-loop
-cast-loop c = omega arith
+cast-loop c = omega (arith, any-within (c .loop .inv .0))
 
 cast-remove-redundant-row-at : tie.Need-cast-remove-redundant-row-at Inv-loop μ-loop
 cast-remove-redundant-row-at c = omega arith
 
 remove-redundant-row-at-requires : tie.Need-remove-redundant-row-at-requires Inv-loop μ-loop
-unfolding stateOf
 remove-redundant-row-at-requires c κs =
     let t = c .before .before .before in
     let l = t .before .loop in
-    let v = turns-valid (l .inv .0) .model in
+    let v = any-valid (l .inv .0) in
     (row-in v (l .r) (t .loop-test .taken), valid-row v (l .r) (t .loop-test .taken) (v .box))
 
 class-of-removal-requires : tie.Need-class-of-removal-requires Inv-loop μ-loop
@@ -64,9 +67,8 @@ is-changed-requires : tie.Need-is-changed-requires Inv-loop μ-loop
 is-changed-requires c κs = tt
 
 add-r : tie.Need-add-r Inv-loop μ-loop
-unfolding stateOf
 add-r c =
-    let t = c .before .before .before .before .before .before .before .before .before .before .before in omega (arith, t .loop-test .taken, turns-valid (t .before .loop .inv .0) .model .fewRows)
+    let t = c .before .before .before .before .before .before .before .before .before .before .before in omega (arith, t .loop-test .taken, any-valid (t .before .loop .inv .0) .fewRows)
 
 loop-less : tie.Need-loop-less Inv-loop μ-loop
 loop-less c = omega arith
@@ -77,30 +79,38 @@ loop-again c =
     let d = c .before .before .before .before .before .before .before in
     let t = c .before .before .before .before .before .before .before .before .before .before .before in
     let l = t .before .loop in
-    let a = c .before .before .before .before .before .before .before .before .before .before .before .before .before .before .before .before .before .args in
-    remove-turn (l .inv .0) (l .inv .1) (t .loop-test .taken)
-    (ran-remove (a .n) (a .m) (a .bounds .now) (rowsOf (l .coefs) (l .rhs) (l .kinds)) (a .table .now) 5 (l .r) 0 0
-    (accepts-removal (turns-valid (l .inv .0)) (t .loop-test .taken)) refl (c .before .before .class-of-removal .ensures) (d .remove-redundant-row-at .ensures))
-    (c .before .is-changed .ensures)
-    (⊎-elim (λ w. flag-raised (l .changed) (w .0 .taken) (w .1)) (λ w. flag-kept (l .changed) (w .0 .left) (w .1)) (c .if2 .came))
+    let a = c .before .before .before .before .before .before .before .before .before .before .before .before .before .before .before .before .args in
+    let h = t .loop-test .taken in
+    let flag = ⊎-elim (λ w. flag-raised (l .changed) (w .0 .taken) (w .1)) (λ w. flag-kept (l .changed) (w .0 .left) (w .1)) (c .if2 .came) in (
+      record {
+        beside = λ u v. let w = l .inv .0 .beside u v in
+            remove-turn w (l .inv .1) h
+            (ran-remove (a .n) (a .m) (a .bounds .now) (rowsOf (l .coefs) (l .rhs) (l .kinds)) u 5 (l .r) 0 0
+            (accepts-removal (turns-valid w) h) refl (c .before .before .class-of-removal .ensures) (d .remove-redundant-row-at .ensures))
+            (c .before .is-changed .ensures) flag;
+      },
+      l .inv .1,
+    )
 
 same-length : tie.Need-same-length Inv-loop μ-loop
 unfolding stateOf
-same-length c = turns-lengths (c .before .loop .inv .0) .coefs
+same-length c = any-lengths (c .before .loop .inv .0) .coefs
 
 same-length-2 : tie.Need-same-length-2 Inv-loop μ-loop
 unfolding stateOf
-same-length-2 c = turns-lengths (c .before .loop .inv .0) .rhs
+same-length-2 c = any-lengths (c .before .loop .inv .0) .rhs
 
 same-length-3 : tie.Need-same-length-3 Inv-loop μ-loop
 unfolding stateOf
-same-length-3 c = turns-lengths (c .before .loop .inv .0) .kinds
+same-length-3 c = any-lengths (c .before .loop .inv .0) .kinds
 
 returns-2 : tie.Need-returns-2 Inv-loop μ-loop
 unfolding stateOf removals
 returns-2 c =
-    let p = all-turns (c .before .before .before .before .before .before .args .m) removeCall (c .before .loop .inv .0) (c .loop-test .left) in
-    (p .left, p .changed)
+    let w = c .before .loop .inv .0 in
+    let m = c .before .before .before .before .before .args .m in
+    let h = c .loop-test .left in
+    record { left = λ t v. all-turns m removeCall (w .beside t v) h .left; changed = λ t v. all-turns m removeCall (w .beside t v) h .changed }
 
 pub remove-rows-spec : {M : Type 1} → statement M
 remove-rows-spec =

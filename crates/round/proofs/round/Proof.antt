@@ -9,7 +9,7 @@ use Rattle.semantics.specs.Unmoved.{anySpent}
 use Rattle.step.proofs.StepLaws.{ran-settle}
 use Rattle.model.specs.Rows.{rowsOf}
 use Rattle.model.specs.State.{State, stateOf}
-use Rattle.round.specs.Round.{andThen, removals, probes, round, propagateCall, tightenings}
+use Rattle.round.specs.Round.{andThen, removals, probes, round, roundBudget, propagateCall, tightenings}
 use Rattle.round.proofs.RoundLaws.{Leads, SameLengths, accepts-propagation, flag-kept, flag-raised, in-order, leads-then, leads-valid, one-call, same-lengths}
 use Rattle.round.proofs.SpentLaws.{round-spent}
 use Rattle.round.proofs.round.Statement.{statement}
@@ -42,19 +42,19 @@ module _ (c : tie.After-is-changed) where
   unfolding stateOf callOf kindOf propagateCall
   propagate-leads =
       let a = propagate-start .args in
-      one-call (callOf (entry propagate-start) 2 0 0 1000)
-      (ran-settle (a .n) (a .m) (a .bounds .now) (rowsOf (a .coefs .now) (a .rhs .now) (a .kinds .now)) (a .table .now) 2 0 0 1000
+      one-call (callOf (entry propagate-start) 2 0 0 roundBudget)
+      (ran-settle (a .n) (a .m) (a .bounds .now) (rowsOf (a .coefs .now) (a .rhs .now) (a .kinds .now)) (a .table .now) 2 0 0 roundBudget
       (accepts-propagation (propagate-start .pre)) _ _ refl (c .before .class-of-propagation .ensures) (c .before .before .before .propagate .ensures))
       (c .is-changed .ensures)
 
 remove-rows-requires : tie.Need-remove-rows-requires
 unfolding stateOf
-remove-rows-requires c κs = let d = c .before .before .before .before .before in leads-valid (propagate-leads d) (propagate-start d .pre)
+remove-rows-requires c κs = let d = c .before .before .before .before in leads-valid (propagate-leads d) (propagate-start d .pre) .model
 
 -- then the removals
 module _ (c : tie.Joined1) where
   abbrev changed-before : tie.After-is-changed
-  changed-before = c .before .before .before .before .before .before .before .before .before .before .before
+  changed-before = c .before .before .before .before .before .before .before .before .before .before
 
   abbrev remove-start : tie.Start
   remove-start = propagate-start changed-before
@@ -71,17 +71,17 @@ module _ (c : tie.Joined1) where
       let d = c .before .before .before .before .before in
       let b = changed-before .is-changed .result in
       leads-then propagateCall removals (propagate-leads changed-before)
-      (record { left = d .remove-rows .ensures .0; changed = d .remove-rows .ensures .1 })
+      (let p = remove-start .pre .table in record { left = d .remove-rows .ensures .left _ p; changed = d .remove-rows .ensures .changed _ p })
       (⊎-elim (λ w. flag-raised b (w .0 .taken) (w .1)) (λ w. flag-kept b (w .0 .left) (w .1)) (c .if1 .came))
 
 tighten-rows-requires : tie.Need-tighten-rows-requires
 unfolding stateOf
-tighten-rows-requires c κs = let d = c .before .before .before .before .before in leads-valid (remove-leads d) (remove-start d .pre)
+tighten-rows-requires c κs = let d = c .before .before .before .before in leads-valid (remove-leads d) (remove-start d .pre) .model
 
 -- then the tightenings
 module _ (c : tie.Joined2) where
   abbrev removed-before : tie.Joined1
-  removed-before = c .before .before .before .before .before .before .before .before .before
+  removed-before = c .before .before .before .before .before .before .before .before
 
   abbrev tighten-start : tie.Start
   tighten-start = remove-start removed-before
@@ -98,7 +98,7 @@ module _ (c : tie.Joined2) where
       let d = c .before .before .before in
       let b = removed-before .if1 .changed in
       leads-then (andThen propagateCall removals) tightenings (remove-leads removed-before)
-      (record { left = d .tighten-rows .ensures .0; changed = d .tighten-rows .ensures .1 })
+      (let p = tighten-start .pre .table in record { left = d .tighten-rows .ensures .left _ p; changed = d .tighten-rows .ensures .changed _ p })
       (⊎-elim (λ w. flag-raised b (w .0 .taken) (w .1)) (λ w. flag-kept b (w .0 .left) (w .1)) (c .if2 .came))
 
 probe-variables-requires : tie.Need-probe-variables-requires

@@ -5,31 +5,30 @@ use native.Mathlib.Omega.{arith}
 use Rattle.model.specs.Rows.{rowsOf}
 use Rattle.model.specs.State.{stateOf}
 use Rattle.round.specs.Round.{tightenRow, tightenings}
-use Rattle.round.proofs.RoundLaws.{Turns, all-turns, flag-kept, flag-raised, no-turn, turn, turns-lengths, turns-valid}
+use Rattle.round.proofs.RoundLaws.{AnyTurns, all-turns, any-lengths, any-valid, any-within, flag-kept, flag-raised, no-turn, turn}
 use Rattle.round.proofs.tighten_rows.Statement.{statement}
 use Rattle.round.proofs.tighten_rows.Tie as tie
 
 abbrev Inv-loop : tie.InvT-loop
-Inv-loop n m bounds coefs₀ rhs₀ kinds table changed₀ r₀ coefs rhs changed r =
-    Turns m tightenRow (stateOf n m bounds (rowsOf coefs₀ rhs₀ kinds) table) (stateOf n m bounds (rowsOf coefs rhs kinds) table) changed r
+Inv-loop n m bounds coefs₀ rhs₀ kinds changed₀ r₀ coefs rhs changed r =
+    AnyTurns m tightenRow n m bounds (rowsOf coefs₀ rhs₀ kinds) (rowsOf coefs rhs kinds) changed r
 
 abbrev μ-loop : tie.MeasureT-loop
-μ-loop n m bounds coefs₀ rhs₀ kinds table changed₀ r₀ coefs rhs changed r = m - r
+μ-loop n m bounds coefs₀ rhs₀ kinds changed₀ r₀ coefs rhs changed r = m - r
 
 loop-holds : tie.Need-loop-holds Inv-loop μ-loop
 unfolding stateOf
-loop-holds c = let s = c .before .before in no-turn (s .args .m) tightenRow (s .pre)
+loop-holds c = let s = c .before in record { beside = λ t w. no-turn (s .args .m) tightenRow (record { model = s .pre; table = w }) }
 
 cast-loop : tie.Need-cast-loop Inv-loop μ-loop
-cast-loop c = omega arith
+cast-loop c = omega (arith, any-within (c .loop .inv))
 
 tighten-row-requires : tie.Need-tighten-row-requires Inv-loop μ-loop
-tighten-row-requires c κs = let t = c .before .before in (t .loop-test .taken, turns-valid (t .before .loop .inv))
+tighten-row-requires c κs = let t = c .before .before in (t .loop-test .taken, any-valid (t .before .loop .inv))
 
 add-r : tie.Need-add-r Inv-loop μ-loop
-unfolding stateOf
 add-r c =
-    let t = c .before .before .before .before .before .before in omega (arith, t .loop-test .taken, turns-valid (t .before .loop .inv) .model .fewRows)
+    let t = c .before .before .before .before .before .before in omega (arith, t .loop-test .taken, any-valid (t .before .loop .inv) .fewRows)
 
 loop-less : tie.Need-loop-less Inv-loop μ-loop
 loop-less c = omega arith
@@ -40,23 +39,27 @@ loop-again c =
     let d = c .before .before .before in
     let t = d .before .before .before in
     let l = t .before .loop in
-    turn (t .before .before .before .before .args .m) tightenRow (l .inv) (t .loop-test .taken)
-    (record { left = d .tighten-row .ensures .0; changed = d .tighten-row .ensures .1 })
-    (⊎-elim (λ w. flag-raised (l .changed) (w .0 .taken) (w .1)) (λ w. flag-kept (l .changed) (w .0 .left) (w .1)) (c .if1 .came))
+    let flag = ⊎-elim (λ w. flag-raised (l .changed) (w .0 .taken) (w .1)) (λ w. flag-kept (l .changed) (w .0 .left) (w .1)) (c .if1 .came) in
+    record {
+      beside = λ u v. turn (t .before .before .before .args .m) tightenRow (l .inv .beside u v) (t .loop-test .taken)
+          (record { left = d .tighten-row .ensures .left u v; changed = d .tighten-row .ensures .changed u v }) flag;
+    }
 
 same-length : tie.Need-same-length Inv-loop μ-loop
 unfolding stateOf
-same-length c = turns-lengths (c .before .loop .inv) .coefs
+same-length c = any-lengths (c .before .loop .inv) .coefs
 
 same-length-2 : tie.Need-same-length-2 Inv-loop μ-loop
 unfolding stateOf
-same-length-2 c = turns-lengths (c .before .loop .inv) .rhs
+same-length-2 c = any-lengths (c .before .loop .inv) .rhs
 
 returns : tie.Need-returns Inv-loop μ-loop
 unfolding stateOf tightenings
 returns c =
-    let s = c .before .before .before .before in
-    let p = all-turns (s .args .m) tightenRow (c .before .loop .inv) (c .loop-test .left) in (p .left, p .changed)
+    let s = c .before .before .before in
+    let w = c .before .loop .inv in
+    let h = c .loop-test .left in
+    record { left = λ t v. all-turns (s .args .m) tightenRow (w .beside t v) h .left; changed = λ t v. all-turns (s .args .m) tightenRow (w .beside t v) h .changed }
 
 pub tighten-rows-spec : {M : Type 1} → statement M
 tighten-rows-spec =

@@ -29,11 +29,14 @@ put-requires c κs = search needs
 slice-aggregate-put-2 : tie.Need-slice-aggregate-put-2
 slice-aggregate-put-2 c = search needs
 
+add-put-2 : tie.Need-add-put-2
+add-put-2 c = search needs
+
 mul-put-2 : tie.Need-mul-put-2
 mul-put-2 c = search needs
 
-add-put-2 : tie.Need-add-put-2
-add-put-2 c = search needs
+add-put-3 : tie.Need-add-put-3
+add-put-3 c = search needs
 
 put-requires-2 : tie.Need-put-requires-2
 put-requires-2 c κs = search needs
@@ -68,8 +71,9 @@ write-column-spec =
     add-put
     put-requires
     slice-aggregate-put-2
-    mul-put-2
     add-put-2
+    mul-put-2
+    add-put-3
     put-requires-2
     same-length
     returns)

@@ -1,7 +1,7 @@
--- `taken::take_box`: from the box and the set that are kept, all variables get their new bounds (`kept-all`, `kept-calm`).
+-- `taken::take_box`: the box is copied, and since the box and the set that are kept all variables are noted (`copied-all`, `noted-calm`).
 -- Assumes nothing.
 use borrow.Author.Needs.{needs}
-use Rattle.prepared_box.proofs.TakenLaws.{kept-all, kept-calm}
+use Rattle.prepared_box.proofs.TakenLaws.{copied-all, noted-calm}
 use Rattle.prepared_box.proofs.taken.take_box.Statement.{statement}
 use Rattle.prepared_box.proofs.taken.take_box.Tie as tie
 
@@ -21,7 +21,7 @@ returns : tie.Need-returns
 returns c =
     let s = c .before .before .before .before .before .before .before .before .before .before .before .before in
     let t = rw (c .before .before .before .before .before .before .before .before .read-set .ensures) at (c .before .before .before .take-all .ensures) in
-    (kept-all (s .pre .3) (s .pre .2) t, λ A p e. rw e (kept-calm p (rw e at t)))
+    (copied-all (s .args .n) (s .pre .3) (s .pre .2) (t .0), λ A p e. rw e (noted-calm p (rw e at (t .1))))
 
 pub take-box-spec : {M : Type 1} → statement M
 take-box-spec =

@@ -6,7 +6,7 @@ use mathlib.Core.List.{List, []}
 use mathlib.Core.Path.{_∙_, _≡_, ap, sym}
 use Rattle.semantics.specs.CallChecks.{callFault}
 use Rattle.semantics.specs.Perform.{perform, propagated}
-use Rattle.semantics.specs.Call.{Call, callOf, hasTable, kindOf}
+use Rattle.semantics.specs.Call.{Call, callOf}
 use Rattle.model.specs.Rows.{rowsOf}
 use Rattle.model.specs.State.{State, stateOf}
 use Rattle.semantics.proofs.Accepted.{accepted}
@@ -26,9 +26,8 @@ before s = state s (s .args .bounds .now)
 abbrev call : tie.Start → Call
 call s = callOf (before s) 2 0 0 (s .args .budget)
 
-call-fault-requires : tie.Need-call-fault-requires
-unfolding kindOf hasTable
-call-fault-requires c κs = tt
+propagation-fault-requires : tie.Need-propagation-fault-requires
+propagation-fault-requires c κs = search needs
 
 same-length : tie.Need-same-length
 same-length c = search needs
@@ -37,10 +36,10 @@ returns : tie.Need-returns
 unfolding propagateAnswer callOf
 returns c =
     let s = c .before .before .before .before in
-    promised-ends (before s) (before s) (call s) _ (perform-refused (before s) (call s) (c .before .call-fault .ensures) (c .if1 .taken))
+    promised-ends (before s) (before s) (call s) _ (perform-refused (before s) (call s) (c .before .propagation-fault .ensures) (c .if1 .taken))
 
 no-fault : (c : tie.Else1) → let s = c .before .before .before .before in callFault (before s) (call s) ≡ 0
-no-fault c = sym (c .before .call-fault .ensures) ∙ c .if1 .left
+no-fault c = sym (c .before .propagation-fault .ensures) ∙ c .if1 .left
 
 propagate-requires : tie.Need-propagate-requires
 unfolding stateOf callOf
@@ -98,7 +97,7 @@ pub propagate-spec : {M : Type 1} → statement M
 propagate-spec =
     tie.close
     (tie.spec
-    call-fault-requires
+    propagation-fault-requires
     same-length
     returns
     propagate-requires

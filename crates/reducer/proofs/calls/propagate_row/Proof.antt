@@ -10,7 +10,7 @@ use Rattle.row.specs.Answers.{propagatedRowOf}
 use Rattle.row.specs.declared.propagation.RowPropagation.{RowPropagation}
 use Rattle.semantics.specs.CallChecks.{callFault}
 use Rattle.semantics.specs.Perform.{perform, propagatedRow}
-use Rattle.semantics.specs.Call.{Call, callOf, hasRow, hasTable, kindOf}
+use Rattle.semantics.specs.Call.{Call, callOf, hasRow, kindOf}
 use Rattle.model.specs.Rows.{Rows, rowsOf}
 use Rattle.model.specs.State.{State, stateOf}
 use Rattle.model.specs.Model.{modelOf}
@@ -29,9 +29,8 @@ before s = state s (s .args .bounds .now)
 abbrev call : tie.Start → Call
 call s = callOf (before s) 1 (s .args .row) 0 0
 
-call-fault-requires : tie.Need-call-fault-requires
-unfolding kindOf hasTable
-call-fault-requires c κs = tt
+row-call-fault-requires : tie.Need-row-call-fault-requires
+row-call-fault-requires c κs = search needs
 
 same-length : tie.Need-same-length
 same-length c = search needs
@@ -40,7 +39,7 @@ returns : tie.Need-returns
 unfolding rowAnswer
 returns c =
     let s = c .before .before .before .before in
-    promised (before s) (before s) (call s) _ (perform-refused (before s) (call s) (c .before .call-fault .ensures) (c .if1 .taken))
+    promised (before s) (before s) (call s) _ (perform-refused (before s) (call s) (c .before .row-call-fault .ensures .0) (c .if1 .taken))
 
 -- the call is accepted: its row lies in the matrix
 module _ (c : tie.Else1) where
@@ -60,7 +59,7 @@ module _ (c : tie.Else1) where
   A = rowsOf (s .args .coefs .now) (s .args .rhs .now) (s .args .kinds .now)
 
   no-fault : callFault (before s) (call s) ≡ 0
-  no-fault = sym (c .before .call-fault .ensures) ∙ c .if1 .left
+  no-fault = sym (c .before .row-call-fault .ensures .0) ∙ c .if1 .left
 
   on : ValidModel (modelOf n (s .args .m) B A) × (r < s .args .m)
   unfolding kindOf hasRow
@@ -120,7 +119,7 @@ pub propagate-row-spec : {M : Type 1} → statement M
 propagate-row-spec =
     tie.close
     (tie.spec
-    call-fault-requires
+    row-call-fault-requires
     same-length
     returns
     propagate-row-at-requires

@@ -1,7 +1,8 @@
--- What a prepared probe keeps in the workspace: of the workspace W before, W′ after, the answer a and the box B′ that was left.
+-- What a call on a prepared model keeps in the workspace, a propagation or a probe: of the workspace W before, W′ after, the answer a and
+-- the box B′ that was left.
+use Prim.Native.Nat.{ℕ}
 use lib.Dec.{T}
 use lib.IntN.{ℤ}
-use Prim.Native.Nat.{ℕ}
 use mathlib.Core.Bool.{not}
 use mathlib.Core.List.{List}
 use mathlib.Core.Path.{_≡_}
@@ -13,7 +14,7 @@ pub record Keeps (W W′ : List ℕ) (a : Answer) (B′ : List ℤ) : Type 0 whe
   -- n and m stay
   pub variables : variablesOf W′ ≡ variablesOf W
   pub rows : rowsIn W′ ≡ rowsIn W
-  -- a probe that ends infeasible keeps nothing: the next call is compared with the box that was known before
+  -- a call that ends infeasible keeps nothing: the box that the workspace knows is the parent's, which the next sibling is compared with
   pub infeasible : T (answersNone a) → W′ ≡ W
   -- any other keeps the box that it left
   pub box : T (not (answersNone a)) → boxIn (variablesOf W) W′ ≡ B′
