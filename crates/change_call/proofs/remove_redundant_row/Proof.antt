@@ -7,8 +7,8 @@ use mathlib.Core.List.{List, []}
 use mathlib.Core.Path.{_∙_, _≡_, refl, sym}
 use Rattle.model.specs.Rows.{Rows, rowAt, rowsOf}
 use Rattle.model.specs.Valid.{ValidModel}
-use Rattle.row_change.specs.Answers.{removalOutcome}
-use Rattle.row_change.specs.KindChanges.{removeRowOf}
+use Rattle.row.specs.Answers.{removalOutcome}
+use Rattle.row.specs.KindChanges.{removeRowOf}
 use Rattle.semantics.specs.CallChecks.{callFault}
 use Rattle.semantics.specs.Perform.{Answer, act, perform, removed}
 use Rattle.semantics.specs.Call.{Call, callOf, hasRow, kindOf}
