@@ -2,16 +2,16 @@
 // other by its steps. `clean` finds the rows that are clean in a box.
 use matrix_row::propagate_row_at;
 use matrix_row::propagate_row_at_by;
+use remarking::remark;
+use remarking::remark_all;
 use row::propagation::RowPropagation;
-use row_marks::index::know_steps;
-use row_marks::marks::remark;
-use row_marks::marks::remark_all;
+use row_index::know_steps;
 ghost use mathlib.Core.Path.{_≡_};
 ghost use Prim.Native.Nat.{ℕ, _*_, _<_};
 ghost use Rattle.model.specs.Rows.{rowAt, rowsOf};
 ghost use Rattle.row.specs.Answers.{propagatedRowOf};
 ghost use Rattle.row.specs.Kinds.{propagateRowOf};
-ghost use Rattle.row_marks.specs.Index.{GoodStep};
+ghost use Rattle.row_index.specs.Index.{GoodStep};
 ghost use Rattle.row_marks.specs.Marks.{Visitable, Watched};
 
 pub mod clean;

@@ -11,7 +11,7 @@ use model::MAX_BOX;
 use model::MAX_MATRIX;
 use model::MAX_ROWS;
 use row::propagation::RowPropagation;
-use row_marks::marks::next_row;
+use row_marks::next_row;
 ghost use mathlib.Core.Path.{_≡_};
 ghost use Rattle.model.specs.Valid.{ValidModel};
 ghost use Rattle.model.specs.Rows.{rowsOf};
