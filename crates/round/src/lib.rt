@@ -11,7 +11,7 @@ use matrix_change::tighten_coefficient_at;
 use model::MAX_ROWS;
 use model::MAX_VARIABLES;
 use probing::is_free;
-use propagation::propagate;
+use row_passes::propagate;
 use row_tightening::may_tighten;
 use step::run_probe_marked;
 ghost use mathlib.Core.Path.{_≡_};

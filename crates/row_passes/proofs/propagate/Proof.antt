@@ -1,4 +1,4 @@
--- `propagation::propagate`: of arrays of zeros nothing is known, and `propagate_marked` does the rest. Assumes nothing.
+-- `row_passes::propagate`: of arrays of zeros nothing is known, and `propagate_marked` does the rest. Assumes nothing.
 use borrow.Author.Needs.{needs}
 use lib.IntN.{ℤ}
 use lib.ListN.{drop, length, take}
@@ -6,8 +6,8 @@ use mathlib.Core.List.{List, _++_}
 use mathlib.Core.Path.{_∙_, _≡_, ap, sym}
 use Rattle.marked_row.proofs.LocalBox.{blank, box-room, held, held-fits, held-length}
 use Rattle.marked_row.proofs.LocalIndex.{watched-none}
-use Rattle.propagation.proofs.propagate.Statement.{statement}
-use Rattle.propagation.proofs.propagate.Tie as tie
+use Rattle.row_passes.proofs.propagate.Statement.{statement}
+use Rattle.row_passes.proofs.propagate.Tie as tie
 
 array-borrow-prefix-seen : tie.Need-array-borrow-prefix-seen
 array-borrow-prefix-seen c = search needs

@@ -1,4 +1,4 @@
--- `propagation::propagate_marked` is the definition: rows 0 to r − 1 came to what `passTo` says, and the passes that are left from here,
+-- `row_passes::propagate_marked` is the definition: rows 0 to r − 1 came to what `passTo` says, and the passes that are left from here,
 -- with the tally so far, give what the whole gives. The two ways out of the passes meet in `met`. Assumes nothing.
 use Prim.Native.Nat.{_+_, _-_, _≤_, ℕ}
 use borrow.Author.Needs.{needs}
@@ -22,16 +22,16 @@ use Rattle.row.specs.Outcome.{isInfeasible}
 use Rattle.row.specs.Kinds.{propagateRowOf}
 use Rattle.row.specs.declared.propagation.RowPropagation.the-variants.{Tightened, Unchanged}
 use Rattle.semantics.specs.Propagate.{Propagated, propagate, propagateFrom}
 use Rattle.propagation.specs.Results.{propagationOf}
 use Rattle.propagation.specs.declared.Propagation.the-variants as code
 use Rattle.propagation.proofs.PropagationLoops.{PassIs, pass-begins, pass-converged, pass-infeasible, pass-moved, pass-over, pass-width, passes-made, row-feasible, row-infeasible, sum-fits}
 use Rattle.row.proofs.ImpliedBoxLaws.{valid-nonEmpty}
 use Rattle.row.proofs.KindLaws.{kinded-infeasible-box, kinded-valid}
 use Rattle.model.proofs.BoxLaws.{empty-is, nonEmpty-isn't}
 use Rattle.row_marks.specs.Marks.{Watched}
 use Rattle.marked_row.proofs.MarkedRowLaws.{Ready, broken, left-by, model-at, ready, ready-trans, ready-visit, tightened, unmoved}
-use Rattle.propagation.proofs.propagate_marked.Statement.{statement}
-use Rattle.propagation.proofs.propagate_marked.Tie as tie
+use Rattle.row_passes.proofs.propagate_marked.Statement.{statement}
+use Rattle.row_passes.proofs.propagate_marked.Tie as tie
 
 abbrev Inv-rows : tie.InvT-rows
 Inv-rows n m bounds₀ coefs rhs kinds budget across₀ signs₀ seen₀ marks₀ passes tally₀ before r₀ bounds across signs seen marks tally r =
