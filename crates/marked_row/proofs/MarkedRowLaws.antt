@@ -29,7 +29,7 @@ use Rattle.sweep.specs.Steps.{Steps}
 use Rattle.model.specs.Rows.{Row, Rows, isEquality, negated, rowAt, rowOf}
 use Rattle.model.proofs.PointLaws.{at-negated}
 use Rattle.model.specs.Model.{modelOf}
-use Rattle.row_view.specs.RowIn.{StepsIn}
+use Rattle.matrix_view.specs.RowIn.{StepsIn}
 use Rattle.sweep.proofs.StableLaws.{kinded-after}
 use Rattle.row_index.specs.Index.{ColumnSigns, GoodStep}
 use Rattle.row_index.proofs.IndexLoops.{row-end}

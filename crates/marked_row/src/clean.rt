@@ -8,7 +8,7 @@ ghost use Prim.Native.Nat.{_<_};
 ghost use Rattle.model.specs.Rows.{rowAt, rowsOf};
 ghost use Rattle.row.specs.Kinds.{rowMovesOf};
 ghost use Rattle.row.specs.ValidRow.{ValidRow};
-ghost use Rattle.row_view.specs.RowIn.{RowIn};
+ghost use Rattle.matrix_view.specs.RowIn.{RowIn};
 ghost use Rattle.row_index.specs.Index.{RowSteps};
 ghost use Rattle.row_marks.specs.Marks.{Clean, Testable};
 

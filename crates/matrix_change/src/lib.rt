@@ -13,7 +13,7 @@ ghost use Rattle.row.specs.Activity.{maxActivity};
 ghost use Rattle.row.specs.Answers.{removalOutcome, tighteningOutcome};
 ghost use Rattle.row.specs.KindChanges.{removeRowOf, tightenRowOf};
 ghost use Rattle.row.specs.ValidRow.{ValidCoefs, ValidRow};
-ghost use Rattle.row_view.specs.RowIn.{RowIn};
+ghost use Rattle.matrix_view.specs.RowIn.{RowIn};
 
 // Lmax of row r.
 pub fn maximum_activity_at(n: usize, coefs: &[i32], r: usize, bounds: &[i32]) -> i64

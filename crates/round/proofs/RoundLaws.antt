@@ -36,7 +36,7 @@ use Rattle.semantics.proofs.Demand3.{zeros-valid}
 use Rattle.semantics.proofs.ClassLaws.{classBy, tighten-class}
 use Rattle.semantics.proofs.RowChange.{row-valid, withRow-same}
 use Rattle.model.proofs.RowsLaws.{at-rowOf}
-use Rattle.row_view.proofs.RowInLaws.{row-fits}
+use Rattle.matrix_view.proofs.RowInLaws.{row-fits}
 use Rattle.round.specs.TightenedAt.{TightenedAt}
 
 -- ---- the calls of a round are direct ones, and accepted

@@ -10,7 +10,7 @@ ghost use lib.ListN.{getD, length};
 ghost use Rattle.model.specs.Model.{modelOf};
 ghost use Rattle.model.specs.Rows.{rowAt, rowOf, rowWith, rowsOf};
 ghost use Rattle.row_index.specs.Index.{RowSteps};
-ghost use Rattle.row_view.specs.RowIn.{RowIn, StepsIn};
+ghost use Rattle.matrix_view.specs.RowIn.{RowIn, StepsIn};
 ghost use Rattle.sweep.specs.Steps.{Steps};
 ghost use Rattle.proposals.specs.Proposals.{proposal};
 ghost use Rattle.proposals.specs.Verdict.{Verdict, meets, verdict};

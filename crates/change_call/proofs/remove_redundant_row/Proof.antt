@@ -16,7 +16,7 @@ use Rattle.model.specs.State.{State, stateOf}
 use Rattle.model.specs.Model.{modelOf}
 use Rattle.reducer.specs.OpenCalls.{performed, removeAnswer}
 use Rattle.reducer.proofs.OpenCallLaws.{on-row, perform-refused, promised, row-changed}
-use Rattle.row_view.proofs.RowInLaws.{row-in, valid-row}
+use Rattle.matrix_view.proofs.RowInLaws.{row-in, valid-row}
 use Rattle.change_call.proofs.remove_redundant_row.Statement.{statement}
 use Rattle.change_call.proofs.remove_redundant_row.Tie as tie
 

@@ -17,7 +17,7 @@ use Rattle.model.specs.Model.{modelOf}
 use Rattle.semantics.proofs.Accepted.{accepted}
 use Rattle.reducer.specs.OpenCalls.{performed, tightenAnswer}
 use Rattle.reducer.proofs.OpenCallLaws.{on-row, perform-refused, promised, row-changed}
-use Rattle.row_view.proofs.RowInLaws.{row-in, valid-row}
+use Rattle.matrix_view.proofs.RowInLaws.{row-in, valid-row}
 use Rattle.change_call.proofs.tighten_coefficient.Statement.{statement}
 use Rattle.change_call.proofs.tighten_coefficient.Tie as tie
 

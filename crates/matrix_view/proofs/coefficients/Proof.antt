@@ -1,11 +1,11 @@
--- `row_view::coefficients` is row r of the matrix. Assumes nothing.
+-- `matrix_view::coefficients` is row r of the matrix. Assumes nothing.
 use Prim.Native.Nat.{_*_, _+_, _-_}
 use mathlib.Core.Path.{_≡_}
 use native.Mathlib.Omega.{arith}
 use borrow.Author.Needs.{needs}
 use Rattle.model.specs.Rows.{rowOf}
-use Rattle.row_view.proofs.coefficients.Statement.{statement}
-use Rattle.row_view.proofs.coefficients.Tie as tie
+use Rattle.matrix_view.proofs.coefficients.Statement.{statement}
+use Rattle.matrix_view.proofs.coefficients.Tie as tie
 
 mul-start : tie.Need-mul-start
 mul-start c = search needs

@@ -15,7 +15,7 @@ use Rattle.model.specs.Rows.{Rows, rowAt, rowOf}
 use Rattle.model.specs.Valid.{Between, ValidBox, ValidModel}
 use Rattle.model.specs.Model.{modelOf}
 use Rattle.row.specs.ValidRow.{ValidRow}
-use Rattle.row_view.specs.RowIn.{RowIn}
+use Rattle.matrix_view.specs.RowIn.{RowIn}
 
 row-end : (r m n : ℕ) → r < m → r * n + n ≤ m * n
 row-end r m n h = omega (arith, mul-le-mul-right n h, suc-mul r n)
