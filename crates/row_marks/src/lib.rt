@@ -23,6 +23,13 @@ pub fn copy_marks(from: &[u8], to: &mut [u8])
     }
 }
 
+// The mark of a row that has just moved a bound: a ≤ row moves nothing when it is propagated again; an = row may.
+pub fn after(kind: u8) -> u8
+    ensures { λ r. ⌜ (r ≡ 1 → kind ≡ 1 → ⊥) ⌝ }
+{
+    if kind == 1 { 2 } else { 1 }
+}
+
 // The mark of a row of the given kind whose coefficient has the sign s, once a bound moved that ≤ rows of the given
 // sign read: an = row reads both bounds. It is one sum of tests, without a branch, so that the loop over it is compiled
 // to vector instructions.
