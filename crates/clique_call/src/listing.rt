@@ -9,7 +9,7 @@ ghost use lib.Dec.{leb};
 ghost use lib.ListN.{length};
 ghost use Rattle.model.specs.Box.{sameList};
 ghost use Rattle.model.specs.Rows.{rowOf, splice};
-ghost use Rattle.row_change.specs.Redundancy.{zeroRow};
+ghost use Rattle.row.specs.Redundancy.{zeroRow};
 ghost use Rattle.cliques.specs.Cliques.{cliqueRow, cliqueRows, cliquesTo, grow as grown, meantAtZero, rowsFor};
 ghost use Rattle.clique_grow.specs.Candidates.{LentTable, allOnes};
 ghost use Rattle.clique_call.specs.Compared.{differs};

@@ -13,7 +13,7 @@ use native.Mathlib.Numerals.{add-one}
 use native.Mathlib.Omega.{arith}
 use Rattle.integer.proofs.Tests.{cond-ind, eqb-test, neqb→ne, test-false, test-true}
 use Rattle.model.proofs.RowsLaws.{index-lt}
-use Rattle.row_change.specs.Redundancy.{zeroRow}
+use Rattle.row.specs.Redundancy.{zeroRow}
 use Rattle.semantics.specs.Probe.{literal}
 use Rattle.cliques.specs.Cliques.{cliqueRow, coefOf, growTo, joined, joinedToAll, meantAtZero, opposite, says, valueOf, variableOf}
 use Rattle.cliques.proofs.CliqueLaws.{length-cliqueRow}

@@ -15,7 +15,7 @@ use Rattle.model.specs.Rows.{Rows, rowAt}
 use Rattle.model.specs.Model.{modelOf}
 use Rattle.semantics.specs.Probe.{Probed, fix, probe}
 use Rattle.semantics.proofs.ProbeLaws.{fix-inside, probe-narrower}
-use Rattle.row_marks.specs.Index.{ColumnSigns, Index}
+use Rattle.row_index.specs.Index.{ColumnSigns, Index}
 use Rattle.row_marks.specs.Marks.{Unread, Watched}
 use Rattle.row_marks.proofs.MarkLaws.{clean-narrower, clean-remarked, unread-at}
 use Rattle.marked_row.proofs.LocalBox.{blank}

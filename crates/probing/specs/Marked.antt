@@ -8,7 +8,7 @@ use Rattle.model.specs.Box.{Inside, NonEmpty, lower, upper, withBounds}
 use Rattle.model.specs.Valid.{ValidModel}
 use Rattle.model.specs.Model.{modelOf}
 use Rattle.model.specs.Rows.{Rows}
-use Rattle.row_marks.specs.Index.{Index}
+use Rattle.row_index.specs.Index.{Index}
 use Rattle.row_marks.specs.Marks.{Clean}
 
 pub record Marked (n m : ℕ) (B : List ℤ) (A : Rows) (across signs marks : List ℕ) : Type 0 where

@@ -8,14 +8,14 @@ use Rattle.integer.specs.Order.{eqZ, maxZ, minZ}
 use Rattle.model.specs.Box.{boxOf, emptyBox, isEmpty, isFree, sameList}
 use Rattle.model.specs.Checks.{bits, boxChecks, first, inRange, lengthChecks, modelChecks, modelFault, narrow, numberChecks, ordered, sizeChecks, tableByteChecks, tableLengthChecks}
 use Rattle.model.specs.Rows.{isEquality, negated, negatedCoefs, rowOf, setRow, splice}
-use Rattle.row_change.specs.KindChanges.{removeRowOf, tightenRowOf}
+use Rattle.row.specs.KindChanges.{removeRowOf, tightenRowOf}
 use Rattle.row.specs.Kinds.{andThen as bothForms, propagateRowOf}
 use Rattle.row.specs.Activity.{maxActivity, maxTerm, minActivity, minTerm}
 use Rattle.row.specs.Moved.{differs, movedBounds}
 use Rattle.row.specs.Outcome.{isChanged, isInfeasible}
 use Rattle.row.specs.Propagation.{impliedBox, newLower, newUpper, propagateRow, stays}
-use Rattle.row_change.specs.Redundancy.{removeRedundantRow, zeroRow}
-use Rattle.row_change.specs.Tightening.{tightenAt, tightenCoefficient}
+use Rattle.row.specs.Redundancy.{removeRedundantRow, zeroRow}
+use Rattle.row.specs.Tightening.{tightenAt, tightenCoefficient}
 use Rattle.semantics.specs.CallChecks.{callChecks, callFault, givenModel, isLent, lentTable, recordChecks}
 use Rattle.semantics.specs.Perform.{act, perform}
 use Rattle.semantics.specs.Probe.{byteOf, fix, hull, implies, isFixed, joinSides, literal, probe, put, recordSide, recordTo, sideOf}

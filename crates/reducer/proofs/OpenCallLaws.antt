@@ -12,7 +12,7 @@ use Rattle.model.specs.Rows.{Rows, rowAt, setRow}
 use Rattle.model.specs.Valid.{ValidModel}
 use Rattle.model.proofs.CheckLaws.{fault-none}
 use Rattle.row.specs.Outcome.{Outcome}
-use Rattle.row_change.specs.KindChanges.{ChangedRow}
+use Rattle.row.specs.KindChanges.{ChangedRow}
 use Rattle.row.specs.Kinds.{propagateRowOf}
 use Rattle.row.specs.Propagation.{PropagatedRow}
 use Rattle.semantics.specs.CallChecks.{callFault}

@@ -133,7 +133,7 @@ pub fn propagate(
     if fault != 0 {
         return PropagateAnswer::Refused(fault);
     }
-    match propagation::propagate(n, m, bounds, coefs, rhs, kinds, budget) {
+    match row_passes::propagate(n, m, bounds, coefs, rhs, kinds, budget) {
         Propagation::Infeasible(passes, moved) => PropagateAnswer::Infeasible(passes, moved),
         Propagation::Converged(passes, moved) => PropagateAnswer::Converged(passes, moved),
         Propagation::BudgetSpent(passes, moved) => PropagateAnswer::BudgetSpent(passes, moved),

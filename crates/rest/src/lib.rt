@@ -20,7 +20,7 @@ ghost use Rattle.model.specs.Rows.{rowsOf};
 ghost use Rattle.model.specs.Model.{modelOf};
 ghost use mathlib.Core.List.{[]};
 ghost use Rattle.semantics.specs.Propagate.{isNone};
-ghost use Rattle.row_marks.specs.Index.{Index};
+ghost use Rattle.row_index.specs.Index.{Index};
 ghost use Rattle.propagation.specs.Results.{propagationOf};
 ghost use Rattle.semantics.specs.FixpointTest.{firstMoving};
 ghost use Rattle.semantics.specs.RestTest.{firstUnspanned, restOf, sidesSpan, spansAt};

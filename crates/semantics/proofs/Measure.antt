@@ -27,12 +27,12 @@ use Rattle.model.proofs.RowsLaws.{length-rowOf, setRow-other, setRow-row}
 use Rattle.row.specs.Activity.{maxActivity}
 use Rattle.row.specs.Kinds.{propagateRowOf}
 use Rattle.row.proofs.Width.{width-mono, width-same}
-use Rattle.row_change.specs.KindChanges.{removeRowOf, tightenRowOf}
-use Rattle.row_change.specs.Redundancy.{removeRedundantRow, zeroRow}
-use Rattle.row_change.specs.Tightening.{tightenCoefficient}
-use Rattle.row_change.proofs.KindChangeLaws.{remove-kinded-ind, remove-kinded-replaces, tighten-kinded-ind, tighten-kinded-length}
-use Rattle.row_change.proofs.RedundancyLaws.{at-zeroRow, remove-redundant-row-ind}
-use Rattle.row_change.proofs.TighteningLaws.{tighten-coefficient-ind}
+use Rattle.row.specs.KindChanges.{removeRowOf, tightenRowOf}
+use Rattle.row.specs.Redundancy.{removeRedundantRow, zeroRow}
+use Rattle.row.specs.Tightening.{tightenCoefficient}
+use Rattle.row.proofs.KindChangeLaws.{remove-kinded-ind, remove-kinded-replaces, tighten-kinded-ind, tighten-kinded-length}
+use Rattle.row.proofs.RedundancyLaws.{at-zeroRow, remove-redundant-row-ind}
+use Rattle.row.proofs.TighteningLaws.{tighten-coefficient-ind}
 use Rattle.semantics.specs.Call.{Call, Kind, hasRow, hasTable, hasVariable, isRetired, isUnknown, kindOf, probing, propagation, removal, rowPropagation, tightening, unknown}
 use Rattle.semantics.specs.CallChecks.{callFault}
 use Rattle.semantics.specs.Demand2.{Demand2, ones}

@@ -12,7 +12,7 @@ use Rattle.model.specs.Rows.{Rows, rowAt, setRow}
 use Rattle.row.specs.Answers.{propagatedRowOf}
 use Rattle.row.specs.Outcome as outcomes
 use Rattle.row.specs.Outcome.{Outcome, isChanged, isInfeasible}
-use Rattle.row_change.specs.KindChanges.{ChangedRow, removeRowOf, tightenRowOf}
+use Rattle.row.specs.KindChanges.{ChangedRow, removeRowOf, tightenRowOf}
 use Rattle.row.specs.Kinds.{propagateRowOf}
 use Rattle.row.specs.declared.propagation.RowPropagation.{RowPropagation}
 use Rattle.row.specs.declared.propagation.RowPropagation.the-variants as visits

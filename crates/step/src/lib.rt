@@ -20,7 +20,7 @@ use model::MAX_VARIABLES;
 use probing::sides::Probing;
 use probing::sides::Side;
 use probing::sides::probe_marked;
-use propagation::propagate;
+use row_passes::propagate;
 ghost use mathlib.Core.Bool.{_||_};
 ghost use mathlib.Core.Path.{_≡_};
 ghost use Rattle.probing.specs.Marked.{Marked};

@@ -12,8 +12,8 @@ use Rattle.model.specs.Rows.{rowAt, rowOf}
 use Rattle.model.specs.Valid.{ValidModel}
 use Rattle.model.proofs.RowsLaws.{length-rowOf}
 use Rattle.row.proofs.RowLoops.{coefs-small}
-use Rattle.row_marks.proofs.IndexLoops.{line-end}
-use Rattle.row_view.specs.RowIn.{RowIn, StepsIn}
+use Rattle.row_index.proofs.IndexLoops.{line-end}
+use Rattle.matrix_view.specs.RowIn.{RowIn, StepsIn}
 use Rattle.semantics.proofs.RowChange.{row-valid}
 use Rattle.sweep.specs.Steps.{Steps}
 use Rattle.proposals.specs.Call.{allocationFault}

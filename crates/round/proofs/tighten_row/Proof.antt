@@ -14,9 +14,9 @@ use Rattle.integer.proofs.Tests.{T→true, and-l, true→T}
 use Rattle.model.specs.Box.{at, isFree}
 use Rattle.model.specs.Rows.{rowOf, rowsOf}
 use Rattle.row.specs.Activity.{maxActivity}
-use Rattle.row_change.specs.Tightening.{mayTighten}
+use Rattle.row.specs.Tightening.{mayTighten}
 use Rattle.semantics.specs.Call.{callOf, kindOf}
-use Rattle.row_view.proofs.RowInLaws.{row-in, valid-row}
+use Rattle.matrix_view.proofs.RowInLaws.{row-in, valid-row}
 use Rattle.semantics.proofs.Demand3.{zeros-valid}
 use Rattle.step.proofs.StepLaws.{ran-tighten}
 use Rattle.model.specs.State.{stateOf}

@@ -10,7 +10,7 @@ use mir.Syntax.{w32}
 use mir.Val.{ofZ, toZ}
 use native.Mathlib.Omega.{arith}
 use Rattle.model.specs.Rows.{rowWith}
-use Rattle.row_marks.proofs.IndexLoops.{line-end}
+use Rattle.row_index.proofs.IndexLoops.{line-end}
 use Rattle.sweep.specs.Steps.{Steps}
 use Rattle.verdicts.specs.Holding.{Holdable}
 use Rattle.proposals.specs.Proposals.{proposal}

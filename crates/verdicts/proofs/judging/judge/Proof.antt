@@ -6,8 +6,8 @@ use native.Mathlib.Omega.{arith}
 use Rattle.model.specs.Model.{Model, modelOf}
 use Rattle.model.specs.Rows.{rowsOf}
 use Rattle.marked_row.proofs.MarkedRowLaws.{steps-in}
-use Rattle.row_marks.specs.Index.{RowSteps}
-use Rattle.row_marks.proofs.IndexLoops.{row-end}
+use Rattle.row_index.specs.Index.{RowSteps}
+use Rattle.row_index.proofs.IndexLoops.{row-end}
 use Rattle.proposals.specs.Proposals.{proposal}
 use Rattle.verdicts.specs.Telling.{Tells}
 use Rattle.proposals.specs.Verdict.{verdict, verdictBy}
