@@ -8,10 +8,10 @@ use matrix_row::propagate_row_at;
 use open_checks::probe_fault;
 use open_checks::propagation_fault;
 use open_checks::row_call_fault;
-use probing::sides::Probing;
-use probing::sides::Side;
 use propagation::Propagation;
 use row::propagation::RowPropagation;
+use two_sides::Probing;
+use two_sides::Side;
 ghost use mathlib.Core.List.{[]};
 ghost use mathlib.Core.Path.{_≡_};
 ghost use Rattle.semantics.specs.Perform.{perform};
@@ -188,7 +188,7 @@ pub fn probe(
     if fault != 0 {
         return ProbeAnswer::Refused(fault);
     }
-    probe_answer(probing::sides::probe(
+    probe_answer(probing::probe(
         n,
         m,
         bounds,

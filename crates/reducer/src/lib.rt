@@ -3,4 +3,4 @@
 // fault of what it is lent, or hands a model that passed the checks to the crates below; none requires anything.
 pub mod calls;
 
-pub use probing::sides::Side;
+pub use two_sides::Side;

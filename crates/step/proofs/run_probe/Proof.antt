@@ -1,7 +1,7 @@
 -- `step::run_probe`: nothing is known yet. Assumes nothing.
 use borrow.Author.Needs.{needs}
 use Rattle.model.specs.State.{stateOf}
-use Rattle.probing.proofs.MarkedLaws.{marked-none}
+use Rattle.probe_side.proofs.MarkedLaws.{marked-none}
 use Rattle.step.proofs.run_probe.Statement.{statement}
 use Rattle.step.proofs.run_probe.Tie as tie
 

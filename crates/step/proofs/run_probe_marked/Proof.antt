@@ -19,8 +19,8 @@ use Rattle.model.specs.State.{stateOf}
 use Rattle.semantics.proofs.Accepted.{accepted}
 use Rattle.semantics.proofs.ClassLaws.{addsNone, classBy}
 use Rattle.call.specs.Classes.{classIs}
-use Rattle.probing.specs.Results.{probingOf, reportOf}
-use Rattle.probing.specs.declared.sides.Probing.{Probing}
+use Rattle.two_sides.specs.Results.{probingOf, reportOf}
+use Rattle.two_sides.specs.declared.Probing.{Probing}
 use Rattle.step.proofs.StepLaws.{Ran, probe-spent, ran-probe}
 use Rattle.marked_row.proofs.LocalBox.{box-room, box-small, held, held-fits, held-length}
 use Rattle.step.proofs.run_probe_marked.Statement.{statement}

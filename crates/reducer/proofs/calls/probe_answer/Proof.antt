@@ -1,7 +1,7 @@
 -- `reducer::calls::probe_answer`: each case with its numbers. Assumes nothing.
 use borrow.Author.Needs.{needs}
 use mathlib.Core.Path.{refl}
-use Rattle.probing.specs.Results.{probingOf}
+use Rattle.two_sides.specs.Results.{probingOf}
 use Rattle.reducer.specs.OpenCalls.{probeAnswer}
 use Rattle.reducer.proofs.calls.probe_answer.Statement.{statement}
 use Rattle.reducer.proofs.calls.probe_answer.Tie as tie
