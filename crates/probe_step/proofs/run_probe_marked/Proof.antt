@@ -1,4 +1,4 @@
--- `step::run_probe_marked`: the copy is the box before, so the probing's case, its new bytes and the comparison give the class of the
+-- `probe_step::run_probe_marked`: the copy is the box before, so the probing's case, its new bytes and the comparison give the class of the
 -- call; its sides say whether one was Spent. Assumes nothing.
 use Prim.Native.Nat.{ℕ}
 use borrow.Author.Needs.{needs}
@@ -21,10 +21,10 @@ use Rattle.semantics.proofs.ClassLaws.{addsNone, classBy}
 use Rattle.call.specs.Classes.{classIs}
 use Rattle.two_sides.specs.Results.{probingOf, reportOf}
 use Rattle.two_sides.specs.declared.Probing.{Probing}
-use Rattle.step.proofs.StepLaws.{Ran, probe-spent, ran-probe}
+use Rattle.probe_step.proofs.AcceptedLaws.{Ran, probe-spent, ran-probe}
 use Rattle.marked_row.proofs.LocalBox.{box-room, box-small, held, held-fits, held-length}
-use Rattle.step.proofs.run_probe_marked.Statement.{statement}
-use Rattle.step.proofs.run_probe_marked.Tie as tie
+use Rattle.probe_step.proofs.run_probe_marked.Statement.{statement}
+use Rattle.probe_step.proofs.run_probe_marked.Tie as tie
 
 array-borrow-prefix-before : tie.Need-array-borrow-prefix-before
 unfolding stateOf

@@ -1,9 +1,9 @@
--- `step::run_probe`: nothing is known yet. Assumes nothing.
+-- `probe_step::run_probe`: nothing is known yet. Assumes nothing.
 use borrow.Author.Needs.{needs}
 use Rattle.model.specs.State.{stateOf}
 use Rattle.probe_side.proofs.MarkedLaws.{marked-none}
-use Rattle.step.proofs.run_probe.Statement.{statement}
-use Rattle.step.proofs.run_probe.Tie as tie
+use Rattle.probe_step.proofs.run_probe.Statement.{statement}
+use Rattle.probe_step.proofs.run_probe.Tie as tie
 
 slice-aggregate-run-probe-marked : tie.Need-slice-aggregate-run-probe-marked
 slice-aggregate-run-probe-marked c = search needs
