@@ -1,4 +1,4 @@
--- `reducer::calls::probe` is `perform` of a probe: refused by the call's number, else what the probing came to. Assumes nothing.
+-- `probe_call::probe` is `perform` of a probe: refused by the call's number, else what the probing came to. Assumes nothing.
 use Prim.Native.Nat.{ℕ}
 use borrow.Author.Needs.{needs}
 use lib.IntN.{ℤ}
@@ -9,10 +9,10 @@ use Rattle.semantics.specs.Call.{Call, callOf, hasTable, hasVariable, kindOf}
 use Rattle.model.specs.Rows.{rowsOf}
 use Rattle.model.specs.State.{State, stateOf}
 use Rattle.semantics.proofs.Accepted.{accepted}
 use Rattle.reducer.specs.OpenCalls.{performed, probeAnswer}
 use Rattle.reducer.proofs.OpenCallLaws.{perform-refused, probing-performed, promised-ends}
-use Rattle.reducer.proofs.calls.probe.Statement.{statement}
-use Rattle.reducer.proofs.calls.probe.Tie as tie
+use Rattle.probe_call.proofs.probe.Statement.{statement}
+use Rattle.probe_call.proofs.probe.Tie as tie
 
 abbrev state : tie.Start → List ℤ → List ℕ → State
 state s B t = stateOf (s .args .n) (s .args .m) B (rowsOf (s .args .coefs .now) (s .args .rhs .now) (s .args .kinds .now)) t

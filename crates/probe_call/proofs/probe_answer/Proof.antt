@@ -1,10 +1,10 @@
--- `reducer::calls::probe_answer`: each case with its numbers. Assumes nothing.
+-- `probe_call::probe_answer`: each case with its numbers. Assumes nothing.
 use borrow.Author.Needs.{needs}
 use mathlib.Core.Path.{refl}
 use Rattle.two_sides.specs.Results.{probingOf}
 use Rattle.reducer.specs.OpenCalls.{probeAnswer}
-use Rattle.reducer.proofs.calls.probe_answer.Statement.{statement}
-use Rattle.reducer.proofs.calls.probe_answer.Tie as tie
+use Rattle.probe_call.proofs.probe_answer.Statement.{statement}
+use Rattle.probe_call.proofs.probe_answer.Tie as tie
 
 enum-known-p : tie.Need-enum-known-p
 enum-known-p c = search needs
