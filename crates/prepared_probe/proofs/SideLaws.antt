@@ -21,13 +21,13 @@ use Rattle.model.proofs.BoxLaws.{at-boxOf, empty-is, isEmpty→eq, nonEmpty-isn
 use Rattle.prepared_propagation.specs.Known.{Known}
 use Rattle.prepared_propagation.specs.Reasons.{noRow, reasonsFrom, reasonsOf}
 use Rattle.prepared_row.specs.Reasons.{Lent}
-use Rattle.probing.specs.Results.{probingOf}
-use Rattle.probing.specs.declared.sides.Probing.{Probing}
-use Rattle.probing.specs.declared.sides.Probing.the-variants as probing
-use Rattle.probing.specs.declared.sides.Side.{Side}
-use Rattle.probing.proofs.MarkedLaws.{probing-box}
-use Rattle.probing.proofs.ProbingLoops.{box-is, side-none}
-use Rattle.probing.proofs.sides.Probing.{the-type}
+use Rattle.two_sides.specs.Results.{probingOf}
+use Rattle.two_sides.specs.declared.Probing.{Probing}
+use Rattle.two_sides.specs.declared.Probing.the-variants as probing
+use Rattle.two_sides.specs.declared.Side.{Side}
+use Rattle.two_sides.proofs.JoinLaws.{probing-box}
+use Rattle.probe_side.proofs.SideLaws.{box-is, side-none}
+use Rattle.two_sides.proofs.Probing.{the-type}
 use Rattle.propagation.specs.Results.{propagationOf}
 use Rattle.propagation.specs.declared.Propagation.{Propagation}
 use Rattle.reducer.specs.OpenCalls.{probingAnswer}

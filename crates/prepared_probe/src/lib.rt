@@ -2,15 +2,15 @@
 // a lent table. Only rows are looked at that may move a bound of a side. Of any workspace: `refused` and `accepted`. Of
 // one that is prepared for the rows A, whichever they are: `defined`, the answer, the counts, the box and the table are
 // those of `perform`, `reasons`, which row moved which bound of a side last, and `prepared`, it still is. What the
-// answer means is then that of `reducer::calls::probe` (`promised-ends`), what the reasons mean `probe-reasons-mean`.
+// answer means is then that of `probe_call::probe` (`promised-ends`), what the reasons mean `probe-reasons-mean`.
 mod checks;
 mod sides;
 
 use crate::checks::probe_fault;
 use crate::sides::probe_prepared;
 use prepared_propagation::reasons::NO_ROW;
+use probe_call::probe_answer;
 use reducer::calls::ProbeAnswer;
-use reducer::calls::probe_answer;
 ghost use mathlib.Core.Bool.{not, true};
 ghost use mathlib.Core.Path.{_≡_};
 ghost use lib.Dec.{T};

@@ -32,9 +32,9 @@ use Rattle.semantics.proofs.CallLaws.{perform-accepted}
 use Rattle.semantics.proofs.Demand2.{demand-2}
 use Rattle.semantics.proofs.Preserved.{Preserves, step-preserves}
 use Rattle.semantics.proofs.RestAnswer.{rest-answer, rest-probe-moves}
-use Rattle.probing.specs.Results.{probingOf}
-use Rattle.probing.specs.declared.sides.Probing.{Probing}
-use Rattle.probing.specs.declared.sides.Probing.the-variants as probing
+use Rattle.two_sides.specs.Results.{probingOf}
+use Rattle.two_sides.specs.declared.Probing.{Probing}
+use Rattle.two_sides.specs.declared.Probing.the-variants as probing
 use Rattle.reducer.specs.OpenCalls.{Ends, Means, NoMeans, RestVerdict, performed, probingAnswer, refusedRest, rest, tested}
 
 -- ---- what a call performs

@@ -1,6 +1,7 @@
 // One round of `reduce`: propagate, remove redundant rows, tighten coefficients and probe. The model and the table are
 // valid before it, and each call leaves them valid. Its calls are direct ones, made by the step of their kind, and pass
 // their checks: a list would refuse those that change a row.
+use boxes::is_free;
 use call::CallClass;
 use call::class_of_propagation;
 use call::class_of_removal;
@@ -10,16 +11,15 @@ use matrix_change::remove_redundant_row_at;
 use matrix_change::tighten_coefficient_at;
 use model::MAX_ROWS;
 use model::MAX_VARIABLES;
-use probing::is_free;
 use row_passes::propagate;
 use row_tightening::may_tighten;
-use step::run_probe_marked;
+use probe_step::run_probe_marked;
 ghost use mathlib.Core.Path.{_≡_};
 ghost use mathlib.Core.Bool.{_&&_};
 ghost use Prim.Native.Nat.{_*_, _+_, _<_};
 ghost use Rattle.model.specs.Box.{at, isFree};
-ghost use Rattle.probing.specs.Marked.{Marked};
 ghost use Rattle.row.specs.Tightening.{mayTighten};
+ghost use Rattle.probe_side.specs.Marked.{Marked};
 ghost use Rattle.model.specs.Model.{modelOf};
 ghost use Rattle.model.specs.Valid.{ValidModel, ValidState};
 ghost use Rattle.semantics.specs.Run.{run as ran};

@@ -7,7 +7,7 @@ use mathlib.Core.Logic.{⊎-elim}
 use mathlib.Core.Path.{_∙_, _≡_, refl, sym}
 use native.Mathlib.Omega.{arith}
 use Rattle.model.specs.Box.{isFree}
-use Rattle.probing.specs.Marked.{Marked}
+use Rattle.probe_side.specs.Marked.{Marked}
 use Rattle.semantics.specs.Call.{callOf}
 use Rattle.model.specs.Rows.{rowsOf}
 use Rattle.model.specs.State.{State, stateOf}

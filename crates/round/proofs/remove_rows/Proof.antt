@@ -8,7 +8,7 @@ use native.Mathlib.Omega.{arith}
 use Rattle.model.specs.Box.{isEmpty}
 use Rattle.semantics.specs.Call.{callOf, kindOf}
 use Rattle.matrix_view.proofs.RowInLaws.{row-in, valid-row}
-use Rattle.step.proofs.StepLaws.{ran-remove}
+use Rattle.probe_step.proofs.AcceptedLaws.{ran-remove}
 use Rattle.model.specs.Rows.{rowsOf}
 use Rattle.model.specs.State.{stateOf}
 use Rattle.round.specs.Round.{removeCall, removals}

@@ -6,7 +6,7 @@ use mathlib.Core.Path.{_≡_, refl}
 use borrow.Author.Needs.{needs}
 use Rattle.semantics.specs.Call.{callOf, kindOf}
 use Rattle.semantics.specs.Unmoved.{anySpent}
-use Rattle.step.proofs.StepLaws.{ran-settle}
+use Rattle.probe_step.proofs.AcceptedLaws.{ran-settle}
 use Rattle.model.specs.Rows.{rowsOf}
 use Rattle.model.specs.State.{State, stateOf}
 use Rattle.round.specs.Round.{andThen, removals, probes, round, roundBudget, propagateCall, tightenings}

@@ -18,7 +18,7 @@ use Rattle.row.specs.Tightening.{mayTighten}
 use Rattle.semantics.specs.Call.{callOf, kindOf}
 use Rattle.matrix_view.proofs.RowInLaws.{row-in, valid-row}
 use Rattle.semantics.proofs.Demand3.{zeros-valid}
-use Rattle.step.proofs.StepLaws.{ran-tighten}
+use Rattle.probe_step.proofs.AcceptedLaws.{ran-tighten}
 use Rattle.model.specs.State.{stateOf}
 use Rattle.round.specs.Round.{tightenCall, tightenRow}
 use Rattle.round.proofs.RoundLaws.{AnyTurns, accepts-tightening, all-turns, any-lengths, any-valid, any-within, call-turn, flag-kept, flag-raised, leads-valid, looked-at, no-turn, one-call, quiet-turn, row-ready, turn, turns-valid}

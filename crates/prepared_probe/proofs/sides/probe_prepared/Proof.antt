@@ -11,9 +11,8 @@ use native.Mathlib.Omega.{arith}
 use Rattle.integer.proofs.Tests.{false→T, or-r}
 use Rattle.model.specs.Box.{isEmpty, isFree}
 use Rattle.prepared_propagation.proofs.KeepsLaws.{keeps-box, keeps-none}
-use Rattle.prepared_propagation.proofs.KeepsLaws.{keeps-box, keeps-none}
-use Rattle.probing.specs.Results.{probingOf, reportOf}
-use Rattle.probing.proofs.MarkedLaws.{front-room}
+use Rattle.two_sides.specs.Results.{probingOf, reportOf}
+use Rattle.probe_side.proofs.MarkedLaws.{front-room}
 use Rattle.row.proofs.ImpliedBoxLaws.{valid-nonEmpty}
 use Rattle.semantics.specs.Probe.{probe}
 use Rattle.semantics.specs.Run.{answersNone, probeInfeasible}

@@ -12,7 +12,7 @@ use Rattle.model.specs.Rows.{Rows}
 use Rattle.prepared_propagation.specs.Known.{Known}
 use Rattle.prepared_propagation.specs.Reasons.{reasonsOf}
 use Rattle.prepared_row.specs.Visit.{Looking}
-use Rattle.probing.proofs.ProbingLoops.{is-none, is-some}
+use Rattle.probe_side.proofs.SideLaws.{is-none, is-some}
 use Rattle.propagation.specs.Results.{propagationOf}
 use Rattle.propagation.specs.declared.Propagation.{Propagation}
 use Rattle.semantics.specs.Propagate.{isNone, propagateFrom}

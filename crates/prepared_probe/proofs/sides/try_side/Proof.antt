@@ -13,8 +13,8 @@ use native.Mathlib.Omega.{arith}
 use Rattle.marked_row.proofs.LocalBox.{blank}
 use Rattle.model.specs.Box.{withBounds}
 use Rattle.prepared_propagation.specs.Reasons.{reasonsOf}
-use Rattle.probing.proofs.MarkedLaws.{front-room}
-use Rattle.probing.proofs.ProbingLoops.{fix-stores}
+use Rattle.probe_side.proofs.MarkedLaws.{front-room}
+use Rattle.probe_side.proofs.SideLaws.{fix-stores}
 use Rattle.semantics.specs.Probe.{fix}
 use Rattle.semantics.specs.Propagate.{propagate}
 use Rattle.prepared_probe.specs.Reasons.{sideReasons}
