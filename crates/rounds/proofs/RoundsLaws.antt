@@ -1,4 +1,4 @@
--- What `rounds::run` needs of the definitions: the rounds that are still to be made, and what all of them mean. Assumes nothing.
+-- What `rounds_call::run` needs of the definitions: the rounds that are still to be made, and what all of them mean. Assumes nothing.
 use Prim.Native.Nat.{_*_, _+_, _-_, _<_, _≤_, suc, zero, ℕ}
 use lib.Dec.{T, eqb, eqb→eq}
 use borrow.Author.Tests.{ne-eqb}
@@ -20,12 +20,12 @@ use Rattle.semantics.proofs.Accepted.{accepted-valid}
 use Rattle.semantics.proofs.Demand2.{no-point}
 use Rattle.semantics.proofs.ImplicationLaws.{zeros-hold}
 use Rattle.semantics.proofs.Preserved.{run-preserves}
-use Rattle.round.specs.Round.{anyChange, round}
+use Rattle.rounds.specs.Round.{anyChange, round}
 use Rattle.semantics.specs.Unmoved.{anySpent}
 use Rattle.rounds.specs.NoLimit.{NeverAtLimit, NotReached}
 use Rattle.rounds.specs.Rest.{EndsAtRest}
 use Rattle.rounds.specs.Rounds.{Rounds, RoundsAnswer, RoundsEnding, RoundsRun, SamePoints, after, atLimit, ended, infeasible, nothingChanged, refusedRounds, roundsFault, roundsFrom, runRounds}
-use Rattle.round.proofs.RoundLaws.{Leads, leads-valid, run-append}
+use Rattle.rounds.proofs.RoundLaws.{Leads, leads-valid, run-append}
 use Rattle.rounds.proofs.NoLimit.{never-at-limit}
 use Rattle.rounds.proofs.RestLaws.{rounds-rest}
 

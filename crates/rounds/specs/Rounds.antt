@@ -15,7 +15,7 @@ use Rattle.semantics.specs.Run.{run}
 use Rattle.semantics.specs.Unmoved.{anySpent}
 use Rattle.semantics.specs.Call.{Call}
 use Rattle.model.specs.State.{State}
-use Rattle.round.specs.Round.{anyChange, round}
+use Rattle.rounds.specs.Round.{anyChange, round}
 
 -- how they end: at None, after a round that changed nothing, at the limit
 pub data RoundsEnding : Type 0 where
