@@ -1,4 +1,4 @@
--- The rounds of `reduce` (01, "Book"): what a round is stands in `round/specs/Round`; "It ends after a round that changed nothing,
+-- The rounds of `reduce` (01, "Book"): what a round is stands in `Round` beside it; "It ends after a round that changed nothing,
 -- after 8 rounds, or at None."
 use Prim.Native.Nat.{_*_, suc, zero, ℕ}
 use lib.Dec.{eqb}

@@ -1,7 +1,7 @@
-// The rounds of `reduce`: rounds are made until one changes nothing. The model and the table are checked once; each
-// call leaves them valid.
-use round::round;
+// The rounds of `reduce`, open to others: any n and m, any buffers with any contents. The model and the table are
+// checked once; each call leaves them valid.
 use rounds::RoundsAnswer;
+use rounds_loop::make_rounds;
 ghost use mathlib.Core.Path.{_≡_};
 ghost use Rattle.semantics.specs.Run.{run as ran};
 ghost use Rattle.model.specs.Rows.{rowsOf};
@@ -53,18 +53,5 @@ pub fn run(
     if fault != 0 {
         return RoundsAnswer::Refused(fault);
     }
-    let mut made: u64 = 0;
-    let mut spent = false;
-    while made < limit {
-        made += 1;
-        let last = round(n, m, bounds, coefs, rhs, kinds, table);
-        spent = last.spent;
-        if boxes::is_empty(bounds) {
-            return RoundsAnswer::Infeasible(made, spent);
-        }
-        if !last.changed {
-            return RoundsAnswer::NothingChanged(made, spent);
-        }
-    }
-    RoundsAnswer::AtLimit(made, spent)
+    make_rounds(n, m, bounds, coefs, rhs, kinds, table, limit)
 }
