@@ -280,7 +280,7 @@ pub extern "C" fn astrolabe_rounds(
         return answer_fault(n, m);
     }
     put(
-        rounds_reply(rounds::run(n, m, bounds, coefs, rhs, kinds, table, limit)),
+        rounds_reply(rounds_call::run(n, m, bounds, coefs, rhs, kinds, table, limit)),
         answer,
     )
 }
