@@ -19,12 +19,12 @@ use Rattle.model.specs.Rows.{rowAt, rowOf}
 use Rattle.row.specs.Activity.{maxActivity}
 use Rattle.row.specs.Outcome as outcomes
 use Rattle.row.specs.Outcome.{isChanged, isInfeasible}
-use Rattle.row_change.specs.KindChanges.{ChangedRow, tightenRowOf}
-use Rattle.row_change.specs.Tightening.{mayTighten}
+use Rattle.row.specs.KindChanges.{ChangedRow, tightenRowOf}
+use Rattle.row.specs.Tightening.{mayTighten}
 use Rattle.row.specs.ValidRow.{ValidCoefs}
 use Rattle.row.proofs.RowLoops.{coefs-small, max-activity-small}
-use Rattle.row_change.proofs.KindChangeLaws.{tighten-kinded-ind, tighten-kinded-unchanged}
-use Rattle.row_change.proofs.TighteningLaws.{tighten-fails}
+use Rattle.row.proofs.KindChangeLaws.{tighten-kinded-ind, tighten-kinded-unchanged}
+use Rattle.row.proofs.TighteningLaws.{tighten-fails}
 use Rattle.semantics.specs.CallChecks.{callFault}
 use Rattle.semantics.specs.Call.{callOf, kindOf}
 use Rattle.model.specs.State.{State}
@@ -33,7 +33,7 @@ use Rattle.rounds.specs.Round.{anyChange, isChange, tightenCall}
 use Rattle.semantics.proofs.ClassLaws.{classBy, tighten-class}
 use Rattle.semantics.proofs.RowChange.{row-valid, withRow-same}
 use Rattle.model.proofs.RowsLaws.{at-rowOf}
-use Rattle.row_view.proofs.RowInLaws.{row-fits}
+use Rattle.matrix_view.proofs.RowInLaws.{row-fits}
 use Rattle.round_rows.specs.TightenedAt.{TightenedAt}
 use Rattle.rounds.proofs.RoundLaws.{Leads, no-call}
 
