@@ -15,8 +15,8 @@ use Rattle.book.specs.BookChecks.{bookFault, firstEditionChecks, headChecks, mo
 use Rattle.sparse_layout.specs.SparseBook.{decodeSparse, encodeSparse, sparseLength}
 use Rattle.sparse_layout.specs.SparseChecks.{sparseLayoutChecks, sparseTrailerChecks}
 use Rattle.sparse_layout.specs.SparseTrips.{toFirst, toSparse}
-use Rattle.sparse.specs.declared.writing.LengthAnswer.{LengthAnswer}
-use Rattle.sparse.specs.declared.writing.LengthAnswer.the-variants as lengths
+use Rattle.sparse_calls.specs.declared.LengthAnswer.{LengthAnswer}
+use Rattle.sparse_calls.specs.declared.LengthAnswer.the-variants as lengths
 
 -- ---- the trailer call: 1 5 3 4
 

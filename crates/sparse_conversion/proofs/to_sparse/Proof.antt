@@ -1,4 +1,4 @@
--- `sparse::conversion::to_sparse`: past the head's checks the call that writes the book's model answers (`to-sparse-same`).
+-- `sparse_conversion::to_sparse`: past the head's checks the call that writes the book's model answers (`to-sparse-same`).
 -- Assumes nothing.
 use Prim.Native.Nat.{_*_, _≤_, ℕ}
 use mathlib.Core.Path.{_∙_, ap, ap₂, sym}
@@ -11,12 +11,12 @@ use Rattle.book.proofs.AcceptLaws.{Head, head-holds, head-test}
 use Rattle.book.proofs.AnswerLaws.{refused-by, stays}
 use Rattle.sparse_layout.specs.SparseBook.{encodeSparse}
 use Rattle.sparse_layout.specs.SparseTrips.{toSparse}
-use Rattle.sparse.specs.SparseCalls.{sparseWriteCall, sparseWritten, toSparseCall, toSparseFault, toSparseWritten}
-use Rattle.sparse.proofs.ConversionLaws.{to-sparse-back, to-sparse-refused, to-sparse-same}
-use Rattle.sparse.proofs.RoomLaws.{bounds-room, coefs-room, kinds-front, kinds-room, rhs-room}
+use Rattle.sparse_calls.specs.SparseCalls.{sparseWriteCall, sparseWritten, toSparseCall, toSparseFault, toSparseWritten}
+use Rattle.sparse_calls.proofs.ConversionLaws.{to-sparse-back, to-sparse-refused, to-sparse-same}
+use Rattle.sparse_conversion.proofs.RoomLaws.{bounds-room, coefs-room, kinds-front, kinds-room, rhs-room}
 use borrow.Author.Needs.{needs}
-use Rattle.sparse.proofs.conversion.to_sparse.Statement.{statement}
-use Rattle.sparse.proofs.conversion.to_sparse.Tie as tie
+use Rattle.sparse_conversion.proofs.to_sparse.Statement.{statement}
+use Rattle.sparse_conversion.proofs.to_sparse.Tie as tie
 
 head-fault-requires : tie.Need-head-fault-requires
 head-fault-requires c κs = search needs

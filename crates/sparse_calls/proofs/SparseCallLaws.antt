@@ -27,9 +27,9 @@ use Rattle.sparse_layout.proofs.CheckingLaws.{head-rows}
 use Rattle.sparse_layout.proofs.SparseAcceptLaws.{SparseLayout, all-entries-test, sparse-layout-numbered, sparse-layout-test}
 use Rattle.sparse_layout.proofs.SparseTripLaws.{sparse-reads-written, sparse-writes-read}
 use Rattle.sparse_layout.proofs.WritingLaws.{length-coefs}
-use Rattle.sparse.specs.SparseCalls.{bytesAre, bytesUnless, lengthAnswer, refusedLength, sparseBoundsRead, sparseCoefsRead, sparseKindsRead, sparseReadCall, sparseReadChecks, sparseReadFault, sparseRhsRead, sparseWriteCall, sparseWriteFault, sparseWritten}
-use Rattle.sparse.specs.declared.writing.LengthAnswer.{LengthAnswer}
-use Rattle.sparse.specs.declared.writing.LengthAnswer.the-variants as lengths
+use Rattle.sparse_calls.specs.SparseCalls.{bytesAre, bytesUnless, lengthAnswer, refusedLength, sparseBoundsRead, sparseCoefsRead, sparseKindsRead, sparseReadCall, sparseReadChecks, sparseReadFault, sparseRhsRead, sparseWriteCall, sparseWriteFault, sparseWritten}
+use Rattle.sparse_calls.specs.declared.LengthAnswer.{LengthAnswer}
+use Rattle.sparse_calls.specs.declared.LengthAnswer.the-variants as lengths
 
 -- ---- reading
 

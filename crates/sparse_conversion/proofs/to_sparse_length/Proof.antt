@@ -1,4 +1,4 @@
--- `sparse::conversion::to_sparse_length`: past the head's checks the answer is that of the book's model (`length-same`).
+-- `sparse_conversion::to_sparse_length`: past the head's checks the answer is that of the book's model (`length-same`).
 -- Assumes nothing.
 use Prim.Native.Nat.{_*_, _≤_, ℕ}
 use mathlib.Core.Path.{_∙_, ap, ap₂, sym}
@@ -7,13 +7,13 @@ use native.Mathlib.Omega.{arith}
 use Rattle.book.specs.Book.{decode, modelIn}
 use Rattle.book.proofs.AcceptLaws.{Head, head-holds, head-test}
 use Rattle.sparse_layout.specs.SparseBook.{sparseLength}
-use Rattle.sparse.specs.SparseCalls.{bytesUnless, lengthAnswer, sparseLengthCall, toSparseLengthCall}
-use Rattle.sparse.proofs.ConversionLaws.{length-refused-head, length-same}
-use Rattle.sparse.proofs.RoomLaws.{bounds-room, coefs-room, kinds-front, kinds-room, rhs-room}
-use Rattle.sparse.proofs.SparseCallLaws.{length-refused}
+use Rattle.sparse_calls.specs.SparseCalls.{bytesUnless, lengthAnswer, sparseLengthCall, toSparseLengthCall}
+use Rattle.sparse_calls.proofs.ConversionLaws.{length-refused-head, length-same}
+use Rattle.sparse_conversion.proofs.RoomLaws.{bounds-room, coefs-room, kinds-front, kinds-room, rhs-room}
+use Rattle.sparse_calls.proofs.SparseCallLaws.{length-refused}
 use borrow.Author.Needs.{needs}
-use Rattle.sparse.proofs.conversion.to_sparse_length.Statement.{statement}
-use Rattle.sparse.proofs.conversion.to_sparse_length.Tie as tie
+use Rattle.sparse_conversion.proofs.to_sparse_length.Statement.{statement}
+use Rattle.sparse_conversion.proofs.to_sparse_length.Tie as tie
 
 head-fault-requires : tie.Need-head-fault-requires
 head-fault-requires c κs = search needs

@@ -1,12 +1,12 @@
--- `sparse::conversion::convert_sparse`: what is read is the book's model, and it is what is written. Assumes nothing.
+-- `sparse_conversion::convert_sparse`: what is read is the book's model, and it is what is written. Assumes nothing.
 use mathlib.Core.Path.{_∙_, _≡_, ap}
 use Rattle.model.specs.Model.{Model, modelOf}
 use Rattle.model.specs.Rows.{rowsOf}
 use Rattle.book.specs.Answers.{bookWritten, writeCall}
 use Rattle.sparse_layout.specs.SparseBook.{sparseModelIn}
 use borrow.Author.Needs.{needs}
-use Rattle.sparse.proofs.conversion.convert_sparse.Statement.{statement}
-use Rattle.sparse.proofs.conversion.convert_sparse.Tie as tie
+use Rattle.sparse_conversion.proofs.convert_sparse.Statement.{statement}
+use Rattle.sparse_conversion.proofs.convert_sparse.Tie as tie
 
 read-numbers-requires : tie.Need-read-numbers-requires
 read-numbers-requires c κs = search needs

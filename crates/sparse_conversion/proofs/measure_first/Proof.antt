@@ -1,12 +1,12 @@
--- `sparse::conversion::measure_first`: what is read is the book's model, and its length is the answer. Assumes nothing.
+-- `sparse_conversion::measure_first`: what is read is the book's model, and its length is the answer. Assumes nothing.
 use mathlib.Core.Path.{_∙_, _≡_, ap}
 use Rattle.model.specs.Model.{modelOf}
 use Rattle.model.specs.Rows.{rowsOf}
 use Rattle.book.specs.Book.{modelIn}
-use Rattle.sparse.specs.SparseCalls.{sparseLengthCall}
+use Rattle.sparse_calls.specs.SparseCalls.{sparseLengthCall}
 use borrow.Author.Needs.{needs}
-use Rattle.sparse.proofs.conversion.measure_first.Statement.{statement}
-use Rattle.sparse.proofs.conversion.measure_first.Tie as tie
+use Rattle.sparse_conversion.proofs.measure_first.Statement.{statement}
+use Rattle.sparse_conversion.proofs.measure_first.Tie as tie
 
 read-first-requires : tie.Need-read-first-requires
 read-first-requires c κs = search needs

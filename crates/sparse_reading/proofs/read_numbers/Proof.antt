@@ -1,4 +1,4 @@
--- `sparse::numbers::read_numbers`: each call fills its buffer with the book's numbers. Assumes nothing.
+-- `sparse_reading::read_numbers`: each call fills its buffer with the book's numbers. Assumes nothing.
 use Prim.Native.Nat.{ℕ}
 use mathlib.Core.Path.{_∙_, ap}
 use native.Mathlib.Omega.{arith}
@@ -7,8 +7,8 @@ use Rattle.book.specs.Book.{boundsOf}
 use Rattle.sparse_layout.specs.SparseBook.{sparseKindsOf, sparseRhsOf}
 use Rattle.sparse_layout.proofs.SparseTripLaws.{start-within}
 use borrow.Author.Needs.{needs}
-use Rattle.sparse.proofs.numbers.read_numbers.Statement.{statement}
-use Rattle.sparse.proofs.numbers.read_numbers.Tie as tie
+use Rattle.sparse_reading.proofs.read_numbers.Statement.{statement}
+use Rattle.sparse_reading.proofs.read_numbers.Tie as tie
 
 read-integers-requires : tie.Need-read-integers-requires
 read-integers-requires c κs = λ i h.

@@ -1,4 +1,4 @@
--- `sparse::numbers::read_first`: each call fills its buffer with the book's numbers. Assumes nothing.
+-- `sparse_conversion::read_first`: each call fills its buffer with the book's numbers. Assumes nothing.
 use Prim.Native.Nat.{_*_, _+_, ℕ}
 use mathlib.Core.Path.{_∙_, ap}
 use native.Mathlib.Omega.{arith}
@@ -6,8 +6,8 @@ use Rattle.bytes.specs.Bytes.{integersAt}
 use Rattle.book.specs.Book.{boundsOf, rhsOf, rowPlace}
 use Rattle.book.proofs.EncodeLaws.{row-within}
 use borrow.Author.Needs.{needs}
-use Rattle.sparse.proofs.numbers.read_first.Statement.{statement}
-use Rattle.sparse.proofs.numbers.read_first.Tie as tie
+use Rattle.sparse_conversion.proofs.read_first.Statement.{statement}
+use Rattle.sparse_conversion.proofs.read_first.Tie as tie
 
 read-integers-requires : tie.Need-read-integers-requires
 read-integers-requires c κs = search needs

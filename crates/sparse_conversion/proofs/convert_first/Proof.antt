@@ -1,12 +1,12 @@
--- `sparse::conversion::convert_first`: what is read is the book's model, and it is what is written. Assumes nothing.
+-- `sparse_conversion::convert_first`: what is read is the book's model, and it is what is written. Assumes nothing.
 use mathlib.Core.Path.{_∙_, _≡_, ap}
 use Rattle.model.specs.Model.{Model, modelOf}
 use Rattle.model.specs.Rows.{rowsOf}
 use Rattle.book.specs.Book.{modelIn}
-use Rattle.sparse.specs.SparseCalls.{sparseWriteCall, sparseWritten}
+use Rattle.sparse_calls.specs.SparseCalls.{sparseWriteCall, sparseWritten}
 use borrow.Author.Needs.{needs}
-use Rattle.sparse.proofs.conversion.convert_first.Statement.{statement}
-use Rattle.sparse.proofs.conversion.convert_first.Tie as tie
+use Rattle.sparse_conversion.proofs.convert_first.Statement.{statement}
+use Rattle.sparse_conversion.proofs.convert_first.Tie as tie
 
 read-first-requires : tie.Need-read-first-requires
 read-first-requires c κs = search needs

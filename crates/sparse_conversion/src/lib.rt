@@ -1,30 +1,51 @@
-// From one edition to the other: the layout's checks of the book that is read, then its model, which is checked by the
-// call that writes it. The model stands in local buffers of the largest model's size.
-use crate::numbers::read_first;
-use crate::numbers::read_numbers;
-use crate::writing::LengthAnswer;
+// A book of one edition turned into one of the other (02, C-18): the layout's checks of the book that is read, then its
+// model, which is checked by the call that writes it. The model stands in local buffers of the largest model's size.
+// What is open here requires nothing; converting there and back gives the same bytes.
 use book::layout::ROWS;
 use book::layout::VARIABLES;
 use book::layout::head_fault;
 use book::layout::trailer_u16;
 use book::writing::WriteAnswer;
+use bytes::integers::read_integers;
 use model::MAX_BOX;
 use model::MAX_MATRIX;
 use model::MAX_ROWS;
+use sparse_calls::LengthAnswer;
 use sparse_reading::layout_fault;
+use sparse_reading::read_numbers;
 ghost use mathlib.Core.Path.{_≡_};
 ghost use Prim.Native.Nat.{_*_};
 ghost use lib.ListN.{length};
 ghost use Rattle.book.specs.Answers.{bookWritten, writeAnswer, writeCall, written};
-ghost use Rattle.book.specs.Book.{HoldsModel, kindsOf, modelIn};
+ghost use Rattle.book.specs.Book.{HoldsModel, boundsOf, coefsOf, kindsOf, modelIn, rhsOf};
 ghost use Rattle.book.specs.BookChecks.{bookFault};
 ghost use Rattle.model.specs.Checks.{first};
 ghost use Rattle.sparse_layout.specs.SparseBook.{HoldsRows, sparseModelIn};
 ghost use Rattle.sparse_layout.specs.SparseChecks.{allEntryChecks, sparseFault};
 ghost use Rattle.sparse_layout.specs.SparseTrips.{toFirst, toSparse};
-ghost use Rattle.sparse.specs.SparseCalls.{lengthAnswer, sparseLengthCall, sparseWriteCall, sparseWritten};
-ghost use Rattle.sparse.specs.SparseCalls.{toFirstCall, toFirstWritten, toSparseCall, toSparseLengthCall};
-ghost use Rattle.sparse.specs.SparseCalls.{toSparseWritten};
+ghost use Rattle.sparse_calls.specs.SparseCalls.{lengthAnswer, sparseLengthCall, sparseWriteCall, sparseWritten};
+ghost use Rattle.sparse_calls.specs.SparseCalls.{toFirstCall, toFirstWritten, toSparseCall, toSparseLengthCall};
+ghost use Rattle.sparse_calls.specs.SparseCalls.{toSparseWritten};
+
+// Reads the numbers of a first-edition book with a head into buffers of its model's lengths.
+fn read_first(
+    n: usize,
+    m: usize,
+    book: &[u8],
+    bounds: &mut [i32],
+    coefs: &mut [i32],
+    rhs: &mut [i32],
+)
+    requires layout { ⌜ HoldsModel n m (now book) ⌝ }
+    requires lengths { ⌜ (length (now bounds) ≡ 2 * n) × (length (now coefs) ≡ m * n) × (length (now rhs) ≡ m) ⌝ }
+    ensures bounds_read { λ r. ⌜ now (bounds .exit) ≡ boundsOf n (now (book .entry)) ⌝ }
+    ensures coefs_read { λ r. ⌜ now (coefs .exit) ≡ coefsOf n m (now (book .entry)) ⌝ }
+    ensures rhs_read { λ r. ⌜ now (rhs .exit) ≡ rhsOf n m (now (book .entry)) ⌝ }
+{
+    read_integers(book, 0, 4, bounds);
+    book_reading::read_coefs(n, m, book, coefs);
+    read_integers(book, 8 * n, 4 + 4 * n, rhs);
+}
 
 // The length of the sparse edition, by way of buffers of the model's lengths; the kinds are all 0.
 fn measure_first(
@@ -42,7 +63,7 @@ fn measure_first(
     ensures { λ r. ⌜ lengthAnswer r ≡ sparseLengthCall (modelIn n m (now (from .entry))) ⌝ }
 {
     read_first(n, m, from, bounds, coefs, rhs);
-    crate::writing::length(n, m, bounds, coefs, rhs, kinds)
+    sparse::writing::length(n, m, bounds, coefs, rhs, kinds)
 }
 
 // The sparse edition, by way of the same.
@@ -64,7 +85,7 @@ fn convert_first(
         ⌜ now (to .exit) ≡ sparseWritten (modelIn n m (now (from .entry))) (now (to .entry)) ⌝ }
 {
     read_first(n, m, from, bounds, coefs, rhs);
-    crate::writing::write(n, m, bounds, coefs, rhs, kinds, to)
+    sparse::writing::write(n, m, bounds, coefs, rhs, kinds, to)
 }
 
 // The first edition of a sparse book, by way of buffers of the model's lengths.

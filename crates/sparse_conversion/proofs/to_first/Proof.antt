@@ -1,4 +1,4 @@
--- `sparse::conversion::to_first`: past the layout's checks the call that writes the book's model answers (`to-first-same`).
+-- `sparse_conversion::to_first`: past the layout's checks the call that writes the book's model answers (`to-first-same`).
 -- Assumes nothing.
 use Prim.Native.Nat.{_*_, _≤_, ℕ}
 use mathlib.Core.Path.{_∙_, ap, ap₂, sym}
@@ -11,13 +11,13 @@ use Rattle.book.proofs.AnswerLaws.{refused-by, stays}
 use Rattle.sparse_layout.specs.SparseBook.{decodeSparse, sparseModelIn}
 use Rattle.sparse_layout.specs.SparseTrips.{toFirst}
 use Rattle.sparse_layout.proofs.SparseAcceptLaws.{SparseLayout, sparse-layout-test}
-use Rattle.sparse.specs.SparseCalls.{toFirstCall, toFirstFault, toFirstWritten}
-use Rattle.sparse.proofs.ConversionLaws.{to-first-back, to-first-refused, to-first-same}
-use Rattle.sparse.proofs.RoomLaws.{bounds-room, coefs-room, kinds-room, rhs-room}
-use Rattle.sparse.proofs.SparseCallLaws.{layout-holds}
+use Rattle.sparse_calls.specs.SparseCalls.{toFirstCall, toFirstFault, toFirstWritten}
+use Rattle.sparse_calls.proofs.ConversionLaws.{to-first-back, to-first-refused, to-first-same}
+use Rattle.sparse_conversion.proofs.RoomLaws.{bounds-room, coefs-room, kinds-room, rhs-room}
+use Rattle.sparse_calls.proofs.SparseCallLaws.{layout-holds}
 use borrow.Author.Needs.{needs}
-use Rattle.sparse.proofs.conversion.to_first.Statement.{statement}
-use Rattle.sparse.proofs.conversion.to_first.Tie as tie
+use Rattle.sparse_conversion.proofs.to_first.Statement.{statement}
+use Rattle.sparse_conversion.proofs.to_first.Tie as tie
 
 layout-fault-requires : tie.Need-layout-fault-requires
 layout-fault-requires c κs = search needs

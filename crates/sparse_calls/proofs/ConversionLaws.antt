@@ -23,7 +23,7 @@ use Rattle.sparse_layout.specs.SparseChecks.{sparseChecks, sparseFault, sparseL
 use Rattle.sparse_layout.specs.SparseTrips.{toFirst, toSparse}
 use Rattle.sparse_layout.proofs.SparseAcceptLaws.{sparse-layout-numbered, sparse-layout-test, sparse-lengths, sparse-sizes}
 use Rattle.sparse_layout.proofs.SparseTripLaws.{first-sparse-first, sparse-first-sparse}
-use Rattle.sparse.specs.SparseCalls.{sparseWriteFault, toFirstCall, toFirstChecks, toFirstFault, toFirstWritten, toSparseCall, toSparseChecks, toSparseFault, toSparseWritten}
+use Rattle.sparse_calls.specs.SparseCalls.{sparseWriteFault, toFirstCall, toFirstChecks, toFirstFault, toFirstWritten, toSparseCall, toSparseChecks, toSparseFault, toSparseWritten}
 
 -- the model's chain past its sizes and lengths
 model-tail : (M : Model) (fits : Bool) → first (sizeChecks (M .n) (M .m)) ≡ 0 → first (lengthChecks M) ≡ 0

@@ -1,3 +1,2 @@
 pub mod SparseCallLaws
 pub mod ConversionLaws
-pub mod RoomLaws
