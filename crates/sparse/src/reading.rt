@@ -6,7 +6,7 @@ use book::layout::VARIABLES;
 use book::layout::rows_of;
 use book::layout::trailer_u16;
 use book::layout::variables_of;
-use sparse_layout::head::frame_fault;
+use sparse_checks::head::frame_fault;
 use sparse_reading::layout_fault;
 use sparse_reading::number_fault;
 use sparse_reading::read_numbers;

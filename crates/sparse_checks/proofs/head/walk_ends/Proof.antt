@@ -1,14 +1,14 @@
--- `sparse_layout::head::walk_ends`: the place is where row i starts, and lies less than the longest row beyond `end`.
+-- `sparse_checks::head::walk_ends`: the place is where row i starts, and lies less than the longest row beyond `end`.
 -- Assumes nothing.
 use Prim.Native.Nat.{_+_, _-_, _≤_, ℕ}
 use lib.Dec.{eqb}
 use mathlib.Core.Path.{_≡_, ap, sym}
 use native.Mathlib.Omega.{arith}
 use Rattle.sparse_layout.specs.SparseBook.{rowStart}
 use Rattle.sparse_layout.proofs.CheckingLaws.{walk-next, walk-short}
 use Rattle.sparse_layout.proofs.SparseTripLaws.{start-first}
-use Rattle.sparse_layout.proofs.head.walk_ends.Statement.{statement}
-use Rattle.sparse_layout.proofs.head.walk_ends.Tie as tie
+use Rattle.sparse_checks.proofs.head.walk_ends.Statement.{statement}
+use Rattle.sparse_checks.proofs.head.walk_ends.Tie as tie
 
 abbrev Inv-loop : tie.InvT-loop
 Inv-loop n m book end p₀ i₀ p i = (i ≤ m) × (p ≡ rowStart n book i) × (p ≤ end + 400_000)

@@ -1,9 +1,9 @@
--- `sparse_layout::entries::row_count`: the two bytes are where the definition has them.
+-- `sparse_checks::entries::row_count`: the two bytes are where the definition has them.
 -- Assumes nothing.
 use borrow.Author.Needs.{needs}
 use Rattle.sparse_layout.specs.SparseBook.{countAt}
-use Rattle.sparse_layout.proofs.entries.row_count.Statement.{statement}
-use Rattle.sparse_layout.proofs.entries.row_count.Tie as tie
+use Rattle.sparse_checks.proofs.entries.row_count.Statement.{statement}
+use Rattle.sparse_checks.proofs.entries.row_count.Tie as tie
 
 add-read-u16 : tie.Need-add-read-u16
 add-read-u16 c = search needs

@@ -1,15 +1,15 @@
--- `sparse_layout::entries::row_entries_fault`: the invariant says that the entries so far pass.
+-- `sparse_checks::entries::row_entries_fault`: the invariant says that the entries so far pass.
 -- Assumes nothing.
 use Prim.Native.Nat.{_-_, _≤_}
 use mathlib.Core.Path.{_∙_, _≡_, refl, sym}
 use native.Mathlib.Omega.{arith}
 use Rattle.bytes.specs.Pieces.{joined}
 use Rattle.model.specs.Checks.{first}
 use Rattle.sparse_layout.specs.SparseChecks.{entryChecks}
 use Rattle.sparse_layout.proofs.CheckingLaws.{first-at, first-on}
 use Rattle.sparse_layout.proofs.SparseAcceptLaws.{entry-numbered}
-use Rattle.sparse_layout.proofs.entries.row_entries_fault.Statement.{statement}
-use Rattle.sparse_layout.proofs.entries.row_entries_fault.Tie as tie
+use Rattle.sparse_checks.proofs.entries.row_entries_fault.Statement.{statement}
+use Rattle.sparse_checks.proofs.entries.row_entries_fault.Tie as tie
 
 abbrev Inv-loop : tie.InvT-loop
 Inv-loop n book p count e₀ e = (e ≤ count) × (first (joined e (entryChecks n p book)) ≡ 0)

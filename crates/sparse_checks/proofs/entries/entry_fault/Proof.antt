@@ -1,4 +1,4 @@
--- `sparse_layout::entries::entry_fault`: the column decides first, and the entry before is 6 bytes back.
+-- `sparse_checks::entries::entry_fault`: the column decides first, and the entry before is 6 bytes back.
 -- Assumes nothing.
 use Prim.Native.Nat.{_<_}
 use mathlib.Core.Logic.{⊎-elim}
@@ -7,11 +7,11 @@ use mir.Facts.{toZ-ofZ}
 use mir.Syntax.{w32}
 use mir.Val.{SFits, ofZ, toZ}
 use native.Mathlib.Omega.{arith}
 use Rattle.sparse_layout.specs.SparseBook.{columnAt, valueAt}
 use Rattle.sparse_layout.proofs.CheckingLaws.{Rises, column-refused, entry-accepted, entry-before, entry-value, value-refused}
 use borrow.Author.Needs.{needs}
-use Rattle.sparse_layout.proofs.entries.entry_fault.Statement.{statement}
-use Rattle.sparse_layout.proofs.entries.entry_fault.Tie as tie
+use Rattle.sparse_checks.proofs.entries.entry_fault.Statement.{statement}
+use Rattle.sparse_checks.proofs.entries.entry_fault.Tie as tie
 
 add-place : tie.Need-add-place
 add-place c = search needs

@@ -1,4 +1,4 @@
--- `sparse_layout::entries::entries_fault`: the place is where row i starts, and the entries of the rows before it pass.
+-- `sparse_checks::entries::entries_fault`: the place is where row i starts, and the entries of the rows before it pass.
 -- Assumes nothing.
 use Prim.Native.Nat.{_*_, _+_, _-_, _≤_}
 use lib.ListN.{length}
@@ -6,13 +6,13 @@ use mathlib.Core.Path.{_∙_, _≡_, refl, sym}
 use native.Mathlib.Omega.{arith}
 use Rattle.bytes.specs.Pieces.{joined}
 use Rattle.model.specs.Checks.{first}
 use Rattle.sparse_layout.specs.SparseBook.{countAt, rowStart}
 use Rattle.sparse_layout.specs.SparseChecks.{allEntryChecks, rowEntryChecks}
 use Rattle.sparse_layout.proofs.CheckingLaws.{first-at, first-on, row-checked, walk-inside, walk-next}
 use Rattle.sparse_layout.proofs.SparseAcceptLaws.{row-numbered}
 use Rattle.sparse_layout.proofs.SparseTripLaws.{start-first}
-use Rattle.sparse_layout.proofs.entries.entries_fault.Statement.{statement}
-use Rattle.sparse_layout.proofs.entries.entries_fault.Tie as tie
+use Rattle.sparse_checks.proofs.entries.entries_fault.Statement.{statement}
+use Rattle.sparse_checks.proofs.entries.entries_fault.Tie as tie
 
 abbrev Inv-loop : tie.InvT-loop
 Inv-loop n m book p₀ i₀ p i = (i ≤ m) × (p ≡ rowStart n book i) × (first (allEntryChecks n i book) ≡ 0)

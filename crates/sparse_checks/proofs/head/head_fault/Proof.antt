@@ -1,4 +1,4 @@
--- `sparse_layout::head::head_fault`: the part of the book is its trailer, and the checks are passed in their order.
+-- `sparse_checks::head::head_fault`: the part of the book is its trailer, and the checks are passed in their order.
 -- Assumes nothing.
 use Prim.Native.Nat.{_-_, _<_, _≤_, ℕ}
 use borrow.Author.Tests.{le-leb, lt-leb}
@@ -14,12 +14,12 @@ use Rattle.bytes.specs.Bytes.{Bytes}
 use Rattle.book.specs.Book.{rows, trailerOf, variables}
 use Rattle.book.specs.BookChecks.{givenLengthChecks}
 use Rattle.book.proofs.EncodeLaws.{trailer-part}
 use Rattle.sparse_layout.specs.SparseBook.{rowStart}
 use Rattle.sparse_layout.specs.SparseChecks.{sparseFrameChecks, sparseHeadChecks, sparseOffsetChecks, walkChecks}
 use Rattle.sparse_layout.proofs.CheckingLaws.{frame-passed, given-passed}
 use borrow.Author.Needs.{needs}
-use Rattle.sparse_layout.proofs.head.head_fault.Statement.{statement}
-use Rattle.sparse_layout.proofs.head.head_fault.Tie as tie
+use Rattle.sparse_checks.proofs.head.head_fault.Statement.{statement}
+use Rattle.sparse_checks.proofs.head.head_fault.Tie as tie
 
 returns : tie.Need-returns
 unfolding sparseHeadChecks

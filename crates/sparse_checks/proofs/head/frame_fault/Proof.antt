@@ -1,4 +1,4 @@
--- `sparse_layout::head::frame_fault`: check 3 by `size_fault`, and each comparison is a part of check 4 (`frame-refused`).
+-- `sparse_checks::head::frame_fault`: check 3 by `size_fault`, and each comparison is a part of check 4 (`frame-refused`).
 -- Assumes nothing.
 use Prim.Native.Nat.{_≤_}
 use mathlib.Core.Path.{_∙_, _≡_, sym}
@@ -7,11 +7,11 @@ use Rattle.model.specs.Checks.{first, sizeChecks}
 use Rattle.model.proofs.CheckLaws.{stops}
 use Rattle.book.specs.Book.{rows, variables}
 use Rattle.book.proofs.AcceptLaws.{size-passed}
 use Rattle.sparse_layout.specs.SparseChecks.{sparseFrameChecks}
 use Rattle.sparse_layout.proofs.CheckingLaws.{frame-accepted, frame-refused}
 use borrow.Author.Needs.{needs}
-use Rattle.sparse_layout.proofs.head.frame_fault.Statement.{statement}
-use Rattle.sparse_layout.proofs.head.frame_fault.Tie as tie
+use Rattle.sparse_checks.proofs.head.frame_fault.Statement.{statement}
+use Rattle.sparse_checks.proofs.head.frame_fault.Tie as tie
 
 variables-of-requires : tie.Need-variables-of-requires
 variables-of-requires c κs = search needs
