@@ -3,8 +3,8 @@
 // else is in covered functions.
 use call::Call;
 use call_record::run_next;
-use call_record::run_none;
 use flat_list::RunAnswer;
+use flat_list::run_none;
 ghost use mathlib.Core.Path.{_≡_};
 ghost use Prim.Native.Nat.{_<_};
 ghost use lib.ListN.{length, getD};

@@ -4,6 +4,7 @@ use call::Counts;
 use flat_record::classes_fault;
 use flat_record::list_fault;
 use records::run_records;
+ghost use mathlib.Core.List.{[]};
 ghost use mathlib.Core.Path.{_≡_};
 ghost use Rattle.semantics.specs.CallList.{ran, runList};
 ghost use Rattle.model.specs.Rows.{rowsOf};
@@ -55,6 +56,26 @@ pub fn run(
     }
     let mut none: [u8; 0] = [];
     RunAnswer::Ran(run_records(n, m, bounds, coefs, rhs, kinds, table, calls, &mut none))
+}
+
+// Runs the list of no record: the model and the table are checked. It is the answer before the first record.
+pub fn run_none<'a>(
+    n: usize,
+    m: usize,
+    bounds: &'a mut [i32],
+    coefs: &[i32],
+    rhs: &[i32],
+    kinds: &[u8],
+    table: &'a mut [u8],
+) -> RunAnswer
+    ensures { λ r.
+        let A = rowsOf (now (coefs .entry)) (now (rhs .entry)) (now (kinds .entry)) in
+        let s = stateOf n m (now (bounds .entry)) A (now (table .entry)) in
+        let r' = stateOf n m (now (bounds .exit)) A (now (table .exit)) in
+        ⌜ listRun r r' ≡ runList s [] ⌝ }
+{
+    let none: [u32; 0] = [];
+    run(n, m, bounds, coefs, rhs, kinds, table, &none)
 }
 
 // Runs a list as `run` does, and tells what each record did: a byte a record, 0 refused, 1 infeasible, 2 changed, 3

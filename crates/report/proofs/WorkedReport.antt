@@ -32,7 +32,7 @@ example = refl
 
 -- r 0 4 3 2: the right side stands before the coefficients
 row : rowLine 0 (pos 4) (pos 3 ∷ pos 2 ∷ []) ≡ 114 ∷ 32 ∷ 48 ∷ 32 ∷ 52 ∷ 32 ∷ 51 ∷ 32 ∷ 50 ∷ 10 ∷ []
-unfolding rowLine field fields signed decimal digits
+unfolding rowLine field fields texts signed decimal digits
 row = refl
 
 -- −1000000, and 0
