@@ -9,8 +9,8 @@ use native.Mathlib.Omega.{arith}
 use Rattle.model.proofs.RowsLaws.{length-rowOf}
 use Rattle.row_index.proofs.IndexLoops.{line-end}
 use Rattle.proposals.specs.Proposals.{proposal}
-use Rattle.verdicts.specs.Telling.{Says, boxVerdict, withVerdict}
-use Rattle.verdicts.proofs.TellingLaws.{length-told, says-more}
+use Rattle.proposals.specs.Telling.{Says, boxVerdict, withVerdict}
+use Rattle.proposals.proofs.TellingLaws.{length-told, says-more}
 use Rattle.verdicts.proofs.judging.hold_boxes.Statement.{statement}
 use Rattle.verdicts.proofs.judging.hold_boxes.Tie as tie
 
