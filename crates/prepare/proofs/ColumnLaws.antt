@@ -12,11 +12,11 @@ use native.Mathlib.Omega.{arith}
 use Rattle.integer.proofs.Parts.{lt-isn't}
 use Rattle.integer.proofs.Tests.{T→false}
 use Rattle.model.specs.Box.{at}
+use Rattle.prepared.specs.Layout.{fallOf, riseOf}
+use Rattle.prepared.specs.SameBut.{SameBut}
+use Rattle.prepared.proofs.KeptLaws.{same-before, same-join}
 use Rattle.row_set.specs.Bits.{bitAt}
 use Rattle.row_set.specs.Readers.{hearsFall, hearsRise}
-use Rattle.workspace.specs.Kept.{SameBut}
-use Rattle.workspace.specs.Layout.{fallOf, riseOf}
-use Rattle.workspace.proofs.KeptLaws.{same-before, same-join}
 use Rattle.prepare.specs.Written.{Column}
 
 -- a coefficient of 0

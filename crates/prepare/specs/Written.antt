@@ -10,9 +10,9 @@ use mathlib.Core.Path.{_≡_}
 use Rattle.model.specs.Box.{at}
 use Rattle.model.specs.Rows.{Rows, rowOf}
 use Rattle.packed_row.specs.Words.{coefsFrom, rhsOf}
+use Rattle.prepared.specs.Layout.{fallOf, ourMark, riseOf, rowWords, rowsIn, sideWord, variablesOf, workspaceLen}
 use Rattle.row_set.specs.Bits.{bitAt}
 use Rattle.row_set.specs.Readers.{hearsFall, hearsRise}
-use Rattle.workspace.specs.Layout.{fallOf, ourMark, riseOf, rowWords, rowsIn, sideWord, variablesOf, workspaceLen}
 
 -- the two sets hold the rows below m that hear of variable j; C is the matrix, K the kinds
 pub record Column (n m : ℕ) (C : List ℤ) (K : List ℕ) (j : ℕ) (rise fall : List ℕ) : Type 0 where

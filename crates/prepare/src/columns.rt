@@ -7,10 +7,10 @@ ghost use mathlib.Core.Path.{_≡_};
 ghost use Prim.Native.Nat.{ℕ, _*_, _+_, _<_, _≤_};
 ghost use lib.Dec.{eqb};
 ghost use lib.ListN.{length};
+ghost use Rattle.prepared.specs.Layout.{fallOf, riseOf, workspaceLen};
+ghost use Rattle.prepared.specs.SameBut.{SameBut};
 ghost use Rattle.row_set.specs.Bits.{bitAt};
 ghost use Rattle.row_set.specs.Readers.{hearsFall, hearsRise};
-ghost use Rattle.workspace.specs.Kept.{SameBut};
-ghost use Rattle.workspace.specs.Layout.{fallOf, riseOf, workspaceLen};
 ghost use Rattle.prepare.specs.Written.{Column};
 
 // Row r, with the coefficient a: a ≤ row hears rises where a is above 0 and falls where it is below, an = row hears
