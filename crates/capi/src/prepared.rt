@@ -10,9 +10,9 @@ ghost use lib.ListN.{length};
 ghost use Rattle.model.specs.Checks.{modelFault, none};
 ghost use Rattle.model.specs.Model.{modelOf};
 ghost use Rattle.model.specs.Rows.{rowsOf};
-ghost use Rattle.prepared.specs.Layout.{rowsIn, variablesOf, workspaceLen};
-ghost use Rattle.prepared.specs.Prepared.{Prepared};
 ghost use Rattle.prepared_exports.specs.PreparedSaid.{ProbeSaid, PropagateSaid};
+ghost use Rattle.prepared_model.specs.Layout.{rowsIn, variablesOf, workspaceLen};
+ghost use Rattle.prepared_model.specs.Prepared.{Prepared};
 
 // Checks a model and writes it into the workspace; no answer, the number says all. Refused by the model's checks, the
 // workspace's length among those of 5.

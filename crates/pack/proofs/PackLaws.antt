@@ -21,9 +21,9 @@ use Rattle.model.specs.Valid.{Between}
 use Rattle.model.proofs.RowsLaws.{at-rowOf, length-rowOf}
 use Rattle.packed_row.specs.Words.{coefOf, coefsFrom, rhsOf}
 use Rattle.packed_row.proofs.PackedLaws.{coef-inside, rhs-inside}
-use Rattle.prepared.specs.Layout.{rowWords}
-use Rattle.prepared.specs.SameBut.{SameBut}
-use Rattle.prepared.proofs.KeptLaws.{same-before, same-join}
+use Rattle.prepared_model.specs.Layout.{rowWords}
+use Rattle.prepared_model.specs.SameBut.{SameBut}
+use Rattle.prepared_model.proofs.KeptLaws.{same-before, same-join}
 
 -- a coefficient and the zeros that follow it, read back
 module _ (x zeros : ℕ) (a : ℤ) (b : Between minCoef maxCoef a) (e : pos x ≡ a +ℤ pos 1_000_000) where

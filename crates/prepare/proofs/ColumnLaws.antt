@@ -12,9 +12,9 @@ use native.Mathlib.Omega.{arith}
 use Rattle.integer.proofs.Parts.{lt-isn't}
 use Rattle.integer.proofs.Tests.{T→false}
 use Rattle.model.specs.Box.{at}
-use Rattle.prepared.specs.Layout.{fallOf, riseOf}
-use Rattle.prepared.specs.SameBut.{SameBut}
-use Rattle.prepared.proofs.KeptLaws.{same-before, same-join}
+use Rattle.prepared_model.specs.Layout.{fallOf, riseOf}
+use Rattle.prepared_model.specs.SameBut.{SameBut}
+use Rattle.prepared_model.proofs.KeptLaws.{same-before, same-join}
 use Rattle.row_set.specs.Bits.{bitAt}
 use Rattle.row_set.specs.Readers.{hearsFall, hearsRise}
 use Rattle.prepare.specs.Written.{Column}

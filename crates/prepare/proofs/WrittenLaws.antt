@@ -18,11 +18,11 @@ use Rattle.model.specs.Rows.{Rows, isEquality, rowOf}
 use Rattle.model.specs.Valid.{ValidModel}
 use Rattle.model.proofs.RowsLaws.{at-rowOf}
 use Rattle.packed_row.specs.Words.{coefsFrom, rhsOf}
-use Rattle.prepared.specs.Layout.{boundOf, boxIn, decode, dirtyOf, fallOf, listTo, ourMark, riseOf, rowWords, rowsIn, sideWord, variablesOf, workspaceLen}
-use Rattle.prepared.specs.Prepared.{Prepared}
-use Rattle.prepared.specs.SameBut.{SameBut}
-use Rattle.prepared.proofs.DecodeLaws.{box-at, length-box, length-listTo, listTo-at}
-use Rattle.prepared.proofs.KeptLaws.{same-join}
+use Rattle.prepared_model.specs.Layout.{boundOf, boxIn, decode, dirtyOf, fallOf, listTo, ourMark, riseOf, rowWords, rowsIn, sideWord, variablesOf, workspaceLen}
+use Rattle.prepared_model.specs.Prepared.{Prepared}
+use Rattle.prepared_model.specs.SameBut.{SameBut}
+use Rattle.prepared_model.proofs.DecodeLaws.{box-at, length-box, length-listTo, listTo-at}
+use Rattle.prepared_model.proofs.KeptLaws.{same-join}
 use Rattle.row_set.specs.Bits.{bitAt}
 use Rattle.row_set.specs.Readers.{Hearers}
 use Rattle.prepare.specs.Written.{Column, Written}

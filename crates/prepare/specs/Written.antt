@@ -10,7 +10,7 @@ use mathlib.Core.Path.{_≡_}
 use Rattle.model.specs.Box.{at}
 use Rattle.model.specs.Rows.{Rows, rowOf}
 use Rattle.packed_row.specs.Words.{coefsFrom, rhsOf}
-use Rattle.prepared.specs.Layout.{fallOf, ourMark, riseOf, rowWords, rowsIn, sideWord, variablesOf, workspaceLen}
+use Rattle.prepared_model.specs.Layout.{fallOf, ourMark, riseOf, rowWords, rowsIn, sideWord, variablesOf, workspaceLen}
 use Rattle.row_set.specs.Bits.{bitAt}
 use Rattle.row_set.specs.Readers.{hearsFall, hearsRise}
 

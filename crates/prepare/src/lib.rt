@@ -12,8 +12,8 @@ ghost use lib.ListN.{length};
 ghost use Rattle.model.specs.Checks.{modelFault, none};
 ghost use Rattle.model.specs.Model.{modelOf};
 ghost use Rattle.model.specs.Rows.{rowsOf};
-ghost use Rattle.prepared.specs.Layout.{rowsIn, variablesOf, workspaceLen};
-ghost use Rattle.prepared.specs.Prepared.{Prepared};
+ghost use Rattle.prepared_model.specs.Layout.{rowsIn, variablesOf, workspaceLen};
+ghost use Rattle.prepared_model.specs.Prepared.{Prepared};
 
 // Checks the model and writes it into the workspace. 0, or the number of the first check that fails: 3, 5 (a workspace
 // of another length is among the lengths), 6, 7, 23, 8, 9, 16. A call that is refused changes nothing.

@@ -13,8 +13,8 @@ ghost use lib.IntN.{pos};
 ghost use Rattle.model.specs.Model.{modelOf};
 ghost use Rattle.model.specs.Rows.{rowsOf};
 ghost use Rattle.model.specs.Valid.{ValidModel};
-ghost use Rattle.prepared.specs.Layout.{ourMark, rowsIn, variablesOf, workspaceLen};
-ghost use Rattle.prepared.specs.SameBut.{SameBut};
+ghost use Rattle.prepared_model.specs.Layout.{ourMark, rowsIn, variablesOf, workspaceLen};
+ghost use Rattle.prepared_model.specs.SameBut.{SameBut};
 ghost use Rattle.prepare.specs.Written.{Written};
 
 // Writes our mark, n and m.

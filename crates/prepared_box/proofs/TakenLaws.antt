@@ -11,9 +11,9 @@ use native.Mathlib.Decide.{decLt}
 use native.Mathlib.Omega.{arith}
 use Rattle.model.specs.Box.{at}
 use Rattle.model.specs.Rows.{Rows}
-use Rattle.prepared.specs.Layout.{boundOf, boxIn, dirtyOf, rowsIn, variablesOf}
-use Rattle.prepared.specs.Prepared.{Prepared}
-use Rattle.prepared.proofs.DecodeLaws.{box-at}
+use Rattle.prepared_model.specs.Layout.{boundOf, boxIn, dirtyOf, rowsIn, variablesOf}
+use Rattle.prepared_model.specs.Prepared.{Prepared}
+use Rattle.prepared_model.proofs.DecodeLaws.{box-at}
 use Rattle.prepared_notes.specs.Heard.{Missed}
 use Rattle.prepared_notes.proofs.HeardLaws.{deaf-read, missed-same, unheard}
 use Rattle.row_set.specs.Bits.{bitAt}

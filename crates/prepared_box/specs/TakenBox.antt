@@ -10,7 +10,7 @@ use mathlib.Core.Path.{_≡_}
 use Rattle.integer.specs.Order.{minZ}
 use Rattle.model.specs.Box.{at, lower, upper}
 use Rattle.model.specs.Limits.{maxBound, maxWidth, minBound}
-use Rattle.prepared.specs.Layout.{boxIn}
+use Rattle.prepared_model.specs.Layout.{boxIn}
 use Rattle.prepared_notes.specs.Heard.{Missed}
 use Rattle.row_set.specs.Bits.{bitAt}
 

@@ -10,8 +10,8 @@ ghost use Prim.Native.Nat.{ℕ, _*_, _+_, _<_, _≤_};
 ghost use lib.ListN.{getD, length};
 ghost use Rattle.model.specs.Box.{at};
 ghost use Rattle.model.specs.Rows.{Rows};
-ghost use Rattle.prepared.specs.Layout.{boundOf, dirtyOf, rowsIn, variablesOf, workspaceLen};
-ghost use Rattle.prepared.specs.Prepared.{Prepared};
+ghost use Rattle.prepared_model.specs.Layout.{boundOf, dirtyOf, rowsIn, variablesOf, workspaceLen};
+ghost use Rattle.prepared_model.specs.Prepared.{Prepared};
 ghost use Rattle.row_set.specs.Readers.{Calm};
 ghost use Rattle.prepared_box.specs.TakenBox.{Copied, NotedKept};
 

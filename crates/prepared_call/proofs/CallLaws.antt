@@ -7,10 +7,10 @@ use mathlib.Core.List.{List, []}
 use mathlib.Core.Path.{_∙_, _≡_, ap, refl, sym}
 use Rattle.model.specs.Rows.{Rows}
 use Rattle.model.specs.State.{stateOf}
-use Rattle.prepared.specs.Layout.{rowsIn, variablesOf}
-use Rattle.prepared.specs.Prepared.{Prepared}
 use Rattle.prepared_checks.specs.Checks.{propagateFault, reasonsFit}
 use Rattle.prepared_checks.proofs.CheckLaws.{same-fault}
+use Rattle.prepared_model.specs.Layout.{rowsIn, variablesOf}
+use Rattle.prepared_model.specs.Prepared.{Prepared}
 use Rattle.reducer.specs.OpenCalls.{performed}
 use Rattle.reducer.proofs.OpenCallLaws.{perform-refused, rows-propagated}
 use Rattle.semantics.specs.Call.{callOf}

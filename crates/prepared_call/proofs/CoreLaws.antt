@@ -13,13 +13,13 @@ use Rattle.marked_row.proofs.LocalBox.{blank}
 use Rattle.model.specs.Box.{isEmpty}
 use Rattle.model.specs.Rows.{Rows}
 use Rattle.model.proofs.BoxLaws.{empty-is}
-use Rattle.prepared.specs.Layout.{decode, rowsIn, variablesOf}
-use Rattle.prepared.specs.Prepared.{Prepared}
-use Rattle.prepared.specs.Reasons.{Reasons, endingRow, noRow, reasonsFrom, reasonsOf, reasonsTo}
-use Rattle.prepared.specs.SameBut.{SameBut}
-use Rattle.prepared.proofs.KeepsLaws.{keeps-box, keeps-none}
-use Rattle.prepared.proofs.KeptLaws.{prepared-kept, same-join}
 use Rattle.prepared_checks.specs.Checks.{Accepting}
+use Rattle.prepared_model.specs.Layout.{decode, rowsIn, variablesOf}
+use Rattle.prepared_model.specs.Prepared.{Prepared}
+use Rattle.prepared_model.specs.Reasons.{Reasons, endingRow, noRow, reasonsFrom, reasonsOf, reasonsTo}
+use Rattle.prepared_model.specs.SameBut.{SameBut}
+use Rattle.prepared_model.proofs.KeepsLaws.{keeps-box, keeps-none}
+use Rattle.prepared_model.proofs.KeptLaws.{prepared-kept, same-join}
 use Rattle.prepared_propagation.specs.Known.{Known}
 use Rattle.prepared_propagation.specs.declared.PreparedEnd.{PreparedEnd}
 use Rattle.prepared_row.specs.Looking.{Looking}

@@ -9,11 +9,11 @@ use mathlib.Core.Path.{_≡_}
 use Rattle.model.specs.Box.{NonEmpty}
 use Rattle.model.specs.Rows.{Rows}
 use Rattle.model.specs.Valid.{ValidBox}
-use Rattle.prepared.specs.Layout.{boxIn, dirtyOf, rowsIn, variablesOf}
-use Rattle.prepared.specs.Prepared.{Ours, Prepared}
-use Rattle.prepared.specs.Reasons.{reasonsFrom}
-use Rattle.prepared.specs.SameBut.{SameBut}
 use Rattle.prepared_checks.specs.Checks.{Accepting}
+use Rattle.prepared_model.specs.Layout.{boxIn, dirtyOf, rowsIn, variablesOf}
+use Rattle.prepared_model.specs.Prepared.{Ours, Prepared}
+use Rattle.prepared_model.specs.Reasons.{reasonsFrom}
+use Rattle.prepared_model.specs.SameBut.{SameBut}
 use Rattle.prepared_propagation.specs.declared.PreparedEnd.{PreparedEnd}
 use Rattle.propagation.specs.Results.{propagationOf}
 use Rattle.row_set.specs.Readers.{Calm}

@@ -7,10 +7,10 @@ use mathlib.Core.List.{List}
 use mathlib.Core.Path.{_≡_}
 use Rattle.model.specs.Rows.{Rows}
 use Rattle.model.specs.Valid.{ValidBox}
-use Rattle.prepared.specs.Keeps.{Keeps}
-use Rattle.prepared.specs.Layout.{rowsIn, variablesOf}
-use Rattle.prepared.specs.Prepared.{Prepared}
-use Rattle.prepared.specs.Reasons.{noRow, reasonsOf}
+use Rattle.prepared_model.specs.Keeps.{Keeps}
+use Rattle.prepared_model.specs.Layout.{rowsIn, variablesOf}
+use Rattle.prepared_model.specs.Prepared.{Prepared}
+use Rattle.prepared_model.specs.Reasons.{noRow, reasonsOf}
 use Rattle.semantics.specs.Perform.{Answer, propagated, refused}
 use Rattle.semantics.specs.Propagate as ended
 use Rattle.semantics.specs.Run.{answersNone, isRefused}

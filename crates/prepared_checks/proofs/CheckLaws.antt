@@ -18,10 +18,10 @@ use Rattle.model.specs.Model.{modelOf}
 use Rattle.model.specs.Rows.{Rows}
 use Rattle.model.specs.State.{stateOf}
 use Rattle.model.proofs.CheckLaws.{bits-all, first-append, first-none, inRange-all, narrow-all, numbered, shape-test, size-test}
-use Rattle.prepared.specs.Layout.{isOurs, rowsIn, variablesOf}
-use Rattle.prepared.specs.Prepared.{Ours, Prepared}
-use Rattle.prepared.specs.RowReasons.{Lent}
-use Rattle.prepared.proofs.OursLaws.{is-ours, ours-is}
+use Rattle.prepared_model.specs.Layout.{isOurs, rowsIn, variablesOf}
+use Rattle.prepared_model.specs.Prepared.{Ours, Prepared}
+use Rattle.prepared_model.specs.RowReasons.{Lent}
+use Rattle.prepared_model.proofs.OursLaws.{is-ours, ours-is}
 use Rattle.semantics.specs.Call.{callOf, hasTable, kindOf}
 use Rattle.semantics.specs.CallChecks.{callFault, lentTable}
 use Rattle.semantics.proofs.Accepted.{fault-of-own}

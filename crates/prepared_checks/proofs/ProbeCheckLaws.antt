@@ -20,9 +20,9 @@ use Rattle.model.specs.State.{State, stateOf}
 use Rattle.model.specs.Valid.{ValidBox, ValidTable}
 use Rattle.model.proofs.CheckLaws.{bits-all, first-go, first-none, first-stop, inRange-all, narrow-all, numbered, shape-test, size-test}
 use Rattle.open_checks.proofs.RefusalLaws.{model-refuses, own-fault}
-use Rattle.prepared.specs.Layout.{isOurs, rowsIn, variablesOf}
-use Rattle.prepared.specs.Prepared.{Ours, Prepared}
-use Rattle.prepared.proofs.OursLaws.{is-ours, ours-is}
+use Rattle.prepared_model.specs.Layout.{isOurs, rowsIn, variablesOf}
+use Rattle.prepared_model.specs.Prepared.{Ours, Prepared}
+use Rattle.prepared_model.proofs.OursLaws.{is-ours, ours-is}
 use Rattle.semantics.specs.Call.{callOf, hasTable, kindOf}
 use Rattle.semantics.specs.CallChecks.{callFault, lentTable}
 use Rattle.semantics.proofs.Accepted.{modelFaultOf}

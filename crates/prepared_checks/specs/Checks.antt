@@ -9,9 +9,9 @@ use mathlib.Core.List.{List, _++_, _∷_}
 use Rattle.call.specs.FieldChecks.{budgetChecks, probeChecks}
 use Rattle.model.specs.Checks.{Check, boxChecks, first, must, table, tableByteChecks}
 use Rattle.model.specs.Valid.{ValidBox}
-use Rattle.prepared.specs.Layout.{isOurs, variablesOf}
-use Rattle.prepared.specs.Prepared.{Ours}
-use Rattle.prepared.specs.RowReasons.{Lent}
+use Rattle.prepared_model.specs.Layout.{isOurs, variablesOf}
+use Rattle.prepared_model.specs.Prepared.{Ours}
+use Rattle.prepared_model.specs.RowReasons.{Lent}
 
 -- ---- a propagation
 

@@ -10,7 +10,7 @@ ghost use mathlib.Core.Path.{_≡_};
 ghost use Prim.Native.Nat.{_*_, _≤_};
 ghost use lib.Dec.{eqb};
 ghost use lib.ListN.{length};
-ghost use Rattle.prepared.specs.Layout.{isOurs, variablesOf};
+ghost use Rattle.prepared_model.specs.Layout.{isOurs, variablesOf};
 ghost use Rattle.prepared_checks.specs.Checks.{probeFault, propagateFault, reasonsFit, sidesFit};
 
 // Whether the workspace is ours and every other list has its length.

@@ -9,11 +9,11 @@ use mathlib.Core.List.{List, []}
 use mathlib.Core.Path.{_≡_}
 use Rattle.model.specs.Rows.{Rows}
 use Rattle.model.specs.State.{stateOf}
-use Rattle.prepared.specs.Layout.{rowsIn, variablesOf}
-use Rattle.prepared.specs.Prepared.{Prepared}
-use Rattle.prepared.specs.ProbeReasons.{probeReasons}
-use Rattle.prepared.specs.Reasons.{reasonsOf}
 use Rattle.prepared_checks.specs.Checks.{probeFault, propagateFault, reasonsFit, sidesFit}
+use Rattle.prepared_model.specs.Layout.{rowsIn, variablesOf}
+use Rattle.prepared_model.specs.Prepared.{Prepared}
+use Rattle.prepared_model.specs.ProbeReasons.{probeReasons}
+use Rattle.prepared_model.specs.Reasons.{reasonsOf}
 use Rattle.prepared_replies.specs.PreparedReplies.{Said, faultWith, preparedReply, withRows}
 use Rattle.replies.specs.Replies.{answerLength, callReply}
 use Rattle.semantics.specs.Call.{callOf}

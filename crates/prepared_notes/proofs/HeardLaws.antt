@@ -14,7 +14,7 @@ use Rattle.model.specs.Rows.{Rows, rowAt}
 use Rattle.model.proofs.BoxLaws.{box-ext}
 use Rattle.model.proofs.BoxLoops.{lower-withBounds, upper-withBounds, withBounds-other}
 use Rattle.packed_row.proofs.PackedLaws.{packed-steps, skip-next, skip-start, skipAt, step-at}
-use Rattle.prepared.specs.Layout.{fallOf, riseOf}
+use Rattle.prepared_model.specs.Layout.{fallOf, riseOf}
 use Rattle.row_set.specs.Bits.{bitAt}
 use Rattle.row_set.specs.Readers.{Hearers, Unheard}
 use Rattle.prepared_notes.specs.Heard.{Deaf, Missed, Noting}

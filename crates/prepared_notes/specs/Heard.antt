@@ -8,7 +8,7 @@ use mathlib.Core.List.{List}
 use mathlib.Core.Path.{_≡_}
 use Rattle.model.specs.Box.{at, lower, upper}
 use Rattle.packed_row.specs.Words.{coefsFrom}
-use Rattle.prepared.specs.Layout.{fallOf, riseOf, workspaceLen}
+use Rattle.prepared_model.specs.Layout.{fallOf, riseOf, workspaceLen}
 use Rattle.row_set.specs.Bits.{bitAt}
 
 -- row r is not among those that hear a bound rise from old to new, or fall

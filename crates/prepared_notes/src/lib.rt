@@ -7,7 +7,7 @@ ghost use mathlib.Core.Path.{_≡_};
 ghost use Prim.Native.Nat.{ℕ, _*_, _+_, _<_};
 ghost use lib.ListN.{length};
 ghost use Rattle.model.specs.Box.{lower, upper, withBounds};
-ghost use Rattle.prepared.specs.Layout.{fallOf, riseOf, workspaceLen};
+ghost use Rattle.prepared_model.specs.Layout.{fallOf, riseOf, workspaceLen};
 ghost use Rattle.row_set.specs.Bits.{bitAt};
 ghost use Rattle.prepared_notes.specs.Heard.{Deaf, Missed, Noting};
 

@@ -12,10 +12,10 @@ use types.Run.{OneOf}
 use Rattle.model.specs.Box.{NonEmpty, isEmpty, isFree}
 use Rattle.model.specs.Rows.{Rows}
 use Rattle.model.specs.Valid.{ValidBox}
-use Rattle.prepared.specs.Layout.{boxIn, dirtyOf, rowsIn, variablesOf}
-use Rattle.prepared.specs.Prepared.{Prepared}
-use Rattle.prepared.specs.SameBut.{SameBut}
-use Rattle.prepared.proofs.KeptLaws.{prepared-kept}
+use Rattle.prepared_model.specs.Layout.{boxIn, dirtyOf, rowsIn, variablesOf}
+use Rattle.prepared_model.specs.Prepared.{Prepared}
+use Rattle.prepared_model.specs.SameBut.{SameBut}
+use Rattle.prepared_model.proofs.KeptLaws.{prepared-kept}
 use Rattle.probing.specs.Results.{probingOf}
 use Rattle.probing.specs.declared.sides.Probing.{Probing}
 use Rattle.probing.specs.declared.sides.Probing.the-variants as probing

@@ -16,12 +16,12 @@ use Rattle.marked_row.proofs.MarkedRowLaws.{left-by, tightened, unmoved}
 use Rattle.model.specs.Box.{NonEmpty, width}
 use Rattle.model.specs.Model.{modelOf}
 use Rattle.model.specs.Rows.{Row, Rows, rowAt}
-use Rattle.prepared.specs.Layout.{decode, fallOf, riseOf}
-use Rattle.prepared.specs.Reasons.{endingRow, noRow, reasonsTo}
-use Rattle.prepared.specs.RowReasons.{Lent, rowReasons}
-use Rattle.prepared.proofs.DecodeLaws.{decode-valid}
-use Rattle.prepared.proofs.ReasonsLaws.{ending-is, reasons-ended, reasons-next}
-use Rattle.prepared.proofs.RowReasonLaws.{blames-still}
+use Rattle.prepared_model.specs.Layout.{decode, fallOf, riseOf}
+use Rattle.prepared_model.specs.Reasons.{endingRow, noRow, reasonsTo}
+use Rattle.prepared_model.specs.RowReasons.{Lent, rowReasons}
+use Rattle.prepared_model.proofs.DecodeLaws.{decode-valid}
+use Rattle.prepared_model.proofs.ReasonsLaws.{ending-is, reasons-ended, reasons-next}
+use Rattle.prepared_model.proofs.RowReasonLaws.{blames-still}
 use Rattle.prepared_row.specs.Looking.{Looking}
 use Rattle.propagation.proofs.PropagationLoops.{PassIs, pass-begins, row-feasible, row-infeasible}
 use Rattle.row.specs.Answers.{propagatedRowOf}

@@ -12,11 +12,11 @@ use Rattle.integer.proofs.Parts.{zarith, zify}
 use Rattle.model.specs.Box.{width}
 use Rattle.model.specs.Model.{modelOf}
 use Rattle.model.specs.Rows.{Rows}
-use Rattle.prepared.specs.Layout.{decode}
-use Rattle.prepared.specs.Reasons.{Reasons, noRow, reasonsFrom}
-use Rattle.prepared.specs.RowReasons.{Lent}
-use Rattle.prepared.proofs.DecodeLaws.{decode-valid}
-use Rattle.prepared.proofs.ReasonsLaws.{told-all, told-converged, told-infeasible, told-moved}
+use Rattle.prepared_model.specs.Layout.{decode}
+use Rattle.prepared_model.specs.Reasons.{Reasons, noRow, reasonsFrom}
+use Rattle.prepared_model.specs.RowReasons.{Lent}
+use Rattle.prepared_model.proofs.DecodeLaws.{decode-valid}
+use Rattle.prepared_model.proofs.ReasonsLaws.{told-all, told-converged, told-infeasible, told-moved}
 use Rattle.prepared_row.specs.Looking.{Looking}
 use Rattle.propagation.specs.Results.{propagationOf}
 use Rattle.propagation.specs.declared.Propagation.the-variants as code

@@ -8,8 +8,8 @@ use mathlib.Core.List.{List}
 use mathlib.Core.Path.{_≡_}
 use Rattle.model.specs.Box.{width}
 use Rattle.model.specs.Rows.{Rows}
-use Rattle.prepared.specs.Layout.{decode, fallOf, riseOf}
-use Rattle.prepared.specs.Reasons.{endingRow, reasonsTo}
+use Rattle.prepared_model.specs.Layout.{decode, fallOf, riseOf}
+use Rattle.prepared_model.specs.Reasons.{endingRow, reasonsTo}
 use Rattle.prepared_row.specs.Looking.{Looking}
 use Rattle.row_set.specs.Readers.{Calm, Hearers}
 use Rattle.semantics.specs.Propagate.{passTo}

@@ -8,8 +8,8 @@ ghost use mathlib.Core.Path.{_≡_};
 ghost use lib.IntN.{pos};
 ghost use lib.Signed.{_≤ℤ_};
 ghost use Rattle.model.specs.Box.{width};
-ghost use Rattle.prepared.specs.Layout.{decode};
-ghost use Rattle.prepared.specs.RowReasons.{Lent};
+ghost use Rattle.prepared_model.specs.Layout.{decode};
+ghost use Rattle.prepared_model.specs.RowReasons.{Lent};
 ghost use Rattle.prepared_row.specs.Looking.{Looking};
 ghost use Rattle.prepared_propagation.specs.Known.{Known, PassLeft, PassTold};
 

@@ -6,7 +6,7 @@ use row_set::next_row;
 ghost use mathlib.Core.Path.{_≡_};
 ghost use lib.ListN.{length};
 ghost use Rattle.model.specs.Box.{NonEmpty};
-ghost use Rattle.prepared.specs.Layout.{decode};
+ghost use Rattle.prepared_model.specs.Layout.{decode};
 ghost use Rattle.prepared_row.specs.Looking.{Sized};
 ghost use Rattle.propagation.specs.Results.{propagationOf};
 ghost use Rattle.row_set.specs.Readers.{Calm};

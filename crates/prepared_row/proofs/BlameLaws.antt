@@ -4,14 +4,14 @@ use lib.IntN.{ℤ}
 use lib.ListN.{getD, length, set}
 use lib.Seq.{getD-set-other, getD-set-same}
 use mathlib.Core.List.{List}
-use mathlib.Core.Logic.{_⊎_, ⊎-elim}
+use mathlib.Core.Logic.{⊎-elim}
 use mathlib.Core.Path.{_∙_, _≡_, refl, sym}
 use native.Mathlib.Decide.{decLt, ℕ-discrete}
 use native.Mathlib.Omega.{arith}
 use Rattle.model.specs.Box.{at, lower, upper}
 use Rattle.packed_row.proofs.PackedLaws.{packed-steps, skip-next, skip-start, skipAt, step-at}
-use Rattle.prepared.specs.RowReasons.{Lent, blame, reasonAt}
-use Rattle.prepared.proofs.RowReasonLaws.{blame-is, half, reason-read, reason-same}
+use Rattle.prepared_model.specs.RowReasons.{Lent, blame, reasonAt}
+use Rattle.prepared_model.proofs.RowReasonLaws.{blame-is, half, reason-read, reason-same}
 use Rattle.prepared_row.specs.Blaming.{Blaming}
 
 -- ---- the loop: the numbers of variables below j are blamed, and the others are as they were

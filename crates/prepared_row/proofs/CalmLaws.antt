@@ -15,9 +15,9 @@ use Rattle.model.specs.Box.{NonEmpty, emptyBox}
 use Rattle.model.specs.Rows.{Row, Rows, isEquality, rowAt}
 use Rattle.model.proofs.BoxLaws.{inside-refl, not-in-empty}
 use Rattle.packed_row.specs.Words.{Readable, rowOfWords}
-use Rattle.prepared.specs.Layout.{decode, fallOf, riseOf, rowIn, rowWords}
-use Rattle.prepared.specs.RowReasons.{Lent}
-use Rattle.prepared.proofs.DecodeLaws.{decode-row, length-words, row-readable}
+use Rattle.prepared_model.specs.Layout.{decode, fallOf, riseOf, rowIn, rowWords}
+use Rattle.prepared_model.specs.RowReasons.{Lent}
+use Rattle.prepared_model.proofs.DecodeLaws.{decode-row, length-words, row-readable}
 use Rattle.prepared_notes.specs.Heard.{Missed, Noting}
 use Rattle.prepared_notes.proofs.HeardLaws.{unheard}
 use Rattle.row.specs.Kinds.{propagateRowOf}

@@ -6,7 +6,7 @@ use mathlib.Core.List.{List}
 use mathlib.Core.Path.{_≡_}
 use Rattle.model.specs.Box.{at, lower, upper}
 use Rattle.packed_row.specs.Words.{coefsFrom}
-use Rattle.prepared.specs.RowReasons.{Lent}
+use Rattle.prepared_model.specs.RowReasons.{Lent}
 
 -- two boxes that differ only where the row that the words say has a coefficient, and a list
 pub record Blaming (ws : List ℕ) (old new : List ℤ) (R : List ℕ) : Type 0 where

@@ -7,7 +7,7 @@ use mathlib.Core.Path.{_≡_}
 use Rattle.model.specs.Box.{NonEmpty}
 use Rattle.model.specs.Valid.{ValidBox}
 use Rattle.packed_row.specs.Words.{Readable}
-use Rattle.prepared.specs.Layout.{workspaceLen}
+use Rattle.prepared_model.specs.Layout.{workspaceLen}
 
 -- a box that is not empty, which the rows know, and a set of rows to look at
 pub record LookingAt (ws W : List ℕ) (r : ℕ) (B seen : List ℤ) (D : List ℕ) : Type 0 where

@@ -2,7 +2,7 @@
 ghost use mathlib.Core.Path.{_≡_};
 ghost use Prim.Native.Nat.{_<_};
 ghost use lib.ListN.{length, set};
-ghost use Rattle.prepared.specs.RowReasons.{blame as blameOf, reasonAt};
+ghost use Rattle.prepared_model.specs.RowReasons.{blame as blameOf, reasonAt};
 ghost use Rattle.prepared_row.specs.Blaming.{Blaming};
 
 // Number i of the boxes.

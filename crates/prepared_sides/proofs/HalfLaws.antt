@@ -12,9 +12,9 @@ use native.Mathlib.Omega.{arith}
 use Rattle.integer.proofs.Tests.{or-cases}
 use Rattle.model.specs.Box.{isEmpty}
 use Rattle.model.specs.Rows.{Rows}
-use Rattle.prepared.specs.ProbeReasons.{bothReasons, probeReasons, sideReasons}
-use Rattle.prepared.specs.RowReasons.{Lent}
 use Rattle.prepared_checks.specs.Checks.{sidesFit}
+use Rattle.prepared_model.specs.ProbeReasons.{bothReasons, probeReasons, sideReasons}
+use Rattle.prepared_model.specs.RowReasons.{Lent}
 
 module _ (n : ℕ) (R : List ℕ) (fit : T (sidesFit n R)) where
   abbrev h : ℕ

@@ -16,10 +16,10 @@ use Rattle.model.specs.Limits.{maxBound, minBound}
 use Rattle.model.specs.Rows.{Rows}
 use Rattle.model.specs.Valid.{Between, ValidBox}
 use Rattle.model.proofs.BoxLaws.{at-boxOf, empty-is, isEmpty→eq, nonEmpty-isn't}
-use Rattle.prepared.specs.Layout.{decode, rowsIn}
-use Rattle.prepared.specs.Prepared.{Prepared}
-use Rattle.prepared.specs.Reasons.{noRow, reasonsFrom, reasonsOf}
-use Rattle.prepared.specs.RowReasons.{Lent}
+use Rattle.prepared_model.specs.Layout.{decode, rowsIn}
+use Rattle.prepared_model.specs.Prepared.{Prepared}
+use Rattle.prepared_model.specs.Reasons.{noRow, reasonsFrom, reasonsOf}
+use Rattle.prepared_model.specs.RowReasons.{Lent}
 use Rattle.prepared_propagation.specs.Known.{Known}
 use Rattle.probing.specs.Results.{probingOf}
 use Rattle.probing.specs.declared.sides.Probing.{Probing}

@@ -6,7 +6,7 @@ use mathlib.Core.Path.{_≡_}
 use Rattle.model.specs.Box.{NonEmpty, at, isEmpty}
 use Rattle.model.specs.Limits.{maxBound, minBound}
 use Rattle.model.specs.Valid.{Between, ValidBox}
-use Rattle.prepared.specs.Layout.{rowsIn, variablesOf}
+use Rattle.prepared_model.specs.Layout.{rowsIn, variablesOf}
 use Rattle.prepared_row.specs.Looking.{Sized}
 use Rattle.propagation.specs.Results.{propagationOf}
 use Rattle.propagation.specs.declared.Propagation.{Propagation}

@@ -8,8 +8,8 @@ use mathlib.Core.List.{List}
 use mathlib.Core.Path.{_≡_}
 use native.Mathlib.Omega.{arith}
 use Rattle.integer.proofs.Tests.{eqb-test, test-false, test-true, told-false, told-true}
-use Rattle.prepared.specs.Layout.{isOurs, variablesOf}
-use Rattle.prepared.proofs.OursLaws.{ours-is}
+use Rattle.prepared_model.specs.Layout.{isOurs, variablesOf}
+use Rattle.prepared_model.proofs.OursLaws.{ours-is}
 use Rattle.prepared_checks.specs.Checks.{reasonsFit}
 use Rattle.prepared_checks.proofs.fits.Statement.{statement}
 use Rattle.prepared_checks.proofs.fits.Tie as tie

@@ -14,9 +14,9 @@ use Rattle.call.specs.FieldChecks.{probeChecks}
 use Rattle.integer.proofs.Tests.{eqb-test, test-false, test-true, told-false, told-true}
 use Rattle.model.specs.Checks.{bits, boxChecks, first, table, tableByteChecks}
 use Rattle.model.proofs.CheckLaws.{ends, fails, goes, past, stops}
-use Rattle.prepared.specs.Layout.{isOurs, variablesOf}
-use Rattle.prepared.specs.Prepared.{Ours}
-use Rattle.prepared.proofs.OursLaws.{ours-is}
+use Rattle.prepared_model.specs.Layout.{isOurs, variablesOf}
+use Rattle.prepared_model.specs.Prepared.{Ours}
+use Rattle.prepared_model.proofs.OursLaws.{ours-is}
 use Rattle.prepared_checks.specs.Checks.{lentChecks, preparedProbeChecks, probeFault, sidesFit}
 use Rattle.prepared_checks.proofs.ProbeCheckLaws.{box-valid}
 use Rattle.prepared_checks.proofs.probe_fault.Statement.{statement}

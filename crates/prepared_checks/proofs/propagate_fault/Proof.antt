@@ -8,8 +8,8 @@ use Rattle.call.specs.FieldChecks.{budgetChecks}
 use Rattle.integer.proofs.Tests.{told-false, told-true}
 use Rattle.model.specs.Checks.{boxChecks}
 use Rattle.model.proofs.CheckLaws.{fails, goes, past, stops}
-use Rattle.prepared.specs.Layout.{variablesOf}
-use Rattle.prepared.specs.Prepared.{Ours}
+use Rattle.prepared_model.specs.Layout.{variablesOf}
+use Rattle.prepared_model.specs.Prepared.{Ours}
 use Rattle.prepared_checks.specs.Checks.{propagateChecks, propagateFault}
 use Rattle.prepared_checks.proofs.CheckLaws.{fits-ours}
 use Rattle.prepared_checks.proofs.propagate_fault.Statement.{statement}

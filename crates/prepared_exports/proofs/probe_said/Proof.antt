@@ -5,10 +5,10 @@ use lib.ListN.{length}
 use mathlib.Core.Path.{_∙_, _≡_, ap, refl, sym}
 use native.Mathlib.Decide.{ℕ-discrete}
 use Rattle.model.specs.Rows.{Rows}
-use Rattle.prepared.specs.Layout.{rowsIn, variablesOf}
-use Rattle.prepared.specs.Prepared.{Prepared}
-use Rattle.prepared.specs.ProbeReasons.{ProbeReasons, probeReasons}
 use Rattle.prepared_checks.specs.Checks.{probeFault}
+use Rattle.prepared_model.specs.Layout.{rowsIn, variablesOf}
+use Rattle.prepared_model.specs.Prepared.{Prepared}
+use Rattle.prepared_model.specs.ProbeReasons.{ProbeReasons, probeReasons}
 use Rattle.prepared_replies.specs.PreparedReplies.{withRows}
 use Rattle.prepared_replies.proofs.ReplyLaws.{call-accepted, call-refusal, fault-short, fault-whole, rows-refusal, rows-returned, short-refused}
 use Rattle.reducer.specs.OpenCalls.{performed, probeAnswer}

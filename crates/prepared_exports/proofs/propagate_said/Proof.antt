@@ -5,11 +5,11 @@ use lib.ListN.{length}
 use native.Mathlib.Decide.{ℕ-discrete}
 use mathlib.Core.Path.{_∙_, _≡_, ap, refl, sym}
 use Rattle.model.specs.Rows.{Rows}
-use Rattle.prepared.specs.Layout.{rowsIn, variablesOf}
-use Rattle.prepared.specs.Prepared.{Prepared}
-use Rattle.prepared.specs.Reasons.{Reasons, reasonsOf}
 use Rattle.prepared_call.specs.PreparedCall.{infeasibleRow, preparedAnswer}
 use Rattle.prepared_checks.specs.Checks.{propagateFault}
+use Rattle.prepared_model.specs.Layout.{rowsIn, variablesOf}
+use Rattle.prepared_model.specs.Prepared.{Prepared}
+use Rattle.prepared_model.specs.Reasons.{Reasons, reasonsOf}
 use Rattle.prepared_replies.specs.PreparedReplies.{preparedReply}
 use Rattle.prepared_replies.proofs.ReplyLaws.{fault-short, fault-whole, prepared-accepted, prepared-refusal, row-unsaid, short-refused}
 use Rattle.reducer.specs.OpenCalls.{performed}

@@ -9,7 +9,7 @@ use mathlib.Core.Path.{_∙_, _≡_, sym}
 use Rattle.marked_row.proofs.MarkedRowLaws.{broken, left-by, said, tightened, unmoved}
 use Rattle.model.specs.Rows.{Row}
 use Rattle.packed_row.specs.Words.{rowOfWords}
-use Rattle.prepared.proofs.RowReasonLaws.{blames-moved, blames-none, blames-still}
+use Rattle.prepared_model.proofs.RowReasonLaws.{blames-moved, blames-none, blames-still}
 use Rattle.row.specs.Answers.{propagatedRowOf}
 use Rattle.row.specs.Kinds.{propagateRowOf}
 use Rattle.row.proofs.KindLaws.{kinded-infeasible-box, kinded-unchanged}

@@ -5,8 +5,8 @@ use borrow.Author.Needs.{needs}
 use mathlib.Core.Path.{_∙_, ap₂, sym}
 use native.Mathlib.Omega.{arith}
 use Rattle.model.specs.Rows.{Row}
-use Rattle.prepared.specs.Layout.{decode}
-use Rattle.prepared.specs.RowReasons.{rowReasons}
+use Rattle.prepared_model.specs.Layout.{decode}
+use Rattle.prepared_model.specs.RowReasons.{rowReasons}
 use Rattle.row.specs.Kinds.{propagateRowOf}
 use Rattle.prepared_row.proofs.CalmLaws.{part-length, part-looking, part-row, row-room}
 use Rattle.prepared_row.proofs.propagate_row_prepared.Statement.{statement}

@@ -9,9 +9,9 @@ use mathlib.Core.Path.{_∙_, _≡_}
 use Rattle.integer.proofs.Tests.{false→T}
 use Rattle.model.specs.Box.{emptyBox}
 use Rattle.model.specs.Rows.{Rows}
-use Rattle.prepared.specs.Layout.{decode}
-use Rattle.prepared.specs.Prepared.{Prepared}
-use Rattle.prepared.specs.Reasons.{reasonsOf}
+use Rattle.prepared_model.specs.Layout.{decode}
+use Rattle.prepared_model.specs.Prepared.{Prepared}
+use Rattle.prepared_model.specs.Reasons.{reasonsOf}
 use Rattle.prepared_propagation.specs.Known.{Known}
 use Rattle.prepared_row.specs.Looking.{Looking}
 use Rattle.probing.proofs.ProbingLoops.{is-none, is-some}

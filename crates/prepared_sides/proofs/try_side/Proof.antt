@@ -12,8 +12,8 @@ use mir.Val.{ofZ, toZ}
 use native.Mathlib.Omega.{arith}
 use Rattle.marked_row.proofs.LocalBox.{blank}
 use Rattle.model.specs.Box.{withBounds}
-use Rattle.prepared.specs.ProbeReasons.{sideReasons}
-use Rattle.prepared.specs.Reasons.{reasonsOf}
+use Rattle.prepared_model.specs.ProbeReasons.{sideReasons}
+use Rattle.prepared_model.specs.Reasons.{reasonsOf}
 use Rattle.probing.proofs.MarkedLaws.{front-room}
 use Rattle.probing.proofs.ProbingLoops.{fix-stores}
 use Rattle.semantics.specs.Probe.{fix}

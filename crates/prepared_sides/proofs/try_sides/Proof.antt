@@ -12,7 +12,7 @@ use native.Mathlib.Omega.{arith}
 use Rattle.marked_row.proofs.LocalBox.{blank}
 use Rattle.model.specs.Rows.{Rows}
 use Rattle.model.proofs.BoxLaws.{nonEmpty-isn't}
-use Rattle.prepared.specs.Prepared.{Prepared}
+use Rattle.prepared_model.specs.Prepared.{Prepared}
 use Rattle.probing.proofs.MarkedLaws.{front-room}
 use Rattle.propagation.specs.Results.{propagationOf}
 use Rattle.semantics.specs.Probe.{fix, joinSides, probe}

@@ -9,8 +9,8 @@ use mir.Val.{toZ}
 use native.Mathlib.Omega.{arith}
 use Rattle.integer.proofs.RangeLaws.{within-fits}
 use Rattle.integer.proofs.Reading.{fits-read}
-use Rattle.prepared.specs.Layout.{boundOf}
-use Rattle.prepared.proofs.DecodeLaws.{bound-in}
+use Rattle.prepared_model.specs.Layout.{boundOf}
+use Rattle.prepared_model.proofs.DecodeLaws.{bound-in}
 use Rattle.row.proofs.ActivityLaws.{within-bound}
 use Rattle.workspace.proofs.bound.Statement.{statement}
 use Rattle.workspace.proofs.bound.Tie as tie

@@ -3,9 +3,9 @@ use Prim.Native.Nat.{_*_, _+_, _-_, _<_, _≤_, ℕ}
 use borrow.Author.Count.{below-none}
 use mathlib.Core.Path.{_∙_}
 use native.Mathlib.Omega.{arith}
-use Rattle.prepared.specs.Layout.{fallOf, riseOf}
-use Rattle.prepared.specs.SameBut.{SameBut}
-use Rattle.prepared.proofs.KeptLaws.{same-none, same-wider}
+use Rattle.prepared_model.specs.Layout.{fallOf, riseOf}
+use Rattle.prepared_model.specs.SameBut.{SameBut}
+use Rattle.prepared_model.proofs.KeptLaws.{same-none, same-wider}
 use Rattle.prepare.specs.Written.{Column}
 use Rattle.prepare.proofs.ColumnLaws.{columns-more, columns-same}
 use Rattle.prepare.proofs.columns.write_columns.Statement.{statement}

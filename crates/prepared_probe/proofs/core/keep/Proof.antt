@@ -1,7 +1,7 @@
 -- `prepared_probe::sides::keep`: the rows outside the set are calm in the box, and only the set and the box are written. Assumes nothing.
 use borrow.Author.Needs.{needs}
 use native.Mathlib.Omega.{arith}
-use Rattle.prepared.proofs.KeptLaws.{same-join}
+use Rattle.prepared_model.proofs.KeptLaws.{same-join}
 use Rattle.prepared_probe.proofs.ProbedLaws.{kept-prepared}
 use Rattle.prepared_probe.proofs.core.keep.Statement.{statement}
 use Rattle.prepared_probe.proofs.core.keep.Tie as tie

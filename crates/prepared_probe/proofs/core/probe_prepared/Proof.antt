@@ -10,8 +10,8 @@ use mathlib.Core.Path.{_∙_, _≡_, refl, sym}
 use native.Mathlib.Omega.{arith}
 use Rattle.integer.proofs.Tests.{false→T, or-r}
 use Rattle.model.specs.Box.{isEmpty, isFree}
-use Rattle.prepared.specs.ProbeReasons.{probeReasons}
-use Rattle.prepared.proofs.KeepsLaws.{keeps-box, keeps-none}
+use Rattle.prepared_model.specs.ProbeReasons.{probeReasons}
+use Rattle.prepared_model.proofs.KeepsLaws.{keeps-box, keeps-none}
 use Rattle.probing.specs.Results.{probingOf, reportOf}
 use Rattle.probing.proofs.MarkedLaws.{front-room}
 use Rattle.row.proofs.ImpliedBoxLaws.{valid-nonEmpty}

@@ -9,8 +9,8 @@ use mathlib.Core.Logic.{_⊎_, inl, inr, ⊎-elim}
 use mathlib.Core.Path.{_∙_, _≡_, refl}
 use native.Mathlib.Omega.{arith}
 use Rattle.model.specs.Rows.{rowAt}
-use Rattle.prepared.specs.Layout.{decode}
-use Rattle.prepared.specs.RowReasons.{rowReasons}
+use Rattle.prepared_model.specs.Layout.{decode}
+use Rattle.prepared_model.specs.RowReasons.{rowReasons}
 use Rattle.row.specs.Answers.{propagatedRowOf}
 use Rattle.row.specs.Kinds.{propagateRowOf}
 use Rattle.row.specs.declared.propagation.RowPropagation.the-variants.{Tightened, Unchanged}

@@ -8,7 +8,7 @@ use mathlib.Core.Path.{_∙_, _≡_, sym}
 use native.Mathlib.Omega.{arith}
 use Rattle.integer.specs.Index.{all}
 use Rattle.model.specs.Rows.{Rows}
-use Rattle.prepared.specs.Layout.{decode}
+use Rattle.prepared_model.specs.Layout.{decode}
 use Rattle.propagation.proofs.SearchLaws.{found, none-found}
 use Rattle.row_set.specs.Readers.{Calm}
 use Rattle.semantics.specs.FixpointTest.{rowLeaves}

@@ -1,7 +1,7 @@
 -- `search::last_look`: what `propagateFrom` says where no pass is left. Assumes nothing.
 use borrow.Author.Needs.{needs}
 use native.Mathlib.Omega.{arith}
-use Rattle.prepared.specs.Layout.{decode}
+use Rattle.prepared_model.specs.Layout.{decode}
 use Rattle.propagation.specs.Results.{propagationOf}
 use Rattle.semantics.specs.Propagate.{propagateFrom}
 use Rattle.semantics.proofs.PropagateLaws.{look-converged, look-spent}

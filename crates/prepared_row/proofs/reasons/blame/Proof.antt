@@ -3,7 +3,7 @@
 use Prim.Native.Nat.{_-_, _<_, ℕ}
 use lib.ListN.{length}
 use native.Mathlib.Omega.{arith}
-use Rattle.prepared.proofs.RowReasonLaws.{blame-none}
+use Rattle.prepared_model.proofs.RowReasonLaws.{blame-none}
 use Rattle.prepared_row.proofs.BlameLaws.{Blamed, blamed-all, blamed-first, blamed-next}
 use Rattle.prepared_row.proofs.reasons.blame.Statement.{statement}
 use Rattle.prepared_row.proofs.reasons.blame.Tie as tie

@@ -9,7 +9,7 @@ use mathlib.Core.List.{List, _++_}
 use Rattle.model.specs.Box.{isEmpty}
 use Rattle.model.specs.Rows.{Rows}
 use Rattle.semantics.specs.Probe.{fix}
-use Rattle.prepared.specs.Reasons.{Reasons, noRow, reasonsOf}
+use Rattle.prepared_model.specs.Reasons.{Reasons, noRow, reasonsOf}
 
 -- the reasons of side 0 and then those of side 1, and of each side the row that was infeasible
 pub record ProbeReasons : Type 0 where

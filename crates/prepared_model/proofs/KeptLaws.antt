@@ -12,9 +12,9 @@ use Rattle.model.specs.Rows.{Rows}
 use Rattle.model.specs.Valid.{ValidBox}
 use Rattle.packed_row.specs.Words.{coefsFrom, rhsOf}
 use Rattle.row_set.specs.Readers.{Calm}
-use Rattle.prepared.specs.Layout.{boxIn, decode, dirtyOf, fallOf, listTo, riseOf, rowWords, rowsIn, sideWord, variablesOf}
-use Rattle.prepared.specs.Prepared.{Prepared}
-use Rattle.prepared.specs.SameBut.{SameBut}
+use Rattle.prepared_model.specs.Layout.{boxIn, decode, dirtyOf, fallOf, listTo, riseOf, rowWords, rowsIn, sideWord, variablesOf}
+use Rattle.prepared_model.specs.Prepared.{Prepared}
+use Rattle.prepared_model.specs.SameBut.{SameBut}
 
 pub listTo-same : {A : Type 0} (k : ℕ) (f g : ℕ → A) → ((i : ℕ) → i < k → f i ≡ g i) → listTo k f ≡ listTo k g
 unfolding listTo

@@ -11,7 +11,7 @@ use Rattle.integer.specs.Order.{eqZ}
 use Rattle.model.specs.Box.{at}
 use Rattle.row.specs.Outcome.{isInfeasible}
 use Rattle.row.specs.Propagation.{PropagatedRow}
-use Rattle.prepared.specs.Layout.{listTo}
+use Rattle.prepared_model.specs.Layout.{listTo}
 
 -- the reason of number i, after row r left the box Q of B
 unfoldable pub reasonAt : ℕ → List ℤ → List ℤ → List ℕ → ℕ → ℕ

@@ -16,7 +16,7 @@ use Rattle.model.specs.Rows.{rowAt, rowOf}
 use Rattle.model.specs.Valid.{Between, ValidBox, ValidModel}
 use Rattle.packed_row.specs.Words.{Readable, coefsFrom, rhsOf, rowOfWords}
 use Rattle.packed_row.proofs.PackedLaws.{coefs-in, length-coefs, rhs-in}
-use Rattle.prepared.specs.Layout.{boundOf, boxIn, decode, listTo, rowIn, rowWords, sideWord}
+use Rattle.prepared_model.specs.Layout.{boundOf, boxIn, decode, listTo, rowIn, rowWords, sideWord}
 
 -- ---- lists by their places
 

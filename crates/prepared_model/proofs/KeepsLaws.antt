@@ -8,9 +8,9 @@ use mathlib.Core.Path.{_≡_, refl}
 use native.Mathlib.Omega.{arith}
 use Rattle.semantics.specs.Perform.{Answer}
 use Rattle.semantics.specs.Run.{answersNone}
-use Rattle.prepared.specs.Keeps.{Keeps}
-use Rattle.prepared.specs.Layout.{boxIn, variablesOf}
-use Rattle.prepared.specs.SameBut.{SameBut}
+use Rattle.prepared_model.specs.Keeps.{Keeps}
+use Rattle.prepared_model.specs.Layout.{boxIn, variablesOf}
+use Rattle.prepared_model.specs.SameBut.{SameBut}
 
 pub keeps-none : (W : List ℕ) (a : Answer) (Q : List ℤ) → T (answersNone a) → Keeps W W a Q
 keeps-none W a Q z = record { variables = refl; rows = refl; infeasible = λ _. refl; box = λ y. absurd (T-not (answersNone a) y z) }

@@ -8,7 +8,7 @@ use Rattle.model.specs.Model.{modelOf}
 use Rattle.model.specs.Rows.{Rows}
 use Rattle.model.specs.Valid.{ValidModel}
 use Rattle.row_set.specs.Readers.{Calm, Hearers}
-use Rattle.prepared.specs.Layout.{boxIn, decode, dirtyOf, fallOf, ourMark, riseOf, rowsIn, variablesOf, workspaceLen}
+use Rattle.prepared_model.specs.Layout.{boxIn, decode, dirtyOf, fallOf, ourMark, riseOf, rowsIn, variablesOf, workspaceLen}
 
 -- a workspace whose length and head are ours: all that a prepared call asks of it, by check 5
 pub record Ours (W : List ℕ) : Type 0 where

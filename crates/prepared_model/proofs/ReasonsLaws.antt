@@ -17,8 +17,8 @@ use Rattle.row.specs.Kinds.{propagateRowOf}
 use Rattle.semantics.specs.Propagate.{passTo}
 use Rattle.semantics.proofs.LowestLaws.{lowest-is}
 use Rattle.semantics.proofs.PropagateLaws.{pass-ended}
-use Rattle.prepared.specs.Reasons.{Reasons, endingRow, noRow, reasonsFrom, reasonsOf, reasonsTo}
-use Rattle.prepared.specs.RowReasons.{rowReasons}
+use Rattle.prepared_model.specs.Reasons.{Reasons, endingRow, noRow, reasonsFrom, reasonsOf, reasonsTo}
+use Rattle.prepared_model.specs.RowReasons.{rowReasons}
 
 module _ (n : ℕ) (A : Rows) (B : List ℤ) (R : List ℕ) where
   pub reasons-suc : (r : ℕ) {P : List ℤ} → passTo n r A B .ended ≡ false → passTo n r A B .box ≡ P

@@ -7,8 +7,8 @@ use mathlib.Core.List.{List}
 use mathlib.Core.Logic.{_↔_}
 use mathlib.Core.Path.{_≡_}
 use Rattle.integer.proofs.Tests.{T→true, all-three, both, eqb-test, leb-test, ltb-test, true→T}
-use Rattle.prepared.specs.Layout.{isOurs, ourMark, rowsIn, variablesOf, workspaceLen}
-use Rattle.prepared.specs.Prepared.{Ours}
+use Rattle.prepared_model.specs.Layout.{isOurs, ourMark, rowsIn, variablesOf, workspaceLen}
+use Rattle.prepared_model.specs.Prepared.{Ours}
 
 ours-test : (W : List ℕ) → T (isOurs W) ↔ Ours W
 unfolding isOurs

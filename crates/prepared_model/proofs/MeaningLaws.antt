@@ -22,11 +22,11 @@ use Rattle.row.proofs.KindLaws.{kinded-nonEmpty, kinded-shrinks}
 use Rattle.semantics.specs.Propagate.{Pass, Propagated, isNone, passTo, propagate, propagateFrom}
 use Rattle.semantics.proofs.LowestLaws.{lowest-found}
 use Rattle.semantics.proofs.PropagateLaws.{look-ind, pass-ended, pass-next}
-use Rattle.prepared.specs.Meaning.{ReasonsMean, Tells}
-use Rattle.prepared.specs.Reasons.{Reasons, endingRow, noRow, reasonsFrom, reasonsTo}
-use Rattle.prepared.specs.RowReasons.{reasonAt, rowReasons}
-use Rattle.prepared.proofs.ReasonsLaws.{reasons-some, reasons-suc}
-use Rattle.prepared.proofs.RowReasonLaws.{blames-at, half, length-blames, reason-moved, reason-same}
+use Rattle.prepared_model.specs.Meaning.{ReasonsMean, Tells}
+use Rattle.prepared_model.specs.Reasons.{Reasons, endingRow, noRow, reasonsFrom, reasonsTo}
+use Rattle.prepared_model.specs.RowReasons.{reasonAt, rowReasons}
+use Rattle.prepared_model.proofs.ReasonsLaws.{reasons-some, reasons-suc}
+use Rattle.prepared_model.proofs.RowReasonLaws.{blames-at, half, length-blames, reason-moved, reason-same}
 
 -- the box P came of B, and the list S tells it
 pub record Telling (n m : ℕ) (B P : List ℤ) (S : List ℕ) : Type 0 where

@@ -22,12 +22,12 @@ use Rattle.semantics.specs.Propagate.{isNone}
 use Rattle.semantics.specs.Run.{probeInfeasible}
 use Rattle.semantics.proofs.ProbeLaws.{fix-nonEmpty, of-fix-free, probe-ind}
 use Rattle.semantics.proofs.PropagateLaws.{propagate-shrinks}
-use Rattle.prepared.specs.Meaning.{ReasonsMean}
-use Rattle.prepared.specs.ProbeMeaning.{MovedIn, ProbeReasonsMean, sideOf}
-use Rattle.prepared.specs.ProbeReasons.{bothReasons, probeReasons, sideReasons}
-use Rattle.prepared.specs.Reasons.{noRow}
-use Rattle.prepared.proofs.MeaningLaws.{moved-on, reasons-mean}
-use Rattle.prepared.proofs.RowReasonLaws.{half}
+use Rattle.prepared_model.specs.Meaning.{ReasonsMean}
+use Rattle.prepared_model.specs.ProbeMeaning.{MovedIn, ProbeReasonsMean, sideOf}
+use Rattle.prepared_model.specs.ProbeReasons.{bothReasons, probeReasons, sideReasons}
+use Rattle.prepared_model.specs.Reasons.{noRow}
+use Rattle.prepared_model.proofs.MeaningLaws.{moved-on, reasons-mean}
+use Rattle.prepared_model.proofs.RowReasonLaws.{half}
 
 -- a side differs from the box only in k's bounds
 fix-else : (n : ℕ) (B : List ℤ) (k v i : ℕ) → i < 2 * n → (i / 2 ≡ k → ⊥) → at (fix n B k v) i ≡ at B i

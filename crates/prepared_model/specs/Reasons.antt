@@ -11,7 +11,7 @@ use Rattle.model.specs.Rows.{Rows, rowAt}
 use Rattle.row.specs.Kinds.{propagateRowOf}
 use Rattle.semantics.specs.Lowest.{lowest}
 use Rattle.semantics.specs.Propagate.{passTo}
-use Rattle.prepared.specs.RowReasons.{rowReasons}
+use Rattle.prepared_model.specs.RowReasons.{rowReasons}
 
 -- 2³² − 1 where no row did
 abbrev pub noRow : ℕ

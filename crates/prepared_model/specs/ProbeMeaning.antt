@@ -13,8 +13,8 @@ use Rattle.model.specs.Rows.{Rows}
 use Rattle.semantics.specs.Probe.{fix, probe}
 use Rattle.semantics.specs.Propagate.{Propagated, isNone, propagate}
 use Rattle.semantics.specs.Run.{probeInfeasible}
-use Rattle.prepared.specs.Meaning.{ReasonsMean}
-use Rattle.prepared.specs.ProbeReasons.{probeReasons, sideReasons}
+use Rattle.prepared_model.specs.Meaning.{ReasonsMean}
+use Rattle.prepared_model.specs.ProbeReasons.{probeReasons, sideReasons}
 
 -- side v of k, as it was settled
 abbrev pub sideOf : (k v budget : ℕ) → ℕ → ℕ → Rows → List ℤ → Propagated

@@ -10,7 +10,7 @@ use mathlib.Core.Path.{_≡_}
 use Rattle.model.specs.Box.{at}
 use Rattle.model.specs.Rows.{Rows}
 use Rattle.semantics.specs.Propagate.{isNone, propagate}
-use Rattle.prepared.specs.Reasons.{noRow, reasonsOf}
+use Rattle.prepared_model.specs.Reasons.{noRow, reasonsOf}
 
 -- number i of the reasons S and of the boxes B before and Q after: no row moved the bound, which is as it was, or one of m rows did
 pub record Tells (m : ℕ) (B Q : List ℤ) (S : List ℕ) (i : ℕ) : Type 0 where

@@ -8,7 +8,7 @@ use mathlib.Core.List.{List}
 use mathlib.Core.Path.{_≡_}
 use Rattle.semantics.specs.Perform.{Answer}
 use Rattle.semantics.specs.Run.{answersNone}
-use Rattle.prepared.specs.Layout.{boxIn, rowsIn, variablesOf}
+use Rattle.prepared_model.specs.Layout.{boxIn, rowsIn, variablesOf}
 
 pub record Keeps (W W′ : List ℕ) (a : Answer) (B′ : List ℤ) : Type 0 where
   -- n and m stay

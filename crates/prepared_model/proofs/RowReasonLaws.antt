@@ -15,8 +15,8 @@ use Rattle.integer.proofs.Tests.{T→false, T→true, eqZ→eq, eq→eqZ}
 use Rattle.model.specs.Box.{at}
 use Rattle.row.specs.Outcome.{isInfeasible}
 use Rattle.row.specs.Propagation.{PropagatedRow}
-use Rattle.prepared.specs.RowReasons.{blame, reasonAt, rowReasons}
-use Rattle.prepared.proofs.DecodeLaws.{length-listTo, listTo-at}
+use Rattle.prepared_model.specs.RowReasons.{blame, reasonAt, rowReasons}
+use Rattle.prepared_model.proofs.DecodeLaws.{length-listTo, listTo-at}
 
 -- ---- one bound
 
