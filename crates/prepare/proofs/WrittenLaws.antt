@@ -9,6 +9,8 @@ use mathlib.Core.Logic.{inr}
 use mathlib.Core.Path.{_∙_, _≡_, ap, refl, sym}
 use native.Mathlib.Nat.{div-add-mod', div-lt-iff-lt-mul, mod-lt}
 use native.Mathlib.Omega.{arith}
+use Rattle.hearers.specs.Column.{Column}
+use Rattle.hearers.proofs.ColumnLaws.{column-kept}
 use Rattle.integer.specs.Index.{all}
 use Rattle.integer.proofs.IndexLaws.{all-at, getD-all}
 use Rattle.integer.proofs.Parts.{zarith}
@@ -25,8 +27,7 @@ use Rattle.prepared_model.proofs.DecodeLaws.{box-at, length-box, length-listTo,
 use Rattle.prepared_model.proofs.KeptLaws.{same-join}
 use Rattle.row_set.specs.Bits.{bitAt}
 use Rattle.row_set.specs.Readers.{Hearers}
-use Rattle.prepare.specs.Written.{Column, Written}
-use Rattle.prepare.proofs.ColumnLaws.{column-kept}
+use Rattle.prepare.specs.Written.{Written}
 
 -- every bit of 2³² − 1 is 1
 all-bits : (k : ℕ) → k < 32 → 4_294_967_295 / 2 ^ k % 2 ≡ 1

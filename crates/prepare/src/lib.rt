@@ -1,6 +1,5 @@
 // Prepares a model for many calls: it is checked once and written into a lent workspace of 32-bit numbers, which holds
 // all that the prepared calls read.
-mod columns;
 mod writing;
 
 use crate::writing::write;

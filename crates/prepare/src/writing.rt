@@ -1,5 +1,5 @@
 // A workspace is written, from its head to its rows.
-use crate::columns::write_columns;
+use hearers::write_columns;
 use pack::pack_rows;
 use pack::pack_sides;
 use workspace::BOX_AT;

@@ -17,7 +17,7 @@ use Rattle.prepared_model.specs.SameBut.{SameBut}
 use Rattle.prepared_model.proofs.KeptLaws.{same-before, same-join}
 use Rattle.row_set.specs.Bits.{bitAt}
 use Rattle.row_set.specs.Readers.{hearsFall, hearsRise}
-use Rattle.prepare.specs.Written.{Column}
+use Rattle.hearers.specs.Column.{Column}
 
 -- a coefficient of 0
 pub rise-none : (equality : Bool) → hearsRise equality (pos 0) ≡ false

@@ -1,4 +1,4 @@
--- `columns::gather`: the sets hold the rows so far that hear of the variable (`column-more`). Assumes nothing.
+-- `hearers::gather`: the sets hold the rows so far that hear of the variable (`column-more`). Assumes nothing.
 use Prim.Native.Nat.{_*_, _+_, _-_, _<_, _≤_}
 use borrow.Author.Count.{below-none}
 use lib.ListN.{length}
@@ -9,10 +9,10 @@ use mir.Val.{SFits}
 use native.Mathlib.Nat.{mul-le-mul, mul-le-mul-right, suc-mul}
 use native.Mathlib.Omega.{arith}
 use Rattle.model.specs.Box.{at}
-use Rattle.prepare.specs.Written.{Column}
-use Rattle.prepare.proofs.ColumnLaws.{column-more}
-use Rattle.prepare.proofs.columns.gather.Statement.{statement}
-use Rattle.prepare.proofs.columns.gather.Tie as tie
+use Rattle.hearers.specs.Column.{Column}
+use Rattle.hearers.proofs.ColumnLaws.{column-more}
+use Rattle.hearers.proofs.gather.Statement.{statement}
+use Rattle.hearers.proofs.gather.Tie as tie
 
 abbrev Inv-loop : tie.InvT-loop
 Inv-loop n m coefs kinds j rise₀ fall₀ r₀ rise fall r = (r ≤ m) × (length rise ≡ 4) × (length fall ≡ 4) × Column n r coefs kinds j rise fall

@@ -1,4 +1,4 @@
--- `columns::write_columns`: the sets of the variables so far are written, and nothing else (`columns-more`). Assumes nothing.
+-- `hearers::write_columns`: the sets of the variables so far are written, and nothing else (`columns-more`). Assumes nothing.
 use Prim.Native.Nat.{_*_, _+_, _-_, _<_, _≤_, ℕ}
 use borrow.Author.Count.{below-none}
 use mathlib.Core.Path.{_∙_}
@@ -6,10 +6,10 @@ use native.Mathlib.Omega.{arith}
 use Rattle.prepared_model.specs.Layout.{fallOf, riseOf}
 use Rattle.prepared_model.specs.SameBut.{SameBut}
 use Rattle.prepared_model.proofs.KeptLaws.{same-none, same-wider}
-use Rattle.prepare.specs.Written.{Column}
-use Rattle.prepare.proofs.ColumnLaws.{columns-more, columns-same}
-use Rattle.prepare.proofs.columns.write_columns.Statement.{statement}
-use Rattle.prepare.proofs.columns.write_columns.Tie as tie
+use Rattle.hearers.specs.Column.{Column}
+use Rattle.hearers.proofs.ColumnLaws.{columns-more, columns-same}
+use Rattle.hearers.proofs.write_columns.Statement.{statement}
+use Rattle.hearers.proofs.write_columns.Tie as tie
 
 abbrev Inv-loop : tie.InvT-loop
 Inv-loop n m coefs kinds ws₀ j₀ ws j =

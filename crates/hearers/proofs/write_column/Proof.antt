@@ -1,9 +1,9 @@
--- `columns::write_column`: the two sets are gathered and put side by side (`column-written`). Assumes nothing.
+-- `hearers::write_column`: the two sets are gathered and put side by side (`column-written`). Assumes nothing.
 use borrow.Author.Needs.{needs}
 use native.Mathlib.Omega.{arith}
-use Rattle.prepare.proofs.ColumnLaws.{column-same, column-written}
-use Rattle.prepare.proofs.columns.write_column.Statement.{statement}
-use Rattle.prepare.proofs.columns.write_column.Tie as tie
+use Rattle.hearers.proofs.ColumnLaws.{column-same, column-written}
+use Rattle.hearers.proofs.write_column.Statement.{statement}
+use Rattle.hearers.proofs.write_column.Tie as tie
 
 slice-aggregate-gather : tie.Need-slice-aggregate-gather
 slice-aggregate-gather c = search needs

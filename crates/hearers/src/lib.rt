@@ -1,4 +1,5 @@
-// The sets of rows that hear of a variable: for each, those that hear a bound of it rise and those that hear one fall.
+// The sets of rows that hear of a variable, gathered from a model and written into a workspace: for each variable those
+// that hear a bound of it rise and those that hear one fall.
 use row_set::insert;
 use workspace::HEARERS_AT;
 use workspace::put;
@@ -11,7 +12,7 @@ ghost use Rattle.prepared_model.specs.Layout.{fallOf, riseOf, workspaceLen};
 ghost use Rattle.prepared_model.specs.SameBut.{SameBut};
 ghost use Rattle.row_set.specs.Bits.{bitAt};
 ghost use Rattle.row_set.specs.Readers.{hearsFall, hearsRise};
-ghost use Rattle.prepare.specs.Written.{Column};
+ghost use Rattle.hearers.specs.Column.{Column};
 
 // Row r, with the coefficient a: a ≤ row hears rises where a is above 0 and falls where it is below, an = row hears
 // both.

@@ -1,4 +1,4 @@
--- `columns::hear`: a coefficient of 0 is not heard, an = row hears both ways, a ≤ row the one of its coefficient's sign. Assumes nothing.
+-- `hearers::hear`: a coefficient of 0 is not heard, an = row hears both ways, a ≤ row the one of its coefficient's sign. Assumes nothing.
 use borrow.Author.Needs.{needs}
 use lib.Dec.{eqb}
 use lib.IntN.{pos}
@@ -10,9 +10,9 @@ use mir.Syntax.{w32}
 use Rattle.integer.proofs.Parts.{zarith}
 use Rattle.integer.proofs.Reading.{eq-read, ge-read, lt-read}
 use Rattle.row_set.specs.Readers.{hearsFall, hearsRise}
-use Rattle.prepare.proofs.ColumnLaws.{fall-above, fall-none, not-equality, rise-below, rise-none}
-use Rattle.prepare.proofs.columns.hear.Statement.{statement}
-use Rattle.prepare.proofs.columns.hear.Tie as tie
+use Rattle.hearers.proofs.ColumnLaws.{fall-above, fall-none, not-equality, rise-below, rise-none}
+use Rattle.hearers.proofs.hear.Statement.{statement}
+use Rattle.hearers.proofs.hear.Tie as tie
 
 -- where neither test was taken
 abbrev start : tie.Else2 → tie.Start
