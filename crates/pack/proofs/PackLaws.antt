@@ -10,10 +10,10 @@ use mathlib.Core.Path.{_∙_, _≡_, refl}
 use native.Mathlib.Nat.{mul-le-mul, mul-le-mul-right, suc-mul}
 use native.Mathlib.Numerals.{add-one}
 use native.Mathlib.Omega.{arith}
+use Rattle.integer.specs.Range.{Within}
 use Rattle.integer.proofs.IndexLaws.{getD-all}
 use Rattle.integer.proofs.Parts.{add-parts, sub-parts, zarith}
 use Rattle.integer.proofs.RangeLaws.{within! }
-use Rattle.integer.specs.Range.{Within}
 use Rattle.model.specs.Box.{at}
 use Rattle.model.specs.Limits.{maxCoef, maxRhs, minCoef, minRhs}
 use Rattle.model.specs.Rows.{rowOf}
@@ -21,9 +21,9 @@ use Rattle.model.specs.Valid.{Between}
 use Rattle.model.proofs.RowsLaws.{at-rowOf, length-rowOf}
 use Rattle.packed_row.specs.Words.{coefOf, coefsFrom, rhsOf}
 use Rattle.packed_row.proofs.PackedLaws.{coef-inside, rhs-inside}
-use Rattle.workspace.specs.Kept.{SameBut}
-use Rattle.workspace.specs.Layout.{rowWords}
-use Rattle.workspace.proofs.KeptLaws.{same-before, same-join}
+use Rattle.prepared_model.specs.Layout.{rowWords}
+use Rattle.prepared_model.specs.SameBut.{SameBut}
+use Rattle.prepared_model.proofs.KeptLaws.{same-before, same-join}
 
 -- a coefficient and the zeros that follow it, read back
 module _ (x zeros : ℕ) (a : ℤ) (b : Between minCoef maxCoef a) (e : pos x ≡ a +ℤ pos 1_000_000) where

@@ -13,8 +13,8 @@ ghost use Rattle.model.specs.Limits.{maxCoef, maxRhs, minCoef, minRhs};
 ghost use Rattle.model.specs.Rows.{rowOf};
 ghost use Rattle.model.specs.Valid.{Between};
 ghost use Rattle.packed_row.specs.Words.{coefsFrom, rhsOf};
-ghost use Rattle.workspace.specs.Kept.{SameBut};
-ghost use Rattle.workspace.specs.Layout.{rowWords, sideWord, workspaceLen};
+ghost use Rattle.prepared_model.specs.Layout.{rowWords, sideWord, workspaceLen};
+ghost use Rattle.prepared_model.specs.SameBut.{SameBut};
 
 // Writes the words of a row from a place on: each coefficient with the number of zeros that follow it, from the row's
 // end.

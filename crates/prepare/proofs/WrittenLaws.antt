@@ -9,6 +9,8 @@ use mathlib.Core.Logic.{inr}
 use mathlib.Core.Path.{_∙_, _≡_, ap, refl, sym}
 use native.Mathlib.Nat.{div-add-mod', div-lt-iff-lt-mul, mod-lt}
 use native.Mathlib.Omega.{arith}
+use Rattle.hearers.specs.Column.{Column}
+use Rattle.hearers.proofs.ColumnLaws.{column-kept}
 use Rattle.integer.specs.Index.{all}
 use Rattle.integer.proofs.IndexLaws.{all-at, getD-all}
 use Rattle.integer.proofs.Parts.{zarith}
@@ -18,15 +20,14 @@ use Rattle.model.specs.Rows.{Rows, isEquality, rowOf}
 use Rattle.model.specs.Valid.{ValidModel}
 use Rattle.model.proofs.RowsLaws.{at-rowOf}
 use Rattle.packed_row.specs.Words.{coefsFrom, rhsOf}
+use Rattle.prepared_model.specs.Layout.{boundOf, boxIn, decode, dirtyOf, fallOf, listTo, ourMark, riseOf, rowWords, rowsIn, sideWord, variablesOf, workspaceLen}
+use Rattle.prepared_model.specs.Prepared.{Prepared}
+use Rattle.prepared_model.specs.SameBut.{SameBut}
+use Rattle.prepared_model.proofs.DecodeLaws.{box-at, length-box, length-listTo, listTo-at}
+use Rattle.prepared_model.proofs.KeptLaws.{same-join}
 use Rattle.row_set.specs.Bits.{bitAt}
 use Rattle.row_set.specs.Readers.{Hearers}
-use Rattle.workspace.specs.Kept.{SameBut}
-use Rattle.workspace.specs.Layout.{boundOf, boxIn, decode, dirtyOf, fallOf, listTo, ourMark, riseOf, rowWords, rowsIn, sideWord, variablesOf, workspaceLen}
-use Rattle.workspace.specs.Prepared.{Prepared}
-use Rattle.workspace.proofs.DecodeLaws.{box-at, length-box, length-listTo, listTo-at}
-use Rattle.workspace.proofs.KeptLaws.{same-join}
-use Rattle.prepare.specs.Written.{Column, Written}
-use Rattle.prepare.proofs.ColumnLaws.{column-kept}
+use Rattle.prepare.specs.Written.{Written}
 
 -- every bit of 2³² − 1 is 1
 all-bits : (k : ℕ) → k < 32 → 4_294_967_295 / 2 ^ k % 2 ≡ 1

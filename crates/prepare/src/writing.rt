@@ -1,5 +1,5 @@
 // A workspace is written, from its head to its rows.
-use crate::columns::write_columns;
+use hearers::write_columns;
 use pack::pack_rows;
 use pack::pack_sides;
 use workspace::BOX_AT;
@@ -13,8 +13,8 @@ ghost use lib.IntN.{pos};
 ghost use Rattle.model.specs.Model.{modelOf};
 ghost use Rattle.model.specs.Rows.{rowsOf};
 ghost use Rattle.model.specs.Valid.{ValidModel};
-ghost use Rattle.workspace.specs.Kept.{SameBut};
-ghost use Rattle.workspace.specs.Layout.{ourMark, rowsIn, variablesOf, workspaceLen};
+ghost use Rattle.prepared_model.specs.Layout.{ourMark, rowsIn, variablesOf, workspaceLen};
+ghost use Rattle.prepared_model.specs.SameBut.{SameBut};
 ghost use Rattle.prepare.specs.Written.{Written};
 
 // Writes our mark, n and m.

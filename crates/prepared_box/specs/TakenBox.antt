@@ -10,9 +10,9 @@ use mathlib.Core.Path.{_≡_}
 use Rattle.integer.specs.Order.{minZ}
 use Rattle.model.specs.Box.{at, lower, upper}
 use Rattle.model.specs.Limits.{maxBound, maxWidth, minBound}
-use Rattle.prepared_row.specs.Heard.{Missed}
+use Rattle.prepared_model.specs.Layout.{boxIn}
+use Rattle.prepared_notes.specs.Heard.{Missed}
 use Rattle.row_set.specs.Bits.{bitAt}
-use Rattle.workspace.specs.Layout.{boxIn}
 
 -- the bounds of variable j are in range, in order, and no more than 4,096 apart
 abbrev pub plainAt : List ℤ → ℕ → Bool

@@ -1,7 +1,7 @@
 // The box that the workspace knows becomes the lent one, and the rows that hear of a bound that differs are to be
 // looked at too. Most bounds are the same: blocks of variables are copied and compared with what the workspace keeps,
 // each in a loop without a branch, and only where one differs its variables are looked at one by one.
-use prepared_row::notes::note_bound;
+use prepared_notes::note_bound;
 use workspace::SET_AT;
 use workspace::kept_bound;
 ghost use mathlib.Core.Bool.{true};
@@ -10,9 +10,9 @@ ghost use Prim.Native.Nat.{ℕ, _*_, _+_, _<_, _≤_};
 ghost use lib.ListN.{getD, length};
 ghost use Rattle.model.specs.Box.{at};
 ghost use Rattle.model.specs.Rows.{Rows};
+ghost use Rattle.prepared_model.specs.Layout.{boundOf, dirtyOf, rowsIn, variablesOf, workspaceLen};
+ghost use Rattle.prepared_model.specs.Prepared.{Prepared};
 ghost use Rattle.row_set.specs.Readers.{Calm};
-ghost use Rattle.workspace.specs.Layout.{boundOf, dirtyOf, rowsIn, variablesOf, workspaceLen};
-ghost use Rattle.workspace.specs.Prepared.{Prepared};
 ghost use Rattle.prepared_box.specs.TakenBox.{Copied, NotedKept};
 
 // The variables of a block.

@@ -7,17 +7,18 @@ use mathlib.Core.List.{List, []}
 use mathlib.Core.Path.{_∙_, _≡_, ap, refl, sym}
 use Rattle.model.specs.Rows.{Rows}
 use Rattle.model.specs.State.{stateOf}
+use Rattle.prepared_checks.specs.Checks.{propagateFault, reasonsFit}
+use Rattle.prepared_checks.proofs.CheckLaws.{same-fault}
+use Rattle.prepared_model.specs.Layout.{rowsIn, variablesOf}
+use Rattle.prepared_model.specs.Prepared.{Prepared}
 use Rattle.reducer.specs.OpenCalls.{performed}
 use Rattle.reducer.proofs.OpenCallLaws.{perform-refused, rows-propagated}
 use Rattle.semantics.specs.Call.{callOf}
 use Rattle.semantics.specs.Perform.{perform, refused}
 use Rattle.semantics.specs.Propagate.{propagate}
-use Rattle.workspace.specs.Layout.{rowsIn, variablesOf}
-use Rattle.workspace.specs.Prepared.{Prepared}
-use Rattle.prepared_call.specs.PreparedCall.{Propagates, preparedAnswer, propagateFault, reasonsFit}
+use Rattle.prepared_call.specs.PreparedCall.{Propagates, preparedAnswer}
 use Rattle.prepared_call.specs.declared.PreparedPropagation.{PreparedPropagation}
 use Rattle.prepared_call.specs.declared.PreparedPropagation.the-variants as code
-use Rattle.prepared_call.proofs.CheckLaws.{same-fault}
 
 module _ (W : List ℕ) (B : List ℤ) (R : List ℕ) (budget : ℕ) where
   -- what the call promises where it answers r and leaves W′, B′ and R′

@@ -13,11 +13,16 @@ use Rattle.marked_row.proofs.LocalBox.{blank}
 use Rattle.model.specs.Box.{isEmpty}
 use Rattle.model.specs.Rows.{Rows}
 use Rattle.model.proofs.BoxLaws.{empty-is}
+use Rattle.prepared_checks.specs.Checks.{Accepting}
+use Rattle.prepared_model.specs.Layout.{decode, rowsIn, variablesOf}
+use Rattle.prepared_model.specs.Prepared.{Prepared}
+use Rattle.prepared_model.specs.Reasons.{Reasons, endingRow, noRow, reasonsFrom, reasonsOf, reasonsTo}
+use Rattle.prepared_model.specs.SameBut.{SameBut}
+use Rattle.prepared_model.proofs.KeepsLaws.{keeps-box, keeps-none}
+use Rattle.prepared_model.proofs.KeptLaws.{prepared-kept, same-join}
 use Rattle.prepared_propagation.specs.Known.{Known}
-use Rattle.prepared_propagation.specs.Reasons.{Reasons, endingRow, noRow, reasonsFrom, reasonsOf, reasonsTo}
 use Rattle.prepared_propagation.specs.declared.PreparedEnd.{PreparedEnd}
-use Rattle.prepared_propagation.proofs.KeepsLaws.{keeps-box, keeps-none}
-use Rattle.prepared_row.specs.Visit.{Looking}
+use Rattle.prepared_row.specs.Looking.{Looking}
 use Rattle.propagation.specs.Results.{propagationOf}
 use Rattle.propagation.specs.declared.Propagation.{Propagation}
 use Rattle.propagation.specs.declared.Propagation.the-variants as made
@@ -25,11 +30,7 @@ use Rattle.row_set.specs.Readers.{Calm}
 use Rattle.semantics.specs.Perform.{propagated}
 use Rattle.semantics.specs.Propagate.{Propagated, converged, infeasible, isNone, passTo, propagate, propagateFrom}
 use Rattle.semantics.specs.Run.{answersNone, isRefused}
-use Rattle.workspace.specs.Kept.{SameBut}
-use Rattle.workspace.specs.Layout.{decode, rowsIn, variablesOf}
-use Rattle.workspace.specs.Prepared.{Prepared}
-use Rattle.workspace.proofs.KeptLaws.{prepared-kept, same-join}
-use Rattle.prepared_call.specs.Core.{Accepting, Kept, Ran, Running}
+use Rattle.prepared_call.specs.Core.{Kept, Ran, Running}
 use Rattle.prepared_call.specs.PreparedCall.{Propagates, infeasibleRow, preparedAnswer}
 use Rattle.prepared_call.specs.declared.PreparedPropagation.the-variants as code
 

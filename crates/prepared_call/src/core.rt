@@ -13,7 +13,8 @@ use workspace::keep_box;
 use workspace::keep_set;
 ghost use mathlib.Core.Path.{_≡_};
 ghost use lib.ListN.{length};
-ghost use Rattle.prepared_call.specs.Core.{Accepting, Keeping, Kept, Ran, Running};
+ghost use Rattle.prepared_checks.specs.Checks.{Accepting};
+ghost use Rattle.prepared_call.specs.Core.{Keeping, Kept, Ran, Running};
 ghost use Rattle.prepared_call.specs.PreparedCall.{Propagates};
 
 // The passes over a box that is not empty, with room for the box that the rows know. The rows still to be looked at are

@@ -8,8 +8,8 @@ ghost use lib.Signed.{_≤ℤ_};
 ghost use Rattle.model.specs.Box.{at};
 ghost use Rattle.model.specs.Limits.{maxBound, minBound};
 ghost use Rattle.model.specs.Valid.{Between};
-ghost use Rattle.workspace.specs.Kept.{SameBut};
-ghost use Rattle.workspace.specs.Layout.{boundOf, boxIn, dirtyOf, isOurs, workspaceLen};
+ghost use Rattle.prepared_model.specs.Layout.{boundOf, boxIn, dirtyOf, isOurs, workspaceLen};
+ghost use Rattle.prepared_model.specs.SameBut.{SameBut};
 
 pub const WORKSPACE_LEN: usize = 16_768;
 

@@ -11,9 +11,9 @@ use Rattle.integer.proofs.Parts.{zarith}
 use Rattle.integer.proofs.RangeLaws.{within-fits}
 use Rattle.model.specs.Box.{at}
 use Rattle.packed_row.specs.Words.{rhsOf}
-use Rattle.workspace.specs.Kept.{SameBut}
-use Rattle.workspace.specs.Layout.{sideWord}
-use Rattle.workspace.proofs.KeptLaws.{same-more, same-none, same-wider}
+use Rattle.prepared_model.specs.Layout.{sideWord}
+use Rattle.prepared_model.specs.SameBut.{SameBut}
+use Rattle.prepared_model.proofs.KeptLaws.{same-more, same-none, same-wider}
 use Rattle.pack.proofs.PackLaws.{side-packed, side-small, within-rhs}
 use Rattle.pack.proofs.pack_sides.Statement.{statement}
 use Rattle.pack.proofs.pack_sides.Tie as tie

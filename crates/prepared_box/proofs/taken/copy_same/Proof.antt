@@ -13,7 +13,7 @@ use native.Mathlib.Omega.{arith}
 use Rattle.integer.proofs.Reading.{eq-read}
 use Rattle.integer.proofs.Tests.{true→T}
 use Rattle.model.specs.Box.{at}
-use Rattle.workspace.specs.Layout.{boundOf}
+use Rattle.prepared_model.specs.Layout.{boundOf}
 use Rattle.prepared_box.specs.TakenBox.{Copied}
 use Rattle.prepared_box.proofs.TakenLaws.{copied-none, copied-one}
 use Rattle.prepared_box.proofs.taken.copy_same.Statement.{statement}

@@ -9,9 +9,9 @@ use mir.Syntax.{w32}
 use mir.Val.{ofZ, toZ}
 use native.Mathlib.Omega.{arith}
 use Rattle.model.specs.Box.{lower, upper}
-use Rattle.prepared_row.proofs.HeardLaws.{deaf-read}
-use Rattle.workspace.specs.Layout.{boxIn}
-use Rattle.workspace.proofs.DecodeLaws.{box-at}
+use Rattle.prepared_model.specs.Layout.{boxIn}
+use Rattle.prepared_model.proofs.DecodeLaws.{box-at}
+use Rattle.prepared_notes.proofs.HeardLaws.{deaf-read}
 use Rattle.prepared_box.proofs.TakenLaws.{noted-one}
 use Rattle.prepared_box.proofs.taken.note_kept.Statement.{statement}
 use Rattle.prepared_box.proofs.taken.note_kept.Tie as tie

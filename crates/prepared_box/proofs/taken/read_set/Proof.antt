@@ -5,7 +5,7 @@ use lib.ListN.{drop, getD, length, length-drop, length-set}
 use lib.Seq.{ext-getD, getD-drop, getD-set-other, getD-set-same, getD-take, length-take-le}
 use mathlib.Core.Path.{_∙_, _≡_, refl, sym}
 use native.Mathlib.Omega.{arith}
-use Rattle.workspace.specs.Layout.{dirtyOf}
+use Rattle.prepared_model.specs.Layout.{dirtyOf}
 use Rattle.prepared_box.proofs.taken.read_set.Statement.{statement}
 use Rattle.prepared_box.proofs.taken.read_set.Tie as tie
 
