@@ -14,10 +14,10 @@ use native.Mathlib.Omega.{arith}
 use Rattle.integer.specs.Index.{all}
 use Rattle.integer.proofs.IndexLaws.{all-more, all-test}
 use Rattle.integer.proofs.Tests.{and-i, both, eqb-test, false→T, leb-test, not-or-l, true→T}
-use Rattle.model.specs.Checks.{Check, boxChecks, first, lengthChecks, must, numberChecks, sizeChecks}
+use Rattle.model.specs.Checks.{Check, first, lengthChecks, must, sizeChecks}
 use Rattle.model.specs.Model.{Model, modelOf}
 use Rattle.model.specs.Rows.{Rows, rowsOf}
-use Rattle.model.proofs.CheckLaws.{LengthsFit, ends, fails, first-go, first-none, first-stop, goes, length-test, past, stops}
+use Rattle.model.proofs.CheckLaws.{ends, fails, first-go, first-none, goes, length-test, past, stops}
 use Rattle.book.specs.Answers.{boundsRead, coefsRead, kindsRead, readCall, readFault, refused, rhsRead, sizesAre}
 use Rattle.book.specs.Book.{decode, modelIn, trailerOf, variables}
 use Rattle.book.specs.BookChecks.{headChecks, modelNumberChecks, readChecks}
@@ -37,7 +37,7 @@ use Rattle.semantics.proofs.LowestLaws.{lowest-all, lowest-below, lowest-fails,
 use Rattle.allocation_input.specs.Answers.{Holdable, Judged, Room, Splits, verdictsOf}
 use Rattle.allocation_input.specs.Input.{bookEnd, bookOf, countAt, firstEnd, inputChecks, inputFault, maxInput, modelOfInput, noBook, noSplit, proposalChecks, proposalsAt, wholeEnd}
 use Rattle.allocation_input.specs.Meaning.{BookFound}
-use Rattle.allocation_input.specs.Output.{inputCount, inputVerdict}
+use Rattle.allocation_input.specs.Output.{inputVerdict}
 
 -- ---- where the book ends
 

@@ -1,14 +1,14 @@
 -- Laws of what is printed: the line of a verdict by its two numbers, and the output of an input by its answer.
-use Prim.Native.Nat.{_*_, _+_, _<_, _≤_, ℕ}
+use Prim.Native.Nat.{_<_, ℕ}
 use borrow.Author.Tests.{lt-leb, ne-eqb}
-use lib.ListN.{getD, length, take}
+use lib.ListN.{length}
 use mathlib.Core.List.{List}
-use mathlib.Core.Path.{_∙_, _≡_, ap, refl, subst, sym}
+use mathlib.Core.Path.{_≡_, ap, refl, subst}
 use native.Mathlib.Omega.{arith}
 use Rattle.model.proofs.CheckLaws.{fails}
 use Rattle.report.specs.Report.{refusedLine}
 use Rattle.text.specs.Text.{Wrote, texts}
-use Rattle.proposals.specs.Proposals.{caseOf, numberOf, numbers}
+use Rattle.proposals.specs.Proposals.{caseOf, numberOf}
 use Rattle.proposals.specs.Verdict.{Verdict, breaks, inside, outsideAt}
 use Rattle.allocation_input.specs.Answers.{Judged}
 use Rattle.allocation_input.specs.Input.{inputChecks, inputFault, maxInput}

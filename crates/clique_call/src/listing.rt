@@ -2,7 +2,7 @@
 use boxes::same_box;
 use clique_grow::Grown;
 use clique_grow::grow;
-ghost use mathlib.Core.Bool.{_&&_, not};
+ghost use mathlib.Core.Bool.{_&&_};
 ghost use mathlib.Core.Path.{_≡_};
 ghost use Prim.Native.Nat.{_*_, _+_, _<_, _≤_};
 ghost use lib.Dec.{leb};

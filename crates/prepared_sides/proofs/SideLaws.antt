@@ -24,10 +24,8 @@ use Rattle.prepared_propagation.specs.Known.{Known}
 use Rattle.two_sides.specs.Results.{probingOf}
 use Rattle.two_sides.specs.declared.Probing.{Probing}
 use Rattle.two_sides.specs.declared.Probing.the-variants as probing
-use Rattle.two_sides.specs.declared.Side.{Side}
 use Rattle.two_sides.proofs.JoinLaws.{probing-box}
 use Rattle.probe_side.proofs.SideLaws.{box-is, side-none}
-use Rattle.two_sides.proofs.Probing.{the-type}
 use Rattle.propagation.specs.Results.{propagationOf}
 use Rattle.propagation.specs.declared.Propagation.{Propagation}
 use Rattle.row.proofs.ImpliedBoxLaws.{valid-empty}

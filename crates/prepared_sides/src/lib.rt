@@ -11,7 +11,6 @@ use propagation::Propagation;
 use row_set::SET_WORDS;
 use two_sides::Probing;
 use two_sides::join;
-use two_sides::untried;
 ghost use mathlib.Core.Logic.{_⊎_};
 ghost use mathlib.Core.Path.{_≡_};
 ghost use Prim.Native.Nat.{ℕ, _*_, _<_};

@@ -12,7 +12,7 @@ use Rattle.model.specs.Valid.{ValidModel}
 use Rattle.model.proofs.BoxLoops.{lower-withBounds, upper-withBounds}
 use Rattle.model.specs.Rows.{Rows, rowAt}
 use Rattle.model.specs.Model.{modelOf}
-use Rattle.row_index.specs.Index.{ColumnSigns, Index}
+use Rattle.row_index.specs.Index.{ColumnSigns}
 use Rattle.semantics.specs.Probe.{fix}
 use Rattle.semantics.proofs.ProbeLaws.{fix-inside}
 use Rattle.row_marks.specs.Marks.{Unread, Watched}

@@ -1,13 +1,13 @@
 // The phases of a round that change rows: redundant rows are removed, coefficients are tightened. The model is valid
 // before them, and each call leaves it valid. Their calls are direct ones, made by the function of their kind, and pass
 // their checks: a list would refuse them.
+use boxes::is_free;
 use call::CallClass;
 use call::class_of_removal;
 use call::class_of_tightening;
 use matrix_change::maximum_activity_at;
 use matrix_change::remove_redundant_row_at;
 use matrix_change::tighten_coefficient_at;
-use boxes::is_free;
 use row_change::tightening::may_tighten;
 ghost use mathlib.Core.Path.{_≡_};
 ghost use mathlib.Core.Bool.{_&&_};

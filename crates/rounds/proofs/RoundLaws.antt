@@ -11,10 +11,6 @@ use native.Mathlib.Omega.{arith}
 use Rattle.integer.proofs.Tests.{true→T}
 use Rattle.model.specs.Box.{isEmpty, at, isFree}
 use Rattle.model.specs.Valid.{ValidModel, ValidState, ValidTable}
-use Rattle.row.specs.KindChanges.{ChangedRow, tightenRowOf}
-use Rattle.row.specs.Tightening.{mayTighten}
-use Rattle.row.proofs.KindChangeLaws.{tighten-kinded-ind, tighten-kinded-unchanged}
-use Rattle.row.proofs.TighteningLaws.{tighten-fails}
 use Rattle.semantics.specs.Run.{CallClass, classOf, run, step}
 use Rattle.model.specs.Model.{modelOf}
 use Rattle.model.specs.Rows.{Rows}
@@ -25,7 +21,6 @@ use Rattle.semantics.proofs.Accepted.{accepts, lent-own}
 use Rattle.semantics.proofs.Preserved.{Preserves, run-preserves}
 use Rattle.rounds.specs.Round.{andThen, anyChange, isChange, probes, propagateCall, removals, removeCall, round, roundBudget, tightenings, unlessEmpty, upwards}
 use Rattle.semantics.proofs.Demand3.{zeros-valid}
-use Rattle.matrix_view.proofs.RowInLaws.{row-fits}
 
 -- ---- the calls of a round are direct ones, and accepted
 

@@ -6,7 +6,6 @@ use mathlib.Core.Bool.{not}
 use mathlib.Core.List.{List}
 use mathlib.Core.Logic.{_⊎_, ⊎-elim}
 use mathlib.Core.Path.{_∙_, _≡_, ap, refl, sym}
-use Rattle.row.specs.KindChanges.{ChangedRow, removeRowOf, tightenRowOf}
 use Rattle.model.specs.Rows.{Rows}
 use Rattle.semantics.specs.CallChecks.{callChecks, callFault, givenModel, isLent, listedChecks, listedFault, recordChecks}
 use Rattle.semantics.specs.Perform.{Performed, act, perform}

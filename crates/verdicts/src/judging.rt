@@ -1,9 +1,9 @@
 // All proposals: against the box, and then against one row after the other. A verdict is told in two numbers, and is
 // open as long as the first is 0.
-use row_index::know_steps;
 use one_proposal::first_outside;
 use one_proposal::line;
 use one_proposal::meets_row;
+use row_index::know_steps;
 ghost use mathlib.Core.Path.{_≡_};
 ghost use Prim.Native.Nat.{ℕ, _*_, _+_, _<_, _≤_};
 ghost use lib.ListN.{getD, length};

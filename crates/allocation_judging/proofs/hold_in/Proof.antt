@@ -1,8 +1,6 @@
 -- `allocation_judging::hold_in`: with buffers of the right lengths the book is refused by its numbers alone, and so is the call
 -- (`read-refused`, `answered`). Assumes nothing.
-use Prim.Native.Nat.{_*_, ℕ}
-use lib.IntN.{ℤ}
-use mathlib.Core.List.{List}
+use Prim.Native.Nat.{ℕ}
 use mathlib.Core.Path.{_∙_, ap, sym}
 use Rattle.model.specs.Rows.{Rows, rowsOf}
 use Rattle.book.specs.Answers.{sizesAnswer}

@@ -6,7 +6,7 @@ use mathlib.Core.Path.{_∙_, _≡_, ap, subst, sym}
 use native.Mathlib.Omega.{arith}
 use Rattle.model.specs.Checks.{first}
 use Rattle.book.proofs.AcceptLaws.{Head, head-test}
-use Rattle.allocation_input.specs.Input.{bookEnd, modelOfInput, proposalChecks}
+use Rattle.allocation_input.specs.Input.{modelOfInput, proposalChecks}
 use Rattle.allocation_input.proofs.InputLaws.{end-head, end-variables, refused-behind, refused-head}
 use borrow.Author.Needs.{needs}
 use Rattle.allocation_judging.proofs.judge.Statement.{statement}

@@ -1,5 +1,4 @@
 -- `clique_call::listing::zero_at`: the part that is lent is row k, and it comes back all 0. Assumes nothing.
-use mathlib.Core.Path.{_≡_}
 use Rattle.row.specs.Redundancy.{zeroRow}
 use Rattle.row.proofs.RedundancyLaws.{length-zeroRow}
 use Rattle.row_view.proofs.PartLaws.{part-is}
