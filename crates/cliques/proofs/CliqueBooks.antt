@@ -5,6 +5,7 @@ use mathlib.Core.Logic.{inr}
 use mathlib.Core.Path.{_≡_}
 use native.Mathlib.Omega.{arith}
 use Rattle.integer.proofs.Parts.{zarith}
+use Rattle.model.specs.Box.{at}
 use Rattle.model.specs.Point.{dot}
 use Rattle.semantics.specs.Points.{ImplicationHolds, LiteralTrue}
 use Rattle.semantics.specs.WorkedBooks.{clique}

@@ -8,7 +8,7 @@ use mathlib.Core.List.{List}
 use mathlib.Core.Logic.{_⊎_}
 use mathlib.Core.Path.{_≡_}
 use Rattle.integer.specs.Order.{minZ}
-use Rattle.model.specs.Box.{lower, upper}
+use Rattle.model.specs.Box.{at, lower, upper}
 use Rattle.model.specs.Limits.{maxBound, maxWidth, minBound}
 use Rattle.prepared_model.specs.Layout.{boxIn}
 use Rattle.prepared_notes.specs.Heard.{Missed}

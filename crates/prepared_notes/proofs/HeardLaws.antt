@@ -9,7 +9,7 @@ use mathlib.Core.Path.{_∙_, _≡_, refl, sym}
 use native.Mathlib.Decide.{decLt, ℕ-discrete}
 use native.Mathlib.Omega.{arith}
 use Rattle.integer.proofs.Parts.{zarith}
-use Rattle.model.specs.Box.{lower, upper, withBounds}
+use Rattle.model.specs.Box.{at, lower, upper, withBounds}
 use Rattle.model.specs.Rows.{Rows, rowAt}
 use Rattle.model.proofs.BoxLaws.{box-ext}
 use Rattle.model.proofs.BoxLoops.{lower-withBounds, upper-withBounds, withBounds-other}

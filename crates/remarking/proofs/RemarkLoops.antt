@@ -7,7 +7,7 @@ use mathlib.Core.List.{List}
 use mathlib.Core.Path.{_∙_, _≡_, refl, sym}
 use native.Mathlib.Decide.{decLt, ℕ-discrete}
 use native.Mathlib.Omega.{arith}
-use Rattle.model.specs.Box.{lower, upper, withBounds}
+use Rattle.model.specs.Box.{at, lower, upper, withBounds}
 use Rattle.model.proofs.BoxLoops.{lower-withBounds, upper-withBounds, withBounds-other}
 use Rattle.row_index.specs.Index.{ColumnSigns}
 use Rattle.row_marks.specs.Marks.{Remarks, Unread}
