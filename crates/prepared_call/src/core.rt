@@ -2,7 +2,7 @@
 // what is kept of them.
 use crate::PreparedPropagation;
 use model::MAX_BOX;
-use prepared_box::taken::take_box;
+use prepared_box::take_box;
 use prepared_propagation::PreparedEnd;
 use prepared_propagation::propagate_prepared;
 use prepared_propagation::reasons::NO_ROW;

@@ -1,9 +1,9 @@
 // The checks of the prepared calls, in 01's order: those of what a call is lent, then its own. The rows were checked
 // when they were prepared.
+use box_checks::box_fault;
 use buffer_checks::is_bits;
 use call::checks::budget_fault;
 use call::checks::probe_fields_fault;
-use prepared_box::checks::box_fault;
 use workspace::is_ours;
 ghost use mathlib.Core.Bool.{_&&_};
 ghost use mathlib.Core.Path.{_≡_};

@@ -1,6 +1,6 @@
 // A prepared probe that is accepted: its two sides, and what is kept of what they come to.
 use model::MAX_BOX;
-use prepared_box::taken::take_box;
+use prepared_box::take_box;
 use prepared_propagation::reasons::NO_ROW;
 use prepared_propagation::reasons::no_reasons;
 use prepared_sides::ProbedSides;

@@ -3,7 +3,7 @@
 use boxes::copy_box;
 use boxes::make_empty;
 use model::MAX_BOX;
-use prepared_box::taken::take_box;
+use prepared_box::take_box;
 use prepared_propagation::PreparedEnd;
 use prepared_propagation::propagate_prepared;
 use prepared_propagation::reasons::no_reasons;

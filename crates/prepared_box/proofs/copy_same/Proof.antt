@@ -1,4 +1,4 @@
--- `taken::copy_same`: the numbers so far are copied (`copied-one`), and as long as the flag is true they are those that are kept. Assumes
+-- `prepared_box::copy_same`: the numbers so far are copied (`copied-one`), and as long as the flag is true they are those that are kept. Assumes
 -- nothing.
 use Prim.Native.Nat.{_+_, _-_, _<_, _≤_, ℕ}
 use borrow.Author.Count.{below-more}
@@ -16,8 +16,8 @@ use Rattle.model.specs.Box.{at}
 use Rattle.prepared_model.specs.Layout.{boundOf}
 use Rattle.prepared_box.specs.TakenBox.{Copied}
 use Rattle.prepared_box.proofs.TakenLaws.{copied-none, copied-one}
-use Rattle.prepared_box.proofs.taken.copy_same.Statement.{statement}
-use Rattle.prepared_box.proofs.taken.copy_same.Tie as tie
+use Rattle.prepared_box.proofs.copy_same.Statement.{statement}
+use Rattle.prepared_box.proofs.copy_same.Tie as tie
 
 abbrev Inv-loop : tie.InvT-loop
 Inv-loop ws from to seen₀ new same₀ i₀ seen same i =

@@ -1,4 +1,4 @@
--- `checks::is_plain`: the flag is `all` of the tests made so far. Assumes nothing.
+-- `box_checks::is_plain`: the flag is `all` of the tests made so far. Assumes nothing.
 use Prim.Native.Nat.{_/_, _-_, _≤_}
 use lib.ListN.{length}
 use mathlib.Core.Path.{_∙_, _≡_, refl}
@@ -9,9 +9,9 @@ use native.Mathlib.Omega.{arith}
 use Rattle.integer.specs.Index.{all}
 use Rattle.model.specs.Box.{lower, upper}
 use Rattle.model.proofs.CheckLaws.{flag-next}
-use Rattle.prepared_box.specs.TakenBox.{plainAt}
-use Rattle.prepared_box.proofs.checks.is_plain.Statement.{statement}
-use Rattle.prepared_box.proofs.checks.is_plain.Tie as tie
+use Rattle.box_checks.specs.Plain.{plainAt}
+use Rattle.box_checks.proofs.is_plain.Statement.{statement}
+use Rattle.box_checks.proofs.is_plain.Tie as tie
 
 abbrev Inv-loop : tie.InvT-loop
 Inv-loop bounds half ok₀ j₀ ok j = (j ≤ length bounds / 2) × (ok ≡ all j (plainAt bounds))

@@ -1,11 +1,11 @@
--- `taken::note_block`: the invariant is `NotedKept` of the variables so far (`noted-up`). Assumes nothing.
+-- `prepared_box::note_block`: the invariant is `NotedKept` of the variables so far (`noted-up`). Assumes nothing.
 use Prim.Native.Nat.{_-_, _≤_}
 use mathlib.Core.Path.{_∙_, _≡_}
 use native.Mathlib.Omega.{arith}
 use Rattle.prepared_box.specs.TakenBox.{NotedKept}
 use Rattle.prepared_box.proofs.TakenLaws.{noted-none, noted-up}
-use Rattle.prepared_box.proofs.taken.note_block.Statement.{statement}
-use Rattle.prepared_box.proofs.taken.note_block.Tie as tie
+use Rattle.prepared_box.proofs.note_block.Statement.{statement}
+use Rattle.prepared_box.proofs.note_block.Tie as tie
 
 abbrev Inv-loop : tie.InvT-loop
 Inv-loop ws from to new dirty₀ j₀ dirty j = (from ≤ j) × (j ≤ to) × NotedKept ws new dirty₀ from j dirty

@@ -12,7 +12,7 @@ ghost use Rattle.integer.specs.Index.{all};
 ghost use Rattle.integer.specs.Order.{minZ};
 ghost use Rattle.model.specs.Checks.{boxChecks, first};
 ghost use Rattle.model.specs.Limits.{maxBound, maxWidth};
-ghost use Rattle.prepared_box.specs.TakenBox.{plainAt};
+ghost use Rattle.box_checks.specs.Plain.{plainAt};
 
 // The greatest upper bound beside the lower bound `low`. No sum overflows, whatever `low` is.
 fn highest(low: i32) -> i32

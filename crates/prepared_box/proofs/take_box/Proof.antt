@@ -1,9 +1,9 @@
--- `taken::take_box`: the box is copied, and since the box and the set that are kept all variables are noted (`copied-all`, `noted-calm`).
+-- `prepared_box::take_box`: the box is copied, and since the box and the set that are kept all variables are noted (`copied-all`, `noted-calm`).
 -- Assumes nothing.
 use borrow.Author.Needs.{needs}
 use Rattle.prepared_box.proofs.TakenLaws.{copied-all, noted-calm}
-use Rattle.prepared_box.proofs.taken.take_box.Statement.{statement}
-use Rattle.prepared_box.proofs.taken.take_box.Tie as tie
+use Rattle.prepared_box.proofs.take_box.Statement.{statement}
+use Rattle.prepared_box.proofs.take_box.Tie as tie
 
 read-set-requires : tie.Need-read-set-requires
 read-set-requires c κs = search needs

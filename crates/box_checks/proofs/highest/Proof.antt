@@ -1,4 +1,4 @@
--- `checks::highest`: 28,671 and 4,096 are 32,767. Assumes nothing.
+-- `box_checks::highest`: 28,671 and 4,096 are 32,767. Assumes nothing.
 use lib.IntN.{_+ℤ_, pos, ℤ}
 use lib.Signed.{_<ℤ_, _≤ℤ_, leZ}
 use mathlib.Core.Path.{_≡_}
@@ -10,8 +10,8 @@ use Rattle.integer.proofs.Parts.{add-parts, leZ-no, zarith, zify}
 use Rattle.integer.proofs.RangeLaws.{within!, within-fits}
 use Rattle.integer.proofs.Tests.{false→T, le-test, true→T}
 use Rattle.model.specs.Limits.{maxBound, maxWidth}
-use Rattle.prepared_box.proofs.checks.highest.Statement.{statement}
-use Rattle.prepared_box.proofs.checks.highest.Tie as tie
+use Rattle.box_checks.proofs.highest.Statement.{statement}
+use Rattle.box_checks.proofs.highest.Tie as tie
 
 -- a sum with a low number fits
 sum-fits : (l : ℤ) → SFits w32 l → l ≤ℤ pos 28_671 → SFits w32 (l +ℤ pos 4_096)

@@ -1,4 +1,4 @@
--- `taken::note_kept`: both bounds are noted, one after the other. Assumes nothing.
+-- `prepared_box::note_kept`: both bounds are noted, one after the other. Assumes nothing.
 use Prim.Native.Nat.{_*_, _+_, ℕ}
 use borrow.Author.Needs.{needs}
 use lib.IntN.{ℤ}
@@ -13,8 +13,8 @@ use Rattle.prepared_model.specs.Layout.{boxIn}
 use Rattle.prepared_model.proofs.DecodeLaws.{box-at}
 use Rattle.prepared_notes.proofs.HeardLaws.{deaf-read}
 use Rattle.prepared_box.proofs.TakenLaws.{noted-one}
-use Rattle.prepared_box.proofs.taken.note_kept.Statement.{statement}
-use Rattle.prepared_box.proofs.taken.note_kept.Tie as tie
+use Rattle.prepared_box.proofs.note_kept.Statement.{statement}
+use Rattle.prepared_box.proofs.note_kept.Tie as tie
 
 mul-kept-bound : tie.Need-mul-kept-bound
 mul-kept-bound c = search needs

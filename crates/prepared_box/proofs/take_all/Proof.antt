@@ -1,4 +1,4 @@
--- `taken::take_all`: the invariant is `Copied` and `NotedKept` of the blocks so far, from the last on; a block is copied, and noted where a
+-- `prepared_box::take_all`: the invariant is `Copied` and `NotedKept` of the blocks so far, from the last on; a block is copied, and noted where a
 -- bound differs. Assumes nothing.
 use Prim.Native.Nat.{_*_, _≤_}
 use borrow.Author.Tests.{not-false}
@@ -6,8 +6,8 @@ use mathlib.Core.Path.{_∙_}
 use native.Mathlib.Omega.{arith}
 use Rattle.prepared_box.specs.TakenBox.{Copied, NotedKept}
 use Rattle.prepared_box.proofs.TakenLaws.{copied-join, copied-none, noted-down, noted-none, noted-same}
-use Rattle.prepared_box.proofs.taken.take_all.Statement.{statement}
-use Rattle.prepared_box.proofs.taken.take_all.Tie as tie
+use Rattle.prepared_box.proofs.take_all.Statement.{statement}
+use Rattle.prepared_box.proofs.take_all.Tie as tie
 
 abbrev Inv-loop : tie.InvT-loop
 Inv-loop n ws seen₀ new dirty₀ end₀ seen dirty end =

@@ -1,4 +1,4 @@
--- `taken::read_set`: the numbers so far are those of the set that is kept. Assumes nothing.
+-- `prepared_box::read_set`: the numbers so far are those of the set that is kept. Assumes nothing.
 use Prim.Native.Nat.{_+_, _-_, _<_, _≤_, ℕ}
 use borrow.Author.Count.{below-more, below-none}
 use lib.ListN.{drop, getD, length, length-drop, length-set}
@@ -6,8 +6,8 @@ use lib.Seq.{ext-getD, getD-drop, getD-set-other, getD-set-same, getD-take, leng
 use mathlib.Core.Path.{_∙_, _≡_, refl, sym}
 use native.Mathlib.Omega.{arith}
 use Rattle.prepared_model.specs.Layout.{dirtyOf}
-use Rattle.prepared_box.proofs.taken.read_set.Statement.{statement}
-use Rattle.prepared_box.proofs.taken.read_set.Tie as tie
+use Rattle.prepared_box.proofs.read_set.Statement.{statement}
+use Rattle.prepared_box.proofs.read_set.Tie as tie
 
 abbrev Inv-loop : tie.InvT-loop
 Inv-loop ws dirty₀ i₀ dirty i = (i ≤ 4) × (length dirty ≡ length dirty₀) × ((q : ℕ) → q < i → getD dirty q 0 ≡ getD ws (4 + q) 0)

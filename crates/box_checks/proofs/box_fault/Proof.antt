@@ -1,4 +1,4 @@
--- `checks::box_fault`: bounds that are plain, two by two, are in range, in order and narrow, so that they pass the three checks; of any
+-- `box_checks::box_fault`: bounds that are plain, two by two, are in range, in order and narrow, so that they pass the three checks; of any
 -- other box the checks are made one by one. Assumes nothing.
 use Prim.Native.Nat.{_*_, _+_, _/_, _%_, _<_, ℕ}
 use borrow.Author.Needs.{needs}
@@ -20,9 +20,9 @@ use Rattle.model.specs.Checks.{boxChecks, first, inRange, narrow, ordered}
 use Rattle.model.specs.Limits.{maxBound, maxWidth, minBound}
 use Rattle.model.specs.Valid.{Between}
 use Rattle.model.proofs.CheckLaws.{ends, inRange-test, past}
-use Rattle.prepared_box.specs.TakenBox.{plainAt}
-use Rattle.prepared_box.proofs.checks.box_fault.Statement.{statement}
-use Rattle.prepared_box.proofs.checks.box_fault.Tie as tie
+use Rattle.box_checks.specs.Plain.{plainAt}
+use Rattle.box_checks.proofs.box_fault.Statement.{statement}
+use Rattle.box_checks.proofs.box_fault.Tie as tie
 
 -- what the test of a variable says
 record Plain (l u : ℤ) : Type 0 where
