@@ -44,8 +44,8 @@ module _ (x kind : ℕ) (z : ℤ) (b : Between minRhs maxRhs z) (e : pos x ≡ z
   pub side-small : x ≤ 2_000_000_000
   side-small = omega (zarith, b, e, add-parts z (pos 1_000_000_000))
 
-  pub side-packed : kind < 2 → (rhsOf (x * 2 + kind) ≡ z) × ((x * 2 + kind) % 2 ≡ kind)
-  side-packed h =
+  pub rhs-packed : kind < 2 → (rhsOf (x * 2 + kind) ≡ z) × ((x * 2 + kind) % 2 ≡ kind)
+  rhs-packed h =
       let d : (x * 2 + kind) / 2 ≡ x = digits-div x h in (
         rhs-inside (x * 2 + kind) (omega (arith, d, side-small))
             ∙ rw d (omega (zarith, e, add-parts z (pos 1_000_000_000), sub-parts (pos x) (pos 1_000_000_000))),

@@ -8,7 +8,7 @@ use Rattle.hearers.specs.Column.{Column}
 use Rattle.model.specs.Box.{at}
 use Rattle.model.specs.Rows.{Rows, rowOf}
 use Rattle.packed_row.specs.Words.{coefsFrom, rhsOf}
-use Rattle.prepared_model.specs.Layout.{fallOf, ourMark, riseOf, rowWords, rowsIn, sideWord, variablesOf, workspaceLen}
+use Rattle.prepared_model.specs.Layout.{fallOf, ourMark, riseOf, rowWords, rowsIn, rhsWord, variablesOf, workspaceLen}
 
 -- the workspace W was written for the rows A. The box is [0, 0] of every variable: with all rows to look at, any box would do.
 pub record Written (n m : ℕ) (A : Rows) (W : List ℕ) : Type 0 where
@@ -18,6 +18,6 @@ pub record Written (n m : ℕ) (A : Rows) (W : List ℕ) : Type 0 where
   pub rowCount : rowsIn W ≡ m
   pub dirty : (i : ℕ) → 4 ≤ i → i < 8 → getD W i 0 ≡ 4_294_967_295
   pub box : (i : ℕ) → 8 ≤ i → i < 264 → getD W i 0 ≡ 32_768
-  pub sides : (r : ℕ) → r < m → (rhsOf (sideWord W r) ≡ at (A .rhs) r) × (sideWord W r % 2 ≡ getD (A .kinds) r 0)
+  pub sides : (r : ℕ) → r < m → (rhsOf (rhsWord W r) ≡ at (A .rhs) r) × (rhsWord W r % 2 ≡ getD (A .kinds) r 0)
   pub columns : (j : ℕ) → j < n → Column n m (A .coefs) (A .kinds) j (riseOf W j) (fallOf W j)
   pub rows : (r : ℕ) → r < m → coefsFrom (rowWords n W r) 0 ≡ rowOf n (A .coefs) r

@@ -36,7 +36,7 @@ infeasibleRow (BudgetSpent passes moved) = noRow
 -- ---- an accepted call that is lent k numbers for the reasons: what is so of any workspace, and what of one that is prepared for the
 -- rows A, whichever they are
 
-pub record Propagates (budget : ℕ) (W : List ℕ) (B : List ℤ) (k : ℕ) (r : PreparedPropagation) (W′ : List ℕ) (B′ : List ℤ) (R′ : List ℕ) : Type 0 where
+pub record PropagateAccepted (budget : ℕ) (W : List ℕ) (B : List ℤ) (k : ℕ) (r : PreparedPropagation) (W′ : List ℕ) (B′ : List ℤ) (R′ : List ℕ) : Type 0 where
   pub told : T (not (isRefused (preparedAnswer r)))
   pub keeps : Keeps W W′ (preparedAnswer r) B′
   -- a call that does not end infeasible leaves a valid box

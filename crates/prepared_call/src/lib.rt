@@ -19,7 +19,7 @@ ghost use Rattle.prepared_model.specs.Prepared.{Prepared};
 ghost use Rattle.reducer.specs.OpenCalls.{performed};
 ghost use Rattle.semantics.specs.Call.{callOf};
 ghost use Rattle.semantics.specs.Perform.{perform, refused};
-ghost use Rattle.prepared_call.specs.PreparedCall.{Propagates, preparedAnswer};
+ghost use Rattle.prepared_call.specs.PreparedCall.{PropagateAccepted, preparedAnswer};
 
 // 01's settle: refused N, None, Settled, Spent, with the passes made and the number of bounds moved; None with the row
 // that was infeasible, `NO_ROW` where the lent box was empty.
@@ -46,7 +46,7 @@ pub fn propagate(
         let W = now (ws .entry) in
         let B = now (bounds .entry) in
         ⌜ (propagateFault W B (now (reasons .entry)) budget ≡ 0
-        → Propagates budget W B (length (now (reasons .entry))) r (now (ws .exit)) (now (bounds .exit))
+        → PropagateAccepted budget W B (length (now (reasons .entry))) r (now (ws .exit)) (now (bounds .exit))
         (now (reasons .exit))) ⌝ }
     ensures defined { λ r.
         let W = now (ws .entry) in

@@ -16,7 +16,7 @@ use Rattle.model.specs.Rows.{rowAt, rowOf}
 use Rattle.model.specs.Valid.{Between, ValidBox, ValidModel}
 use Rattle.packed_row.specs.Words.{Readable, coefsFrom, rhsOf, rowOfWords}
 use Rattle.packed_row.proofs.PackedLaws.{coefs-in, length-coefs, rhs-in}
-use Rattle.prepared_model.specs.Layout.{boundOf, boxIn, decode, listTo, rowIn, rowWords, sideWord}
+use Rattle.prepared_model.specs.Layout.{boundOf, boxIn, decode, listTo, rowIn, rowWords, rhsWord}
 
 -- ---- lists by their places
 
@@ -51,7 +51,7 @@ module _ (n m : ℕ) (W : List ℕ) where
     coefsLen = length-listTo (m * n) _;
     coefs = listTo-all (Between minCoef maxCoef) (m * n) _ (pos 0) (λ q. coefs-in (rowWords n W (q / n)) 0 (q % n)) (record { above = omega zarith; below = omega zarith });
     rhsLen = length-listTo m _;
-    rhs = listTo-all (Between minRhs maxRhs) m _ (pos 0) (λ r. rhs-in (sideWord W r)) (record { above = omega zarith; below = omega zarith });
+    rhs = listTo-all (Between minRhs maxRhs) m _ (pos 0) (λ r. rhs-in (rhsWord W r)) (record { above = omega zarith; below = omega zarith });
     kindsLen = length-listTo m _;
     kinds = listTo-all (λ (k : ℕ). k < 2) m _ 0 (λ r. omega arith) (omega arith);
   }
@@ -87,11 +87,11 @@ module _ (n m : ℕ) (W : List ℕ) where
             ∙ listTo-at (m * n) _ (pos 0) (r * n + j) (place-in j k)
             ∙ ap₂ (λ (x y : ℕ). at (coefsFrom (rowWords n W x) 0) y) (digits-div r k) (digits-mod r k)
 
-    decode-rhs : at (decode n m W .rhs) r ≡ rhsOf (sideWord W r)
+    decode-rhs : at (decode n m W .rhs) r ≡ rhsOf (rhsWord W r)
     unfolding decode
     decode-rhs = listTo-at m _ (pos 0) r h
 
-    decode-kind : getD (decode n m W .kinds) r 0 ≡ sideWord W r % 2
+    decode-kind : getD (decode n m W .kinds) r 0 ≡ rhsWord W r % 2
     unfolding decode
     decode-kind = listTo-at m _ 0 r h
 

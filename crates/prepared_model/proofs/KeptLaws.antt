@@ -12,7 +12,7 @@ use Rattle.model.specs.Rows.{Rows}
 use Rattle.model.specs.Valid.{ValidBox}
 use Rattle.packed_row.specs.Words.{coefsFrom, rhsOf}
 use Rattle.row_set.specs.Readers.{Calm}
-use Rattle.prepared_model.specs.Layout.{boxIn, decode, dirtyOf, fallOf, listTo, riseOf, rowWords, rowsIn, sideWord, variablesOf}
+use Rattle.prepared_model.specs.Layout.{boxIn, decode, dirtyOf, fallOf, listTo, riseOf, rowWords, rowsIn, rhsWord, variablesOf}
 use Rattle.prepared_model.specs.Prepared.{Prepared}
 use Rattle.prepared_model.specs.SameBut.{SameBut}
 
@@ -62,11 +62,11 @@ module _ {p q : ℕ} {W X : List ℕ} (s : SameBut p q W X) where
   same-decode h n m =
       rw (
         listTo-same (m * n) (λ k. at (coefsFrom (take n (drop (1_408 + k / n * n) X)) 0) (k % n)) (λ k. at (coefsFrom (take n (drop (1_408 + k / n * n) W)) 0) (k % n)) words,
-        listTo-same m (λ r. rhsOf (sideWord X r)) (λ r. rhsOf (sideWord W r)) (λ r k. ap rhsOf (side r)),
-        listTo-same m (λ r. sideWord X r % 2) (λ r. sideWord W r % 2) (λ r k. ap (λ (w : ℕ). w % 2) (side r)),
+        listTo-same m (λ r. rhsOf (rhsWord X r)) (λ r. rhsOf (rhsWord W r)) (λ r k. ap rhsOf (side r)),
+        listTo-same m (λ r. rhsWord X r % 2) (λ r. rhsWord W r % 2) (λ r k. ap (λ (w : ℕ). w % 2) (side r)),
       )
     where
-      side : (r : ℕ) → sideWord X r ≡ sideWord W r
+      side : (r : ℕ) → rhsWord X r ≡ rhsWord W r
       side r = s .after (264 + r) (omega arith)
 
       words : (k : ℕ) → k < m * n → at (coefsFrom (take n (drop (1_408 + k / n * n) X)) 0) (k % n) ≡ at (coefsFrom (take n (drop (1_408 + k / n * n) W)) 0) (k % n)

@@ -62,18 +62,18 @@ boxIn n W = listTo (2 * n) (λ i. boundOf (getD W (8 + i) 0))
 unfoldable pub rowWords : ℕ → List ℕ → ℕ → List ℕ
 rowWords n W r = take n (drop (1_408 + r * n) W)
 
-abbrev pub sideWord : List ℕ → ℕ → ℕ
-sideWord W r = getD W (264 + r) 0
+abbrev pub rhsWord : List ℕ → ℕ → ℕ
+rhsWord W r = getD W (264 + r) 0
 
 -- row r
 unfoldable pub rowIn : ℕ → List ℕ → ℕ → Row
-rowIn n W r = rowOfWords (rowWords n W r) (sideWord W r)
+rowIn n W r = rowOfWords (rowWords n W r) (rhsWord W r)
 
 -- all rows, as a model has them
 unfoldable pub decode : ℕ → ℕ → List ℕ → Rows
 decode n m W =
     record {
       coefs = listTo (m * n) (λ q. at (coefsFrom (rowWords n W (q / n)) 0) (q % n));
-      rhs = listTo m (λ r. rhsOf (sideWord W r));
-      kinds = listTo m (λ r. sideWord W r % 2);
+      rhs = listTo m (λ r. rhsOf (rhsWord W r));
+      kinds = listTo m (λ r. rhsWord W r % 2);
     }

@@ -8,8 +8,8 @@ use packed_row::row_moves_packed;
 use prepared_notes::note;
 use row::propagation::RowPropagation;
 use row_set::remove;
+use workspace::RHS_AT;
 use workspace::ROWS_AT;
-use workspace::SIDES_AT;
 ghost use mathlib.Core.Path.{_≡_};
 ghost use Prim.Native.Nat.{ℕ, _%_, _<_, _≤_};
 ghost use lib.ListN.{length};
@@ -112,7 +112,7 @@ pub fn propagate_row_prepared(
     let start = ROWS_AT + r * n;
     propagate_row_noted(
         &ws[start..start + n],
-        ws[SIDES_AT + r],
+        ws[RHS_AT + r],
         ws,
         r,
         bounds,
@@ -128,5 +128,5 @@ pub fn row_moves_prepared(n: usize, m: usize, ws: &[u32], r: usize, bounds: &[i3
     ensures { λ b. ⌜ b ≡ rowMovesOf n (rowAt n (decode n m (now (ws .entry))) r) (now (bounds .entry)) ⌝ }
 {
     let start = ROWS_AT + r * n;
-    row_moves_packed(&ws[start..start + n], ws[SIDES_AT + r], bounds)
+    row_moves_packed(&ws[start..start + n], ws[RHS_AT + r], bounds)
 }

@@ -20,7 +20,7 @@ pub const SET_AT: usize = 4;
 pub const BOX_AT: usize = 8;
 
 // The right side and the kind of each row.
-pub const SIDES_AT: usize = 264;
+pub const RHS_AT: usize = 264;
 
 // The rows that hear of each variable.
 pub const HEARERS_AT: usize = 384;

@@ -1,4 +1,4 @@
--- `pack::pack_sides`: so far the numbers say the right sides and the kinds, and nothing else was written. Assumes nothing.
+-- `pack::pack_rhs`: so far the numbers say the right sides and the kinds, and nothing else was written. Assumes nothing.
 use Prim.Native.Nat.{_*_, _+_, _-_, _%_, _<_, _≤_, ℕ}
 use borrow.Author.Count.{below-more, below-none}
 use lib.ListN.{getD, set}
@@ -11,18 +11,18 @@ use Rattle.integer.proofs.Parts.{zarith}
 use Rattle.integer.proofs.RangeLaws.{within-fits}
 use Rattle.model.specs.Box.{at}
 use Rattle.packed_row.specs.Words.{rhsOf}
-use Rattle.prepared_model.specs.Layout.{sideWord}
+use Rattle.prepared_model.specs.Layout.{rhsWord}
 use Rattle.prepared_model.specs.SameBut.{SameBut}
 use Rattle.prepared_model.proofs.KeptLaws.{same-more, same-none, same-wider}
-use Rattle.pack.proofs.PackLaws.{side-packed, side-small, within-rhs}
-use Rattle.pack.proofs.pack_sides.Statement.{statement}
-use Rattle.pack.proofs.pack_sides.Tie as tie
+use Rattle.pack.proofs.PackLaws.{rhs-packed, side-small, within-rhs}
+use Rattle.pack.proofs.pack_rhs.Statement.{statement}
+use Rattle.pack.proofs.pack_rhs.Tie as tie
 
 abbrev Inv-loop : tie.InvT-loop
 Inv-loop m rhs kinds ws₀ r₀ ws r =
     (r ≤ m)
     × SameBut 264 (264 + r) ws₀ ws
-    × ((q : ℕ) → q < r → (rhsOf (sideWord ws q) ≡ at rhs q) × (sideWord ws q % 2 ≡ getD kinds q 0))
+    × ((q : ℕ) → q < r → (rhsOf (rhsWord ws q) ≡ at rhs q) × (rhsWord ws q % 2 ≡ getD kinds q 0))
 
 abbrev μ-loop : tie.MeasureT-loop
 μ-loop m rhs kinds ws₀ r₀ ws r = m - r
@@ -92,12 +92,12 @@ loop-again c =
     let f = within-fits w32 tt (within-rhs b) in
     let x = c .before .raised .result in
     let w = x * 2 + getD (s .args .kinds .now) r 0 in
-    let e : sideWord (set ws (264 + r) w) r ≡ w = getD-set-same ws (264 + r) w 0 (slice-write-ws c) in (
+    let e : rhsWord (set ws (264 + r) w) r ≡ w = getD-set-same ws (264 + r) w 0 (slice-write-ws c) in (
       omega arith,
       same-more r (h .loop .inv .1) w,
       below-more _ r
           (λ q k. rw (getD-set-other ws (264 + r) (264 + q) w 0 (omega arith)) (h .loop .inv .2 q k))
-          (rw e (side-packed x (getD (s .args .kinds .now) r 0) _ b (simp toZ-ofZ at (c .before .raised .ensures)) (s .pre .4 r))),
+          (rw e (rhs-packed x (getD (s .args .kinds .now) r 0) _ b (simp toZ-ofZ at (c .before .raised .ensures)) (s .pre .4 r))),
     )
 
 same-length : tie.Need-same-length Inv-loop μ-loop
@@ -108,8 +108,8 @@ returns c =
     let h = c .before in
     ((λ r k. h .loop .inv .2 r (omega arith)), same-wider (omega (arith, h .before .before .before .pre)) (h .loop .inv .1))
 
-pub pack-sides-spec : {M : Type 1} → statement M
-pack-sides-spec =
+pub pack-rhs-spec : {M : Type 1} → statement M
+pack-rhs-spec =
     tie.close
     (tie.spec
     Inv-loop
