@@ -1,4 +1,4 @@
-// Propagate all rows (01's settle) of a prepared model: the passes are those of `propagation`, but only rows are looked
+// Propagate all rows (01's settle) of a prepared model: the passes are those of `row_passes`, but only rows are looked
 // at that may move a bound.
 pub mod pass;
 pub mod reasons;
