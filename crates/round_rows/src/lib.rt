@@ -8,7 +8,7 @@ use call::class_of_tightening;
 use matrix_change::maximum_activity_at;
 use matrix_change::remove_redundant_row_at;
 use matrix_change::tighten_coefficient_at;
-use row_change::tightening::may_tighten;
+use row_tightening::may_tighten;
 ghost use mathlib.Core.Path.{_≡_};
 ghost use mathlib.Core.Bool.{_&&_};
 ghost use Prim.Native.Nat.{_*_, _+_, _<_};
