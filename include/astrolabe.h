@@ -32,7 +32,8 @@
  *     book     uint8_t    16+     a model as a file, see "Books" below
  *     pages    uint8_t    4,860 each  a model on paper, see "Pages for the floor" below
  *     workspace uint32_t  16,768  a prepared model, see "Prepared models" below   any
- *     reasons  uint32_t   0 or 2n the row that moved each bound, see there
+ *     reasons  uint32_t   0 or 2n the row that moved each bound, see there; 0 or 4n of a probe,
+ *                                 2n for each of its sides
  *     answer   uint64_t   12      the answer; places that a call does not use
  *                                 are set to 0
  *

@@ -4,15 +4,12 @@
 // the input is kept as it came, that the verdicts are those that each proposal alone would get, and that all lines are
 // handed to standard output are proved. A read or a write that fails is told on standard error.
 mod buffers;
-mod judging;
-mod lines;
-mod split;
 
+use allocation_input::Answer;
+use allocation_judging::judge;
+use allocation_lines::write_verdicts;
 use buffers::MAX_INPUT;
 use buffers::longest_input;
-use judging::Answer;
-use judging::judge;
-use lines::write_verdicts;
 use streams::input::Input;
 use streams::input::read_all;
 use streams::output::print;
@@ -26,8 +23,8 @@ ghost use Rattle.intake.specs.Intake.{Held};
 ghost use Rattle.proposals.specs.Proposals.{numbers};
 ghost use Rattle.proposals.specs.Verdict.{Verdict};
 ghost use Rattle.text.specs.Text.{texts};
-ghost use Rattle.allocations.specs.Input.{maxInput};
-ghost use Rattle.allocations.specs.Output.{output, verdictLine};
+ghost use Rattle.allocation_input.specs.Input.{maxInput};
+ghost use Rattle.allocation_input.specs.Output.{output, verdictLine};
 
 fn main() {
     let mut start = longest_input();

@@ -1,7 +1,7 @@
 -- What the calls that tell the length of a sparse book say. Words in quotation marks are D-28's (docs/DECISIONS.md).
 use mathlib.Core.List.{[], _∷_}
 use Rattle.replies.specs.Replies.{Reply, refusedBy, says}
-use Rattle.sparse.specs.SparseCalls.{BytesNeeded, bytesAre, refusedLength}
+use Rattle.sparse_calls.specs.SparseCalls.{BytesNeeded, bytesAre, refusedLength}
 
 -- "{bytes}"
 unfoldable pub lengthReply : BytesNeeded → Reply

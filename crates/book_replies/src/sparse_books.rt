@@ -1,11 +1,11 @@
 // The same of the calls on sparse books.
 use replies::reply::Reply;
-use sparse::writing::LengthAnswer;
+use sparse_calls::LengthAnswer;
 use sparse_reading::layout_fault;
 ghost use mathlib.Core.Path.{_≡_};
 ghost use Rattle.replies.specs.Replies.{replyOf, wrongLength};
 ghost use Rattle.sparse_layout.specs.SparseChecks.{sparseLayoutChecks};
-ghost use Rattle.sparse.specs.SparseCalls.{lengthAnswer};
+ghost use Rattle.sparse_calls.specs.SparseCalls.{lengthAnswer};
 ghost use Rattle.book_replies.specs.SparseReplies.{lengthReply};
 
 pub fn length_reply(a: LengthAnswer) -> Reply

@@ -1,13 +1,12 @@
 // A call by value, its own checks, and how it counts.
 use propagation::Propagation;
 use row::propagation::RowPropagation;
-use row_change::redundancy::RowRemoval;
-use row_change::tightening::CoefficientTightening;
+use row::redundancy::RowRemoval;
+use row::tightening::CoefficientTightening;
 ghost use mathlib.Core.List.{[]};
 ghost use mathlib.Core.Path.{_≡_};
 ghost use Prim.Native.Nat.{_+_, _<_, _^_};
-ghost use Rattle.row_change.specs.Answers.{removalOutcome, tighteningOutcome};
-ghost use Rattle.row.specs.Answers.{propagatedRowOf};
+ghost use Rattle.row.specs.Answers.{propagatedRowOf, removalOutcome, tighteningOutcome};
 ghost use Rattle.semantics.specs.Run.{countCall};
 ghost use Rattle.call.specs.Classes.{classIs, countsOf, outcomeClass, propagationClass};
 

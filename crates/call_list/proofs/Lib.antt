@@ -4,4 +4,3 @@ pub mod Lent
 pub mod Locals
 pub mod Parameters
 pub mod Reborrow
-pub mod Running

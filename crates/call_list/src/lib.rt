@@ -2,10 +2,9 @@
 // No function over a slice of structs is covered, so reading a record and the loop over them are proved by hand; all
 // else is in covered functions.
 use call::Call;
-use call::count;
+use call_record::run_next;
 use flat_list::RunAnswer;
-use step::run_record;
-ghost use mathlib.Core.List.{[]};
+use flat_list::run_none;
 ghost use mathlib.Core.Path.{_≡_};
 ghost use Prim.Native.Nat.{_<_};
 ghost use lib.ListN.{length, getD};
@@ -15,7 +14,7 @@ ghost use Rattle.model.specs.State.{stateOf};
 ghost use Rattle.semantics.specs.TwoLists.{CountsAddUp, Demand3Lists, ListMeans};
 ghost use Rattle.semantics.specs.TwoRuns.{EveryModelHandedIn};
 ghost use Rattle.flat_list.specs.ListAnswers.{listRun};
-ghost use Rattle.call_list.specs.Records.{Runs, noCall, numbersOf, runNext};
+ghost use Rattle.call_record.specs.Records.{noCall, numbersOf};
 
 // Record i.
 fn record_at(calls: &[Call], i: usize) -> Call
@@ -23,53 +22,6 @@ fn record_at(calls: &[Call], i: usize) -> Call
     ensures { λ r. ⌜ r ≡ getD (now (calls .entry)) i noCall ⌝ }
 {
     calls[i]
-}
-
-// The answer before the first record, which is that of the empty list: the model and the table are checked.
-fn run_none<'a>(
-    n: usize,
-    m: usize,
-    bounds: &'a mut [i32],
-    coefs: &[i32],
-    rhs: &[i32],
-    kinds: &[u8],
-    table: &'a mut [u8],
-) -> RunAnswer
-    ensures { λ r.
-        let A = rowsOf (now (coefs .entry)) (now (rhs .entry)) (now (kinds .entry)) in
-        let s = stateOf n m (now (bounds .entry)) A (now (table .entry)) in
-        let r' = stateOf n m (now (bounds .exit)) A (now (table .exit)) in
-        ⌜ listRun r r' ≡ runList s [] ⌝ }
-{
-    let none: [u32; 0] = [];
-    flat_list::run(n, m, bounds, coefs, rhs, kinds, table, &none)
-}
-
-// The answer with one record more. A list that is refused stays refused.
-fn run_next<'a>(
-    n: usize,
-    m: usize,
-    bounds: &'a mut [i32],
-    coefs: &[i32],
-    rhs: &[i32],
-    kinds: &[u8],
-    table: &'a mut [u8],
-    answer: RunAnswer,
-    call: Call,
-) -> RunAnswer
-    requires { let s = stateOf n m (now bounds) (rowsOf (now coefs) (now rhs) (now kinds)) (now table) in
-        ⌜ Runs (listRun answer s) ⌝ }
-    ensures { λ r.
-        let A = rowsOf (now (coefs .entry)) (now (rhs .entry)) (now (kinds .entry)) in
-        let s = stateOf n m (now (bounds .entry)) A (now (table .entry)) in
-        let r' = stateOf n m (now (bounds .exit)) A (now (table .exit)) in
-        ⌜ listRun r r' ≡ runNext (listRun answer s) call ⌝ }
-{
-    let RunAnswer::Ran(counts) = answer else {
-        return answer;
-    };
-    let class = run_record(n, m, bounds, coefs, rhs, kinds, table, call);
-    RunAnswer::Ran(count(counts, class))
 }
 
 // Runs a list of call records in their order. It goes on after a refused call, and writes bounds and table only.

@@ -3,7 +3,7 @@ use Prim.Native.Nat.{ℕ}
 use lib.ListN.{length}
 use mathlib.Core.List.{List}
 use mathlib.Core.Path.{_∙_, _≡_, ap}
-use Rattle.flat_list.specs.Classes.{ClassesRun, runClasses}
+use Rattle.flat_record.specs.Classes.{ClassesRun, runClasses}
 use Rattle.flat_list.specs.ListAnswers.{classesRun, listAnswer, listRun}
 use Rattle.flat_list.specs.declared.RunAnswer.{RunAnswer}
 use Rattle.model.specs.Checks.{sizeChecks}

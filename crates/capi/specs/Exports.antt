@@ -9,7 +9,7 @@ use mathlib.Core.Bool.{cond}
 use mathlib.Core.List.{List, [], _∷_}
 use Rattle.book.specs.Answers.{readCall, trailerCall}
 use Rattle.book.specs.BookChecks.{headChecks}
-use Rattle.flat_list.specs.Classes.{runClasses}
+use Rattle.flat_record.specs.Classes.{runClasses}
 use Rattle.model.specs.Checks.{Check, must, sizeChecks}
 use Rattle.model.specs.Rows.{Rows}
 use Rattle.plan.specs.Answers.{lengthsCall, passesCall, widthCall}

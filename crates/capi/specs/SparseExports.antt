@@ -12,7 +12,7 @@ use Rattle.model.specs.Rows.{Rows}
 use Rattle.book_replies.specs.SparseReplies.{lengthReply}
 use Rattle.replies.specs.Replies.{bookReply}
 use Rattle.sparse_layout.specs.SparseChecks.{sparseLayoutChecks}
-use Rattle.sparse.specs.SparseCalls.{sparseLengthCall, sparseReadCall, sparseTrailerCall, toSparseLengthCall}
+use Rattle.sparse_calls.specs.SparseCalls.{sparseLengthCall, sparseReadCall, sparseTrailerCall, toSparseLengthCall}
 use Rattle.capi.specs.Exports.{BookExported, bookAnswered}
 
 -- the answer's length after 1 and before 3

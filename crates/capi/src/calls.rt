@@ -12,7 +12,7 @@ use call_replies::tighten_reply;
 use change_call::remove_redundant_row;
 use change_call::tighten_coefficient;
 use flat_list::run_classes;
-use reducer::calls::probe;
+use probe_call::probe;
 use reducer::calls::propagate;
 use reducer::calls::propagate_row;
 use replies::reply::answer_fault;
@@ -280,7 +280,7 @@ pub extern "C" fn astrolabe_rounds(
         return answer_fault(n, m);
     }
     put(
-        rounds_reply(rounds::run(n, m, bounds, coefs, rhs, kinds, table, limit)),
+        rounds_reply(rounds_call::run(n, m, bounds, coefs, rhs, kinds, table, limit)),
         answer,
     )
 }

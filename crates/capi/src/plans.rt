@@ -1,9 +1,9 @@
 // The calls that tell size and passes beforehand. They write nothing but the answer.
 use crate::ANSWER;
 use book_replies::books::trailer_fault;
-use plan::buffers::lengths;
-use plan::list::passes;
 use plan::width;
+use plan_lengths::lengths;
+use plan_passes::passes;
 use plan_replies::passes_reply;
 use plan_replies::put_plan;
 use plan_replies::width_reply;

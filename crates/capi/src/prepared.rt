@@ -2,17 +2,17 @@
 // workspace and bounds. What is said of the answer is said of a workspace that is prepared for some rows; what is said
 // of refusals, of any.
 use prepare::prepare;
-use prepared_replies::exports::probe_said;
-use prepared_replies::exports::propagate_said;
+use prepared_exports::probe_said;
+use prepared_exports::propagate_said;
 ghost use mathlib.Core.Path.{_≡_};
 ghost use lib.Dec.{eqb};
 ghost use lib.ListN.{length};
 ghost use Rattle.model.specs.Checks.{modelFault, none};
 ghost use Rattle.model.specs.Model.{modelOf};
 ghost use Rattle.model.specs.Rows.{rowsOf};
-ghost use Rattle.prepared_replies.specs.PreparedSaid.{ProbeSaid, PropagateSaid};
-ghost use Rattle.workspace.specs.Layout.{rowsIn, variablesOf, workspaceLen};
-ghost use Rattle.workspace.specs.Prepared.{Prepared};
+ghost use Rattle.prepared_exports.specs.PreparedSaid.{ProbeSaid, PropagateSaid};
+ghost use Rattle.prepared_model.specs.Layout.{rowsIn, variablesOf, workspaceLen};
+ghost use Rattle.prepared_model.specs.Prepared.{Prepared};
 
 // Checks a model and writes it into the workspace; no answer, the number says all. Refused by the model's checks, the
 // workspace's length among those of 5.

@@ -2,14 +2,14 @@
 use boxes::same_box;
 use clique_grow::Grown;
 use clique_grow::grow;
-ghost use mathlib.Core.Bool.{_&&_, not};
+ghost use mathlib.Core.Bool.{_&&_};
 ghost use mathlib.Core.Path.{_≡_};
 ghost use Prim.Native.Nat.{_*_, _+_, _<_, _≤_};
 ghost use lib.Dec.{leb};
 ghost use lib.ListN.{length};
 ghost use Rattle.model.specs.Box.{sameList};
 ghost use Rattle.model.specs.Rows.{rowOf, splice};
-ghost use Rattle.row_change.specs.Redundancy.{zeroRow};
+ghost use Rattle.row.specs.Redundancy.{zeroRow};
 ghost use Rattle.cliques.specs.Cliques.{cliqueRow, cliqueRows, cliquesTo, grow as grown, meantAtZero, rowsFor};
 ghost use Rattle.clique_grow.specs.Candidates.{LentTable, allOnes};
 ghost use Rattle.clique_call.specs.Compared.{differs};

@@ -4,7 +4,7 @@ use lib.Dec.{eqb}
 use lib.IntN.{ℤ}
 use lib.ListN.{getD, length, length-replicate, length-set, replicate, set}
 use lib.Seq.{getD-set-other, getD-set-same}
-use mathlib.Core.Bool.{Bool, _&&_, cond, false, not, true}
+use mathlib.Core.Bool.{Bool, _&&_, cond, false, true}
 use mathlib.Core.List.{List, [], _∷_}
 use mathlib.Core.Logic.{_≢_}
 use mathlib.Core.Path.{_∙_, _≡_, ap, refl, subst, sym}
@@ -13,7 +13,7 @@ use native.Mathlib.Numerals.{add-one}
 use native.Mathlib.Omega.{arith}
 use Rattle.integer.proofs.Tests.{cond-ind, eqb-test, neqb→ne, test-false, test-true}
 use Rattle.model.proofs.RowsLaws.{index-lt}
-use Rattle.row_change.specs.Redundancy.{zeroRow}
+use Rattle.row.specs.Redundancy.{zeroRow}
 use Rattle.semantics.specs.Probe.{literal}
 use Rattle.cliques.specs.Cliques.{cliqueRow, coefOf, growTo, joined, joinedToAll, meantAtZero, opposite, says, valueOf, variableOf}
 use Rattle.cliques.proofs.CliqueLaws.{length-cliqueRow}

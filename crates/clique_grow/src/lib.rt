@@ -6,7 +6,7 @@ ghost use Prim.Native.Nat.{_*_, _<_, _≤_};
 ghost use lib.ListN.{length, set};
 ghost use Rattle.cliques.specs.Cliques.{cliqueRow, coefOf, grow as grown, joined, meantAtZero, opposite as oppositeOf};
 ghost use Rattle.cliques.specs.Cliques.{variableOf};
-ghost use Rattle.row_change.specs.Redundancy.{zeroRow};
+ghost use Rattle.row.specs.Redundancy.{zeroRow};
 ghost use Rattle.clique_grow.specs.Candidates.{LentTable, allOnes, keptTo, still as stillOf};
 
 // How many literals a clique has, and how many of them mean their variable at 0.

@@ -16,7 +16,7 @@ use Rattle.integer.proofs.Parts.{zarith, zify}
 use Rattle.integer.proofs.Tests.{T→true, and-i, and-l, and-r, cond-ind, decide, leb-test, neqb→ne, or-cases, or-inl, or-inr}
 use Rattle.model.specs.Box.{at}
 use Rattle.model.specs.Point.{RowHolds, dot}
-use Rattle.row_change.proofs.RedundancyLaws.{at-zeroRow, dot-zeroRow, length-zeroRow}
+use Rattle.row.proofs.RedundancyLaws.{at-zeroRow, dot-zeroRow, length-zeroRow}
 use Rattle.semantics.specs.Points.{ImplicationHolds, LiteralTrue, Recorded, TableHolds}
 use Rattle.semantics.specs.Probe.{byteOf, literal}
 use Rattle.ties.proofs.TiedRowLaws.{dot-set}

@@ -15,8 +15,8 @@ use Rattle.integer.proofs.Tests.{and-i, and-l, and-r, cond-ind, decide, eqb-tes
 use Rattle.model.specs.Box.{at}
 use Rattle.model.specs.Rows.{rowOf}
 use Rattle.model.proofs.RowsLaws.{at-rowOf, length-rowOf}
-use Rattle.row_change.specs.Redundancy.{zeroRow}
-use Rattle.row_change.proofs.RedundancyLaws.{at-zeroRow, length-zeroRow}
+use Rattle.row.specs.Redundancy.{zeroRow}
+use Rattle.row.proofs.RedundancyLaws.{at-zeroRow, length-zeroRow}
 use Rattle.semantics.specs.Probe.{literal}
 use Rattle.cliques.specs.CliqueClaims.{AllCliques, RowsWritten, SameRows}
 use Rattle.cliques.specs.Cliques.{cliqueRhs, cliqueRow, cliqueRows, cliques, cliquesTo, coefOf, coefsOf, grow, growTo, isNew, joined, joinedToAll, member, rowsFor, sameSet, seen, sidesOf, subset, valueOf, variableOf}

@@ -10,7 +10,7 @@ use mathlib.Core.Path.{_≡_}
 use Rattle.model.specs.Box.{at}
 use Rattle.model.specs.Point.{RowHolds}
 use Rattle.model.specs.Rows.{rowOf}
-use Rattle.row_change.specs.Redundancy.{zeroRow}
+use Rattle.row.specs.Redundancy.{zeroRow}
 use Rattle.semantics.specs.Points.{Recorded, TableHolds}
 use Rattle.ties.specs.TiedRun.{HandedInTied, TiedCall, runTied}
 use Rattle.ties.specs.Ties.{TiedPoint, TiedState}

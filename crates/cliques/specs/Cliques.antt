@@ -5,7 +5,7 @@ use lib.IntN.{_-ℤ_, negsuc, pos, ℤ}
 use lib.ListN.{getD, length, set}
 use mathlib.Core.Bool.{Bool, _&&_, _||_, cond, false, not, true}
 use mathlib.Core.List.{List, [], _++_, _∷_}
-use Rattle.row_change.specs.Redundancy.{zeroRow}
+use Rattle.row.specs.Redundancy.{zeroRow}
 use Rattle.semantics.specs.Probe.{byteOf, literal}
 
 -- ---- literals that are joined

@@ -28,7 +28,7 @@ use Rattle.sparse_layout.specs.SparseChecks.{sparseFault}
 use Rattle.sparse_layout.specs.SparseTrips.{toFirst, toSparse}
 use Rattle.sparse_layout.proofs.SparseAcceptLaws.{SparseHead, sparse-test}
 use Rattle.sparse_layout.proofs.SparseEncodeLaws.{sparseLength-below}
-use Rattle.sparse.specs.SparseCalls.{bytesAre, bytesUnless, refusedLength, toFirstCall, toFirstChecks, toFirstFault, toFirstWritten, toSparseChecks, toSparseFault, toSparseLengthCall, toSparseWritten}
+use Rattle.sparse_calls.specs.SparseCalls.{bytesAre, bytesUnless, refusedLength, toFirstCall, toFirstChecks, toFirstFault, toFirstWritten, toSparseChecks, toSparseFault, toSparseLengthCall, toSparseWritten}
 use Rattle.convert.specs.Answers.{Framed}
 use Rattle.convert.specs.Output.{bookUnless, firstEdition, isSparse, maxSparse, output, sparseEdition, toFirstNumber}
 

@@ -21,7 +21,7 @@ use Rattle.sparse_layout.specs.SparseTrips.{SparseAccepted, toFirst, toSparse}
 use Rattle.sparse_layout.proofs.SparseAcceptLaws.{sparse-layout-numbered, sparse-test}
 use Rattle.sparse_layout.proofs.SparseEncodeLaws.{length-encodeSparse, sparseLength-below}
 use Rattle.sparse_layout.proofs.SparseTripLaws.{first-sparse-first, no-rows-same, sparse-first-sparse, sparse-reads-written, sparse-writes-read}
-use Rattle.sparse.specs.SparseCalls.{toFirstChecks}
+use Rattle.sparse_calls.specs.SparseCalls.{toFirstChecks}
 use Rattle.convert.specs.Output.{firstEdition, isSparse, maxSparse, output, sparseEdition, toFirstNumber}
 use Rattle.convert.specs.Trips.{FirstComesBack, NoRowsStay, SparseComesBack}
 use Rattle.convert.proofs.ConvertLaws.{book-when}

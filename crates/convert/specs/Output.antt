@@ -11,7 +11,7 @@ use Rattle.report.specs.Report.{refusedLine}
 use Rattle.sparse_layout.specs.SparseBook.{decodeSparse}
 use Rattle.sparse_layout.specs.SparseChecks.{sparseFault}
 use Rattle.sparse_layout.specs.SparseTrips.{toFirst, toSparse}
-use Rattle.sparse.specs.SparseCalls.{toFirstChecks}
+use Rattle.sparse_calls.specs.SparseCalls.{toFirstChecks}
 
 -- the length of the longest sparse book (`sparseLength-below`)
 abbrev pub maxSparse : ℕ

@@ -5,7 +5,7 @@ use Rattle.semantics.specs.CallList as lists
 use Rattle.model.specs.State.{State}
 use Rattle.call.specs.Classes.{countsOf}
 use Rattle.call.specs.declared.Counts.{Counts}
-use Rattle.flat_list.specs.Classes.{ClassesRun}
+use Rattle.flat_record.specs.Classes.{ClassesRun}
 use Rattle.flat_list.specs.declared.RunAnswer.{RunAnswer}
 use Rattle.flat_list.specs.declared.RunAnswer.the-variants as answers
 

@@ -1,17 +1,18 @@
 // Call lists (01's run sheet): many calls on one model. The model and the table are checked once, before the first
 // record; each call leaves them valid, so only a record's own checks are made after that (`records`).
-use buffer_checks::is_product;
 use call::Counts;
-use model_checks::model_table_fault;
+use flat_record::classes_fault;
+use flat_record::list_fault;
 use records::run_records;
+ghost use mathlib.Core.List.{[]};
 ghost use mathlib.Core.Path.{_≡_};
-ghost use Rattle.semantics.specs.CallList.{listFault, ran, runList};
+ghost use Rattle.semantics.specs.CallList.{ran, runList};
 ghost use Rattle.model.specs.Rows.{rowsOf};
 ghost use Rattle.model.specs.State.{stateOf};
 ghost use Rattle.semantics.specs.Run as lists;
 ghost use Rattle.semantics.specs.TwoLists.{CountsAddUp, Demand3Lists, ListMeans};
 ghost use Rattle.semantics.specs.TwoRuns.{EveryModelHandedIn};
-ghost use Rattle.flat_list.specs.Classes.{ClassesCounted, classesFault, runClasses};
+ghost use Rattle.flat_record.specs.Classes.{ClassesCounted, runClasses};
 ghost use Rattle.flat_list.specs.ListAnswers.{classesRun, listAnswer, listRun};
 
 mod records;
@@ -20,26 +21,6 @@ mod records;
 pub enum RunAnswer {
     Refused(u32),
     Ran(Counts),
-}
-
-// The number by which a list is refused as a whole, 0 where it is run: the model's checks, 5 of its own length too, and
-// 10.
-fn list_fault(
-    n: usize,
-    m: usize,
-    bounds: &[i32],
-    coefs: &[i32],
-    rhs: &[i32],
-    kinds: &[u8],
-    table: &[u8],
-    calls: &[u32],
-) -> u32
-    ensures { λ r.
-        let A = rowsOf (now (coefs .entry)) (now (rhs .entry)) (now (kinds .entry)) in
-        let s = stateOf n m (now (bounds .entry)) A (now (table .entry)) in
-        ⌜ r ≡ listFault s (now (calls .entry)) ⌝ }
-{
-    model_table_fault(n, m, bounds, coefs, rhs, kinds, table, calls.len() % 4 == 0)
 }
 
 // Runs a flat list of call records, four numbers each: kind, row, variable, budget. It goes on after a refused call. A
@@ -77,25 +58,24 @@ pub fn run(
     RunAnswer::Ran(run_records(n, m, bounds, coefs, rhs, kinds, table, calls, &mut none))
 }
 
-// As `list_fault`; by 5 too where not a byte is lent for each record of four numbers.
-fn classes_fault(
+// Runs the list of no record: the model and the table are checked. It is the answer before the first record.
+pub fn run_none<'a>(
     n: usize,
     m: usize,
-    bounds: &[i32],
+    bounds: &'a mut [i32],
     coefs: &[i32],
     rhs: &[i32],
     kinds: &[u8],
-    table: &[u8],
-    calls: &[u32],
-    classes: &[u8],
-) -> u32
+    table: &'a mut [u8],
+) -> RunAnswer
     ensures { λ r.
         let A = rowsOf (now (coefs .entry)) (now (rhs .entry)) (now (kinds .entry)) in
         let s = stateOf n m (now (bounds .entry)) A (now (table .entry)) in
-        ⌜ r ≡ classesFault s (now (calls .entry)) (now (classes .entry)) ⌝ }
+        let r' = stateOf n m (now (bounds .exit)) A (now (table .exit)) in
+        ⌜ listRun r r' ≡ runList s [] ⌝ }
 {
-    let fits = is_product(calls.len(), 4, classes.len());
-    model_table_fault(n, m, bounds, coefs, rhs, kinds, table, fits)
+    let none: [u32; 0] = [];
+    run(n, m, bounds, coefs, rhs, kinds, table, &none)
 }
 
 // Runs a list as `run` does, and tells what each record did: a byte a record, 0 refused, 1 infeasible, 2 changed, 3

@@ -1,12 +1,12 @@
 // The program `floor` (02, C-23): a book on standard input, rounds until one changes nothing, or None, and the pages of
 // what is left of the model.
-use reduce_book::output::Form;
 use reduce_book::program;
-use rounds::NO_LIMIT;
+use reduction::Form;
+use rounds_call::NO_LIMIT;
 ghost use mathlib.Core.Bool.{true};
 ghost use mathlib.Core.Path.{_≡_};
-ghost use Rattle.reduce_book.specs.Answers.{Printed};
-ghost use Rattle.reduce_book.specs.declared.output.Form.the-variants.{Paper};
+ghost use Rattle.reduce_book.specs.Printed.{Printed};
+ghost use Rattle.reduction.specs.declared.Form.the-variants.{Paper};
 ghost use Rattle.rounds.specs.NoLimit.{noLimit};
 
 fn main() {

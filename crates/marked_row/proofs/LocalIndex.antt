@@ -10,7 +10,7 @@ use native.Mathlib.Omega.{arith}
 use Rattle.model.specs.Valid.{ValidModel}
 use Rattle.model.specs.Model.{modelOf}
 use Rattle.model.specs.Rows.{Rows}
-use Rattle.row_marks.specs.Index.{Index}
+use Rattle.row_index.specs.Index.{Index}
 use Rattle.row_marks.specs.Marks.{Clean, Watched}
 
 pub all-zero : (k i : ℕ) → getD {A = ℕ} (replicate k 0) i 0 ≡ 0

@@ -29,10 +29,10 @@ use Rattle.sweep.specs.Steps.{Steps}
 use Rattle.model.specs.Rows.{Row, Rows, isEquality, negated, rowAt, rowOf}
 use Rattle.model.proofs.PointLaws.{at-negated}
 use Rattle.model.specs.Model.{modelOf}
-use Rattle.row_view.specs.RowIn.{StepsIn}
+use Rattle.matrix_view.specs.RowIn.{StepsIn}
 use Rattle.sweep.proofs.StableLaws.{kinded-after}
-use Rattle.row_marks.specs.Index.{ColumnSigns, GoodStep}
-use Rattle.row_marks.proofs.IndexLoops.{row-end}
+use Rattle.row_index.specs.Index.{ColumnSigns, GoodStep}
+use Rattle.row_index.proofs.IndexLoops.{row-end}
 use Rattle.row_marks.specs.Marks.{Clean, Remarks, Unread, Visitable, Watched}
 use Rattle.row_marks.proofs.MarkLaws.{at-row, clean-empty, clean-remarked, kind-one}
 

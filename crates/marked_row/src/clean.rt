@@ -2,14 +2,14 @@
 // the box.
 use matrix_row::row_moves_at;
 use matrix_row::row_moves_at_by;
-use row_marks::index::know_steps;
+use row_index::know_steps;
 ghost use mathlib.Core.Path.{_≡_};
 ghost use Prim.Native.Nat.{_<_};
 ghost use Rattle.model.specs.Rows.{rowAt, rowsOf};
 ghost use Rattle.row.specs.Kinds.{rowMovesOf};
 ghost use Rattle.row.specs.ValidRow.{ValidRow};
-ghost use Rattle.row_view.specs.RowIn.{RowIn};
-ghost use Rattle.row_marks.specs.Index.{RowSteps};
+ghost use Rattle.matrix_view.specs.RowIn.{RowIn};
+ghost use Rattle.row_index.specs.Index.{RowSteps};
 ghost use Rattle.row_marks.specs.Marks.{Clean, Testable};
 
 // Tests row r, whose mark is not 1: read whole where it was not visited yet, else by its steps.

@@ -2,26 +2,20 @@
 // other by its steps. `clean` finds the rows that are clean in a box.
 use matrix_row::propagate_row_at;
 use matrix_row::propagate_row_at_by;
+use remarking::remark;
+use remarking::remark_all;
 use row::propagation::RowPropagation;
-use row_marks::index::know_steps;
-use row_marks::marks::remark;
-use row_marks::marks::remark_all;
+use row_index::know_steps;
+use row_marks::after;
 ghost use mathlib.Core.Path.{_≡_};
 ghost use Prim.Native.Nat.{ℕ, _*_, _<_};
 ghost use Rattle.model.specs.Rows.{rowAt, rowsOf};
 ghost use Rattle.row.specs.Answers.{propagatedRowOf};
 ghost use Rattle.row.specs.Kinds.{propagateRowOf};
-ghost use Rattle.row_marks.specs.Index.{GoodStep};
+ghost use Rattle.row_index.specs.Index.{GoodStep};
 ghost use Rattle.row_marks.specs.Marks.{Visitable, Watched};
 
 pub mod clean;
-
-// The mark of a row that has just moved a bound: a ≤ row moves nothing when it is propagated again; an = row may.
-fn after(kind: u8) -> u8
-    ensures { λ r. ⌜ (r ≡ 1 → kind ≡ 1 → ⊥) ⌝ }
-{
-    if kind == 1 { 2 } else { 1 }
-}
 
 // Propagates row r, read whole: its first visit. It leaves the row clean, and those rows clean no more that read a
 // bound that it moved.

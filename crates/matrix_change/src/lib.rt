@@ -1,19 +1,19 @@
 // Row r of a matrix that a call may change: the rule is lent its coefficients, right side and kind in place, and every
 // other row stays as it was.
+use row::redundancy::RowRemoval;
+use row::tightening::CoefficientTightening;
 use row_activity::maximum_activity;
-use row_change::redundancy::RowRemoval;
-use row_change::redundancy::remove_redundant_row;
-use row_change::tightening::CoefficientTightening;
-use row_change::tightening::tighten_coefficient;
+use row_removal::remove_redundant_row;
+use row_tightening::tighten_coefficient;
 ghost use mathlib.Core.Path.{_≡_};
 ghost use Prim.Native.Nat.{_*_, _+_, _<_, _≤_};
 ghost use lib.ListN.{length};
 ghost use Rattle.model.specs.Rows.{rowAt, rowOf, rowsOf, setRow};
 ghost use Rattle.row.specs.Activity.{maxActivity};
-ghost use Rattle.row_change.specs.Answers.{removalOutcome, tighteningOutcome};
-ghost use Rattle.row_change.specs.KindChanges.{removeRowOf, tightenRowOf};
+ghost use Rattle.row.specs.Answers.{removalOutcome, tighteningOutcome};
+ghost use Rattle.row.specs.KindChanges.{removeRowOf, tightenRowOf};
 ghost use Rattle.row.specs.ValidRow.{ValidCoefs, ValidRow};
-ghost use Rattle.row_view.specs.RowIn.{RowIn};
+ghost use Rattle.matrix_view.specs.RowIn.{RowIn};
 
 // Lmax of row r.
 pub fn maximum_activity_at(n: usize, coefs: &[i32], r: usize, bounds: &[i32]) -> i64

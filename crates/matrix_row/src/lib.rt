@@ -1,9 +1,9 @@
 // Row r of a matrix, for callers with plain slices, which need no proof by hand: propagated, or tested whether that
 // would move anything, where it stands.
+use matrix_view::coefficients;
+use matrix_view::row_at;
 use row::propagation::RowPropagation;
 use row_propagation::moves;
-use row_view::coefficients;
-use row_view::row_at;
 use sweep::moves_by;
 ghost use mathlib.Core.Path.{_≡_};
 ghost use Prim.Native.Nat.{_*_, _+_, _≤_};
@@ -12,7 +12,7 @@ ghost use Rattle.model.specs.Rows.{rowAt, rowsOf};
 ghost use Rattle.row.specs.Answers.{propagatedRowOf};
 ghost use Rattle.row.specs.Kinds.{propagateRowOf, rowMovesOf};
 ghost use Rattle.row.specs.ValidRow.{ValidRow};
-ghost use Rattle.row_view.specs.RowIn.{RowIn, StepsIn};
+ghost use Rattle.matrix_view.specs.RowIn.{RowIn, StepsIn};
 ghost use Rattle.sweep.specs.Steps.{Steps};
 
 // Propagates row r of the matrix through its view: for callers with plain slices, which need no proof by hand.

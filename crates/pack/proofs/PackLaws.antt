@@ -10,10 +10,10 @@ use mathlib.Core.Path.{_∙_, _≡_, refl}
 use native.Mathlib.Nat.{mul-le-mul, mul-le-mul-right, suc-mul}
 use native.Mathlib.Numerals.{add-one}
 use native.Mathlib.Omega.{arith}
+use Rattle.integer.specs.Range.{Within}
 use Rattle.integer.proofs.IndexLaws.{getD-all}
 use Rattle.integer.proofs.Parts.{add-parts, sub-parts, zarith}
 use Rattle.integer.proofs.RangeLaws.{within! }
-use Rattle.integer.specs.Range.{Within}
 use Rattle.model.specs.Box.{at}
 use Rattle.model.specs.Limits.{maxCoef, maxRhs, minCoef, minRhs}
 use Rattle.model.specs.Rows.{rowOf}
@@ -21,9 +21,9 @@ use Rattle.model.specs.Valid.{Between}
 use Rattle.model.proofs.RowsLaws.{at-rowOf, length-rowOf}
 use Rattle.packed_row.specs.Words.{coefOf, coefsFrom, rhsOf}
 use Rattle.packed_row.proofs.PackedLaws.{coef-inside, rhs-inside}
-use Rattle.workspace.specs.Kept.{SameBut}
-use Rattle.workspace.specs.Layout.{rowWords}
-use Rattle.workspace.proofs.KeptLaws.{same-before, same-join}
+use Rattle.prepared_model.specs.Layout.{rowWords}
+use Rattle.prepared_model.specs.SameBut.{SameBut}
+use Rattle.prepared_model.proofs.KeptLaws.{same-before, same-join}
 
 -- a coefficient and the zeros that follow it, read back
 module _ (x zeros : ℕ) (a : ℤ) (b : Between minCoef maxCoef a) (e : pos x ≡ a +ℤ pos 1_000_000) where
@@ -44,8 +44,8 @@ module _ (x kind : ℕ) (z : ℤ) (b : Between minRhs maxRhs z) (e : pos x ≡ z
   pub side-small : x ≤ 2_000_000_000
   side-small = omega (zarith, b, e, add-parts z (pos 1_000_000_000))
 
-  pub side-packed : kind < 2 → (rhsOf (x * 2 + kind) ≡ z) × ((x * 2 + kind) % 2 ≡ kind)
-  side-packed h =
+  pub rhs-packed : kind < 2 → (rhsOf (x * 2 + kind) ≡ z) × ((x * 2 + kind) % 2 ≡ kind)
+  rhs-packed h =
       let d : (x * 2 + kind) / 2 ≡ x = digits-div x h in (
         rhs-inside (x * 2 + kind) (omega (arith, d, side-small))
             ∙ rw d (omega (zarith, e, add-parts z (pos 1_000_000_000), sub-parts (pos x) (pos 1_000_000_000))),

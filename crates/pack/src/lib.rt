@@ -2,8 +2,8 @@
 // kind in one number.
 use model::MAX_COEF;
 use model::MAX_RHS;
+use workspace::RHS_AT;
 use workspace::ROWS_AT;
-use workspace::SIDES_AT;
 use workspace::raised;
 ghost use mathlib.Core.Path.{_≡_};
 ghost use Prim.Native.Nat.{ℕ, _*_, _+_, _%_, _<_, _≤_};
@@ -13,8 +13,8 @@ ghost use Rattle.model.specs.Limits.{maxCoef, maxRhs, minCoef, minRhs};
 ghost use Rattle.model.specs.Rows.{rowOf};
 ghost use Rattle.model.specs.Valid.{Between};
 ghost use Rattle.packed_row.specs.Words.{coefsFrom, rhsOf};
-ghost use Rattle.workspace.specs.Kept.{SameBut};
-ghost use Rattle.workspace.specs.Layout.{rowWords, sideWord, workspaceLen};
+ghost use Rattle.prepared_model.specs.Layout.{rowWords, rhsWord, workspaceLen};
+ghost use Rattle.prepared_model.specs.SameBut.{SameBut};
 
 // Writes the words of a row from a place on: each coefficient with the number of zeros that follow it, from the row's
 // end.
@@ -57,17 +57,17 @@ pub fn pack_rows(n: usize, m: usize, coefs: &[i32], ws: &mut [u32])
 }
 
 // Writes the right side and the kind of every row.
-pub fn pack_sides(m: usize, rhs: &[i32], kinds: &[u8], ws: &mut [u32])
+pub fn pack_rhs(m: usize, rhs: &[i32], kinds: &[u8], ws: &mut [u32])
     requires { ⌜ (m ≤ 120) × (length (now rhs) ≡ m) × ((i : ℕ) → Between minRhs maxRhs (at (now rhs) i))
         × (length (now kinds) ≡ m) × ((i : ℕ) → getD (now kinds) i 0 < 2) × (length (now ws) ≡ workspaceLen) ⌝ }
     ensures sides { λ _.
-        ⌜ ((r : ℕ) → r < m → (rhsOf (sideWord (now (ws .exit)) r) ≡ at (now (rhs .entry)) r)
-        × (sideWord (now (ws .exit)) r % 2 ≡ getD (now (kinds .entry)) r 0)) ⌝ }
+        ⌜ ((r : ℕ) → r < m → (rhsOf (rhsWord (now (ws .exit)) r) ≡ at (now (rhs .entry)) r)
+        × (rhsWord (now (ws .exit)) r % 2 ≡ getD (now (kinds .entry)) r 0)) ⌝ }
     ensures others { λ _. ⌜ SameBut 264 384 (now (ws .entry)) (now (ws .exit)) ⌝ }
 {
     let mut r = 0;
     while r < m {
-        ws[SIDES_AT + r] = raised(rhs[r], MAX_RHS) * 2 + (kinds[r] as u32);
+        ws[RHS_AT + r] = raised(rhs[r], MAX_RHS) * 2 + (kinds[r] as u32);
         r += 1;
     }
 }

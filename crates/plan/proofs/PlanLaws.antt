@@ -34,13 +34,13 @@ use Rattle.plan.specs.Answers.{Answer, lengthsAnswer, lengthsAre, length
 use Rattle.plan.specs.Lengths.{Lengths, lengthsFor, lengthsOf}
 use Rattle.plan.specs.Meaning.{EnoughFor, PassesAtMost}
 use Rattle.plan.specs.PlanChecks.{boundsChecks, listFits}
-use Rattle.plan.specs.declared.bounds.WidthAnswer.{WidthAnswer}
-use Rattle.plan.specs.declared.bounds.WidthAnswer.the-variants as widths
-use Rattle.plan.specs.declared.buffers.BufferLengths as code
-use Rattle.plan.specs.declared.buffers.LengthsAnswer.{LengthsAnswer}
-use Rattle.plan.specs.declared.buffers.LengthsAnswer.the-variants as buffers
-use Rattle.plan.specs.declared.list.PassesAnswer.{PassesAnswer}
-use Rattle.plan.specs.declared.list.PassesAnswer.the-variants as lists
+use Rattle.plan.specs.declared.WidthAnswer.{WidthAnswer}
+use Rattle.plan.specs.declared.WidthAnswer.the-variants as widths
+use Rattle.plan.specs.declared.BufferLengths as code
+use Rattle.plan.specs.declared.LengthsAnswer.{LengthsAnswer}
+use Rattle.plan.specs.declared.LengthsAnswer.the-variants as buffers
+use Rattle.plan.specs.declared.PassesAnswer.{PassesAnswer}
+use Rattle.plan.specs.declared.PassesAnswer.the-variants as lists
 
 -- two different constructors: `cc` makes of them that 0 is 1
 no-number : {A : Type 0} → _≡_ {A = ℕ} 0 1 → A

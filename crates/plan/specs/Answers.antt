@@ -11,12 +11,12 @@ use Rattle.model.specs.Checks.{first}
 use Rattle.semantics.specs.Passes.{enoughBudget, passLimit, totalWidth}
 use Rattle.plan.specs.Lengths.{Lengths, lengthsFor, lengthsOf}
 use Rattle.plan.specs.PlanChecks.{boundsChecks, listFits}
-use Rattle.plan.specs.declared.bounds.WidthAnswer.{WidthAnswer}
-use Rattle.plan.specs.declared.bounds.WidthAnswer.the-variants as widths
-use Rattle.plan.specs.declared.buffers.LengthsAnswer.{LengthsAnswer}
-use Rattle.plan.specs.declared.buffers.LengthsAnswer.the-variants as buffers
-use Rattle.plan.specs.declared.list.PassesAnswer.{PassesAnswer}
-use Rattle.plan.specs.declared.list.PassesAnswer.the-variants as lists
+use Rattle.plan.specs.declared.WidthAnswer.{WidthAnswer}
+use Rattle.plan.specs.declared.WidthAnswer.the-variants as widths
+use Rattle.plan.specs.declared.LengthsAnswer.{LengthsAnswer}
+use Rattle.plan.specs.declared.LengthsAnswer.the-variants as buffers
+use Rattle.plan.specs.declared.PassesAnswer.{PassesAnswer}
+use Rattle.plan.specs.declared.PassesAnswer.the-variants as lists
 
 -- refused by a check's number; the lengths; the total width and the budget; those and an upper limit on the passes
 pub data Answer : Type 0 where

@@ -1,7 +1,7 @@
 -- "From a trailer: the length of each buffer that n and m fix." (02, C-17)
 use Prim.Native.Nat.{_*_, ℕ}
 use Rattle.book.specs.Book.{bookLength}
-use Rattle.plan.specs.declared.buffers.BufferLengths as code
+use Rattle.plan.specs.declared.BufferLengths as code
 
 -- n, m, and the lengths in elements
 pub record Lengths : Type 0 where

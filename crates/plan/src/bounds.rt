@@ -1,4 +1,5 @@
 // The total width of a box, and a budget that no propagation from it spends.
+use crate::WidthAnswer;
 use boxes::is_empty;
 use buffer_checks::is_product;
 use model_checks::box_fault;
@@ -15,12 +16,6 @@ ghost use Rattle.semantics.specs.Passes.{totalWidth};
 ghost use Rattle.plan.specs.Answers.{widthAnswer, widthCall, widthIs};
 ghost use Rattle.plan.specs.Meaning.{EnoughFor};
 ghost use Rattle.plan.specs.PlanChecks.{boundsChecks};
-
-pub enum WidthAnswer {
-    // By the number of the first check that fails.
-    Refused(u32),
-    Told { width: u32, budget: u32 },
-}
 
 // Checks 3, 5, 6, 7 and 23 of n and the bounds: the number of the first that fails, else 0. `fits` says whether
 // whatever else the call is lent has its length (5, with the bounds').

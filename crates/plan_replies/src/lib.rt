@@ -1,8 +1,8 @@
 // What the calls that tell size and passes beforehand say.
+use plan::BufferLengths;
+use plan::LengthsAnswer;
+use plan::PassesAnswer;
 use plan::WidthAnswer;
-use plan::buffers::BufferLengths;
-use plan::buffers::LengthsAnswer;
-use plan::list::PassesAnswer;
 use replies::reply::Reply;
 use replies::reply::clear;
 ghost use mathlib.Core.Path.{_≡_};

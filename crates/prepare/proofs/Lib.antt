@@ -1,2 +1,1 @@
-mod ColumnLaws
-mod WrittenLaws
+pub mod WrittenLaws

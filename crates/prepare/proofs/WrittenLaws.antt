@@ -9,6 +9,8 @@ use mathlib.Core.Logic.{inr}
 use mathlib.Core.Path.{_∙_, _≡_, ap, refl, sym}
 use native.Mathlib.Nat.{div-add-mod', div-lt-iff-lt-mul, mod-lt}
 use native.Mathlib.Omega.{arith}
+use Rattle.hearers.specs.Column.{Column}
+use Rattle.hearers.proofs.ColumnLaws.{column-kept}
 use Rattle.integer.specs.Index.{all}
 use Rattle.integer.proofs.IndexLaws.{all-at, getD-all}
 use Rattle.integer.proofs.Parts.{zarith}
@@ -18,15 +20,14 @@ use Rattle.model.specs.Rows.{Rows, isEquality, rowOf}
 use Rattle.model.specs.Valid.{ValidModel}
 use Rattle.model.proofs.RowsLaws.{at-rowOf}
 use Rattle.packed_row.specs.Words.{coefsFrom, rhsOf}
+use Rattle.prepared_model.specs.Layout.{boundOf, boxIn, decode, dirtyOf, fallOf, listTo, ourMark, riseOf, rowWords, rowsIn, rhsWord, variablesOf, workspaceLen}
+use Rattle.prepared_model.specs.Prepared.{Prepared}
+use Rattle.prepared_model.specs.SameBut.{SameBut}
+use Rattle.prepared_model.proofs.DecodeLaws.{box-at, length-box, length-listTo, listTo-at}
+use Rattle.prepared_model.proofs.KeptLaws.{same-join}
 use Rattle.row_set.specs.Bits.{bitAt}
 use Rattle.row_set.specs.Readers.{Hearers}
-use Rattle.workspace.specs.Kept.{SameBut}
-use Rattle.workspace.specs.Layout.{boundOf, boxIn, decode, dirtyOf, fallOf, listTo, ourMark, riseOf, rowWords, rowsIn, sideWord, variablesOf, workspaceLen}
-use Rattle.workspace.specs.Prepared.{Prepared}
-use Rattle.workspace.proofs.DecodeLaws.{box-at, length-box, length-listTo, listTo-at}
-use Rattle.workspace.proofs.KeptLaws.{same-join}
-use Rattle.prepare.specs.Written.{Column, Written}
-use Rattle.prepare.proofs.ColumnLaws.{column-kept}
+use Rattle.prepare.specs.Written.{Written}
 
 -- every bit of 2³² − 1 is 1
 all-bits : (k : ℕ) → k < 32 → 4_294_967_295 / 2 ^ k % 2 ≡ 1
@@ -70,7 +71,7 @@ module _ {n m : ℕ} (A : Rows) {W X₁ X₂ X₃ X₄ X₅ X₆ : List ℕ} (le
     (head : (getD X₁ 0 0 ≡ ourMark) × (variablesOf X₁ ≡ n) × (rowsIn X₁ ≡ m)) (s₁ : SameBut 0 4 W X₁)
     (dirty : (i : ℕ) → 4 ≤ i → i < 8 → getD X₂ i 0 ≡ 4_294_967_295) (s₂ : SameBut 4 8 X₁ X₂)
     (box : (i : ℕ) → 8 ≤ i → i < 264 → getD X₃ i 0 ≡ 32_768) (s₃ : SameBut 8 264 X₂ X₃)
-    (sides : (r : ℕ) → r < m → (rhsOf (sideWord X₄ r) ≡ at (A .rhs) r) × (sideWord X₄ r % 2 ≡ getD (A .kinds) r 0)) (s₄ : SameBut 264 384 X₃ X₄)
+    (sides : (r : ℕ) → r < m → (rhsOf (rhsWord X₄ r) ≡ at (A .rhs) r) × (rhsWord X₄ r % 2 ≡ getD (A .kinds) r 0)) (s₄ : SameBut 264 384 X₃ X₄)
     (columns : (j : ℕ) → j < n → Column n m (A .coefs) (A .kinds) j (riseOf X₅ j) (fallOf X₅ j)) (s₅ : SameBut 384 1_408 X₄ X₅)
     (rows : (r : ℕ) → r < m → coefsFrom (rowWords n X₆ r) 0 ≡ rowOf n (A .coefs) r) (s₆ : SameBut 1_408 16_768 X₅ X₆) where
   after₄ : SameBut 384 16_768 X₄ X₆
@@ -115,15 +116,15 @@ module _ (n m : ℕ) (A : Rows) (W : List ℕ) (w : Written n m A W) (v : ValidM
           let j : q % n < n = mod-lt q (v .some) in
           listTo-at (m * n) f (pos 0) q k ∙ rw (w .rows (q / n) r) (at-rowOf n (A .coefs) (q / n) (q % n) j ∙ ap (at (A .coefs)) (div-add-mod' q n))
 
-  written-rhs : listTo m (λ r. rhsOf (sideWord W r)) ≡ A .rhs
+  written-rhs : listTo m (λ r. rhsOf (rhsWord W r)) ≡ A .rhs
   written-rhs =
-      ext-getD (pos 0) _ _ (length-listTo m (λ r. rhsOf (sideWord W r)) ∙ sym (v .rhsLen))
-      (λ r k. let h = rw (length-listTo m (λ r. rhsOf (sideWord W r))) at k in listTo-at m _ (pos 0) r h ∙ w .sides r h .0)
+      ext-getD (pos 0) _ _ (length-listTo m (λ r. rhsOf (rhsWord W r)) ∙ sym (v .rhsLen))
+      (λ r k. let h = rw (length-listTo m (λ r. rhsOf (rhsWord W r))) at k in listTo-at m _ (pos 0) r h ∙ w .sides r h .0)
 
-  written-kinds : listTo m (λ r. sideWord W r % 2) ≡ A .kinds
+  written-kinds : listTo m (λ r. rhsWord W r % 2) ≡ A .kinds
   written-kinds =
-      ext-getD 0 _ _ (length-listTo m (λ r. sideWord W r % 2) ∙ sym (v .kindsLen))
-      (λ r k. let h = rw (length-listTo m (λ r. sideWord W r % 2)) at k in listTo-at m _ 0 r h ∙ w .sides r h .1)
+      ext-getD 0 _ _ (length-listTo m (λ r. rhsWord W r % 2) ∙ sym (v .kindsLen))
+      (λ r k. let h = rw (length-listTo m (λ r. rhsWord W r % 2)) at k in listTo-at m _ 0 r h ∙ w .sides r h .1)
 
   written-rows : decode n m W ≡ A
   unfolding decode

@@ -1,23 +1,14 @@
 -- What `prepare` writes into a workspace: the head, a box that every call may be compared with, all rows to look at, and the model's rows
 -- with the sets of those that hear of each variable.
-use Prim.Native.Nat.{_*_, _+_, _%_, _<_, _≤_, ℕ}
-use lib.Dec.{eqb}
-use lib.IntN.{ℤ}
+use Prim.Native.Nat.{_%_, _<_, _≤_, ℕ}
 use lib.ListN.{getD, length}
-use mathlib.Core.Bool.{true}
 use mathlib.Core.List.{List}
 use mathlib.Core.Path.{_≡_}
+use Rattle.hearers.specs.Column.{Column}
 use Rattle.model.specs.Box.{at}
 use Rattle.model.specs.Rows.{Rows, rowOf}
 use Rattle.packed_row.specs.Words.{coefsFrom, rhsOf}
-use Rattle.row_set.specs.Bits.{bitAt}
-use Rattle.row_set.specs.Readers.{hearsFall, hearsRise}
-use Rattle.workspace.specs.Layout.{fallOf, ourMark, riseOf, rowWords, rowsIn, sideWord, variablesOf, workspaceLen}
-
--- the two sets hold the rows below m that hear of variable j; C is the matrix, K the kinds
-pub record Column (n m : ℕ) (C : List ℤ) (K : List ℕ) (j : ℕ) (rise fall : List ℕ) : Type 0 where
-  pub rising : (r : ℕ) → r < m → hearsRise (eqb (getD K r 0) 1) (at C (r * n + j)) ≡ true → bitAt rise r ≡ 1
-  pub falling : (r : ℕ) → r < m → hearsFall (eqb (getD K r 0) 1) (at C (r * n + j)) ≡ true → bitAt fall r ≡ 1
+use Rattle.prepared_model.specs.Layout.{fallOf, ourMark, riseOf, rowWords, rowsIn, rhsWord, variablesOf, workspaceLen}
 
 -- the workspace W was written for the rows A. The box is [0, 0] of every variable: with all rows to look at, any box would do.
 pub record Written (n m : ℕ) (A : Rows) (W : List ℕ) : Type 0 where
@@ -27,6 +18,6 @@ pub record Written (n m : ℕ) (A : Rows) (W : List ℕ) : Type 0 where
   pub rowCount : rowsIn W ≡ m
   pub dirty : (i : ℕ) → 4 ≤ i → i < 8 → getD W i 0 ≡ 4_294_967_295
   pub box : (i : ℕ) → 8 ≤ i → i < 264 → getD W i 0 ≡ 32_768
-  pub sides : (r : ℕ) → r < m → (rhsOf (sideWord W r) ≡ at (A .rhs) r) × (sideWord W r % 2 ≡ getD (A .kinds) r 0)
+  pub sides : (r : ℕ) → r < m → (rhsOf (rhsWord W r) ≡ at (A .rhs) r) × (rhsWord W r % 2 ≡ getD (A .kinds) r 0)
   pub columns : (j : ℕ) → j < n → Column n m (A .coefs) (A .kinds) j (riseOf W j) (fallOf W j)
   pub rows : (r : ℕ) → r < m → coefsFrom (rowWords n W r) 0 ≡ rowOf n (A .coefs) r

@@ -1,6 +1,5 @@
 // Prepares a model for many calls: it is checked once and written into a lent workspace of 32-bit numbers, which holds
 // all that the prepared calls read.
-mod columns;
 mod writing;
 
 use crate::writing::write;
@@ -12,8 +11,8 @@ ghost use lib.ListN.{length};
 ghost use Rattle.model.specs.Checks.{modelFault, none};
 ghost use Rattle.model.specs.Model.{modelOf};
 ghost use Rattle.model.specs.Rows.{rowsOf};
-ghost use Rattle.workspace.specs.Layout.{rowsIn, variablesOf, workspaceLen};
-ghost use Rattle.workspace.specs.Prepared.{Prepared};
+ghost use Rattle.prepared_model.specs.Layout.{rowsIn, variablesOf, workspaceLen};
+ghost use Rattle.prepared_model.specs.Prepared.{Prepared};
 
 // Checks the model and writes it into the workspace. 0, or the number of the first check that fails: 3, 5 (a workspace
 // of another length is among the lengths), 6, 7, 23, 8, 9, 16. A call that is refused changes nothing.

@@ -1,11 +1,11 @@
 // A workspace is written, from its head to its rows.
-use crate::columns::write_columns;
+use hearers::write_columns;
+use pack::pack_rhs;
 use pack::pack_rows;
-use pack::pack_sides;
 use workspace::BOX_AT;
 use workspace::OUR_MARK;
+use workspace::RHS_AT;
 use workspace::SET_AT;
-use workspace::SIDES_AT;
 ghost use mathlib.Core.Path.{_≡_};
 ghost use Prim.Native.Nat.{ℕ, _*_, _<_, _≤_};
 ghost use lib.ListN.{getD, length, replicate};
@@ -13,8 +13,8 @@ ghost use lib.IntN.{pos};
 ghost use Rattle.model.specs.Model.{modelOf};
 ghost use Rattle.model.specs.Rows.{rowsOf};
 ghost use Rattle.model.specs.Valid.{ValidModel};
-ghost use Rattle.workspace.specs.Kept.{SameBut};
-ghost use Rattle.workspace.specs.Layout.{ourMark, rowsIn, variablesOf, workspaceLen};
+ghost use Rattle.prepared_model.specs.Layout.{ourMark, rowsIn, variablesOf, workspaceLen};
+ghost use Rattle.prepared_model.specs.SameBut.{SameBut};
 ghost use Rattle.prepare.specs.Written.{Written};
 
 // Writes our mark, n and m.
@@ -54,8 +54,8 @@ pub fn write(n: usize, m: usize, coefs: &[i32], rhs: &[i32], kinds: &[u8], ws: &
 {
     write_head(n, m, ws);
     fill(SET_AT, BOX_AT, 4_294_967_295, ws);
-    fill(BOX_AT, SIDES_AT, 32_768, ws);
-    pack_sides(m, rhs, kinds, ws);
+    fill(BOX_AT, RHS_AT, 32_768, ws);
+    pack_rhs(m, rhs, kinds, ws);
     write_columns(n, m, coefs, kinds, ws);
     pack_rows(n, m, coefs, ws);
 }

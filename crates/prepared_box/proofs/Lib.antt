@@ -1,2 +1,1 @@
-pub mod OursLaws
 pub mod TakenLaws

@@ -11,15 +11,14 @@ use native.Mathlib.Decide.{decLt}
 use native.Mathlib.Omega.{arith}
 use Rattle.model.specs.Box.{at}
 use Rattle.model.specs.Rows.{Rows}
-use Rattle.prepared_row.specs.Heard.{Missed}
-use Rattle.prepared_row.proofs.HeardLaws.{deaf-read, missed-same}
-use Rattle.prepared_row.proofs.VisitLaws.{unheard}
+use Rattle.prepared_model.specs.Layout.{boundOf, boxIn, dirtyOf, rowsIn, variablesOf}
+use Rattle.prepared_model.specs.Prepared.{Prepared}
+use Rattle.prepared_model.proofs.DecodeLaws.{box-at}
+use Rattle.prepared_notes.specs.Heard.{Missed}
+use Rattle.prepared_notes.proofs.HeardLaws.{deaf-read, missed-same, unheard}
 use Rattle.row_set.specs.Bits.{bitAt}
 use Rattle.row_set.specs.Readers.{Calm}
 use Rattle.row_set.proofs.RoomLaws.{calm-kept}
-use Rattle.workspace.specs.Layout.{boundOf, boxIn, dirtyOf, rowsIn, variablesOf}
-use Rattle.workspace.specs.Prepared.{Prepared}
-use Rattle.workspace.proofs.DecodeLaws.{box-at}
 use Rattle.prepared_box.specs.TakenBox.{Copied, NotedKept}
 
 -- numbers that are copied: none, and one more

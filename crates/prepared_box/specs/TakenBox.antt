@@ -1,22 +1,14 @@
 -- The box that a workspace knows becomes a lent one, variable by variable.
 use Prim.Native.Nat.{_<_, _≤_, ℕ}
-use lib.IntN.{_+ℤ_, ℤ}
+use lib.IntN.{ℤ}
 use lib.ListN.{length}
-use lib.Signed.{leZ}
-use mathlib.Core.Bool.{Bool, _&&_}
 use mathlib.Core.List.{List}
 use mathlib.Core.Logic.{_⊎_}
 use mathlib.Core.Path.{_≡_}
-use Rattle.integer.specs.Order.{minZ}
-use Rattle.model.specs.Box.{at, lower, upper}
-use Rattle.model.specs.Limits.{maxBound, maxWidth, minBound}
-use Rattle.prepared_row.specs.Heard.{Missed}
+use Rattle.model.specs.Box.{at}
+use Rattle.prepared_model.specs.Layout.{boxIn}
+use Rattle.prepared_notes.specs.Heard.{Missed}
 use Rattle.row_set.specs.Bits.{bitAt}
-use Rattle.workspace.specs.Layout.{boxIn}
-
--- the bounds of variable j are in range, in order, and no more than 4,096 apart
-abbrev pub plainAt : List ℤ → ℕ → Bool
-plainAt B j = leZ minBound (lower B j) && leZ (lower B j) (upper B j) && leZ (upper B j) (minZ (lower B j +ℤ maxWidth) maxBound)
 
 -- the numbers from place p on and below q are those of `new`, the others as they were
 pub record Copied (p q : ℕ) (new before box : List ℤ) : Type 0 where

@@ -13,11 +13,16 @@ use Rattle.marked_row.proofs.LocalBox.{blank}
 use Rattle.model.specs.Box.{isEmpty}
 use Rattle.model.specs.Rows.{Rows}
 use Rattle.model.proofs.BoxLaws.{empty-is}
+use Rattle.prepared_checks.specs.Checks.{Accepting}
+use Rattle.prepared_model.specs.Layout.{decode, rowsIn, variablesOf}
+use Rattle.prepared_model.specs.Prepared.{Prepared}
+use Rattle.prepared_model.specs.Reasons.{Reasons, endingRow, noRow, reasonsFrom, reasonsOf, reasonsTo}
+use Rattle.prepared_model.specs.SameBut.{SameBut}
+use Rattle.prepared_model.proofs.KeepsLaws.{keeps-box, keeps-none}
+use Rattle.prepared_model.proofs.KeptLaws.{prepared-kept, same-join}
 use Rattle.prepared_propagation.specs.Known.{Known}
-use Rattle.prepared_propagation.specs.Reasons.{Reasons, endingRow, noRow, reasonsFrom, reasonsOf, reasonsTo}
 use Rattle.prepared_propagation.specs.declared.PreparedEnd.{PreparedEnd}
-use Rattle.prepared_propagation.proofs.KeepsLaws.{keeps-box, keeps-none}
-use Rattle.prepared_row.specs.Visit.{Looking}
+use Rattle.prepared_row.specs.Looking.{Looking}
 use Rattle.propagation.specs.Results.{propagationOf}
 use Rattle.propagation.specs.declared.Propagation.{Propagation}
 use Rattle.propagation.specs.declared.Propagation.the-variants as made
@@ -25,12 +30,8 @@ use Rattle.row_set.specs.Readers.{Calm}
 use Rattle.semantics.specs.Perform.{propagated}
 use Rattle.semantics.specs.Propagate.{Propagated, converged, infeasible, isNone, passTo, propagate, propagateFrom}
 use Rattle.semantics.specs.Run.{answersNone, isRefused}
-use Rattle.workspace.specs.Kept.{SameBut}
-use Rattle.workspace.specs.Layout.{decode, rowsIn, variablesOf}
-use Rattle.workspace.specs.Prepared.{Prepared}
-use Rattle.workspace.proofs.KeptLaws.{prepared-kept, same-join}
-use Rattle.prepared_call.specs.Core.{Accepting, Kept, Ran, Running}
-use Rattle.prepared_call.specs.PreparedCall.{Propagates, infeasibleRow, preparedAnswer}
+use Rattle.prepared_call.specs.Core.{Kept, Ran, Running}
+use Rattle.prepared_call.specs.PreparedCall.{PropagateAccepted, infeasibleRow, preparedAnswer}
 use Rattle.prepared_call.specs.declared.PreparedPropagation.the-variants as code
 
 -- ---- the passes
@@ -120,7 +121,7 @@ spent-left e = rw e tt
 -- ---- the empty box
 
 module _ (budget : ℕ) {W : List ℕ} {B : List ℤ} (k : ℕ) (e : isEmpty (variablesOf W) B ≡ true) {R′ : List ℕ} (z : R′ ≡ replicate k noRow) where
-  pub empty-is-none : Propagates budget W B k (code.Infeasible 1 0 noRow) W B R′
+  pub empty-is-none : PropagateAccepted budget W B k (code.Infeasible 1 0 noRow) W B R′
   unfolding preparedAnswer infeasibleRow answersNone isRefused isNone propagate reasonsOf
   empty-is-none = record {
     told = tt;
@@ -168,7 +169,7 @@ module _ (budget : ℕ) {W : List ℕ} {B : List ℤ} (k : ℕ) (e : isEmpty (va
   left-box A q = sym (box-of (p .end)) ∙ box-is A q
 
   pub infeasible-is : {passes moved : ℕ} → p .end ≡ made.Infeasible passes moved
-      → Propagates budget W B k (code.Infeasible passes moved (p .row)) W B′ R′
+      → PropagateAccepted budget W B k (code.Infeasible passes moved (p .row)) W B′ R′
   unfolding preparedAnswer infeasibleRow answersNone isRefused isNone propagationOf
   infeasible-is f = record {
     told = tt;
@@ -202,7 +203,7 @@ module _ (budget : ℕ) {W : List ℕ} {B : List ℤ} (k : ℕ) (e : isEmpty (va
     both-kept : SameBut 4 264 W W′
     both-kept = same-join (omega arith) (omega arith) (w .first) (w .second)
 
-    pub converged-is : {passes moved : ℕ} → p .end ≡ made.Converged passes moved → Propagates budget W B k (code.Converged passes moved) W′ B′ R′
+    pub converged-is : {passes moved : ℕ} → p .end ≡ made.Converged passes moved → PropagateAccepted budget W B k (code.Converged passes moved) W′ B′ R′
     unfolding preparedAnswer infeasibleRow answersNone isRefused isNone propagationOf
     converged-is f = record {
       told = tt;
@@ -214,7 +215,7 @@ module _ (budget : ℕ) {W : List ℕ} {B : List ℤ} (k : ℕ) (e : isEmpty (va
       prepared = still-prepared;
     }
 
-    pub spent-is : {passes moved : ℕ} → p .end ≡ made.BudgetSpent passes moved → Propagates budget W B k (code.BudgetSpent passes moved) W′ B′ R′
+    pub spent-is : {passes moved : ℕ} → p .end ≡ made.BudgetSpent passes moved → PropagateAccepted budget W B k (code.BudgetSpent passes moved) W′ B′ R′
     unfolding preparedAnswer infeasibleRow answersNone isRefused isNone propagationOf
     spent-is f = record {
       told = tt;

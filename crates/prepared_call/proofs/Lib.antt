@@ -1,5 +1,4 @@
 pub mod AnswerLaws
 pub mod CallLaws
-pub mod CheckLaws
 pub mod CoreLaws
 pub mod MixedLaws

@@ -9,21 +9,15 @@ use mathlib.Core.Path.{_≡_}
 use Rattle.model.specs.Box.{NonEmpty}
 use Rattle.model.specs.Rows.{Rows}
 use Rattle.model.specs.Valid.{ValidBox}
-use Rattle.prepared_propagation.specs.Reasons.{reasonsFrom}
+use Rattle.prepared_checks.specs.Checks.{Accepting}
+use Rattle.prepared_model.specs.Layout.{boxIn, dirtyOf, rowsIn, variablesOf}
+use Rattle.prepared_model.specs.Prepared.{Ours, Prepared}
+use Rattle.prepared_model.specs.Reasons.{reasonsFrom}
+use Rattle.prepared_model.specs.SameBut.{SameBut}
 use Rattle.prepared_propagation.specs.declared.PreparedEnd.{PreparedEnd}
-use Rattle.prepared_row.specs.Reasons.{Lent}
 use Rattle.propagation.specs.Results.{propagationOf}
 use Rattle.row_set.specs.Readers.{Calm}
 use Rattle.semantics.specs.Propagate.{isNone, propagateFrom}
-use Rattle.workspace.specs.Kept.{SameBut}
-use Rattle.workspace.specs.Layout.{boxIn, dirtyOf, rowsIn, variablesOf}
-use Rattle.workspace.specs.Prepared.{Ours, Prepared}
-
--- what passed the checks
-pub record Accepting (W : List ℕ) (B : List ℤ) (R : List ℕ) : Type 0 where
-  pub ours : Ours W
-  pub box : ValidBox (variablesOf W) B
-  pub lent : Lent (variablesOf W) R
 
 -- a box that is not empty, and room for a set of rows
 pub record Running (W : List ℕ) (B : List ℤ) (D R : List ℕ) : Type 0 where

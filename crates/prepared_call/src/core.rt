@@ -2,7 +2,7 @@
 // what is kept of them.
 use crate::PreparedPropagation;
 use model::MAX_BOX;
-use prepared_box::taken::take_box;
+use prepared_box::take_box;
 use prepared_propagation::PreparedEnd;
 use prepared_propagation::propagate_prepared;
 use prepared_propagation::reasons::NO_ROW;
@@ -13,8 +13,9 @@ use workspace::keep_box;
 use workspace::keep_set;
 ghost use mathlib.Core.Path.{_≡_};
 ghost use lib.ListN.{length};
-ghost use Rattle.prepared_call.specs.Core.{Accepting, Keeping, Kept, Ran, Running};
-ghost use Rattle.prepared_call.specs.PreparedCall.{Propagates};
+ghost use Rattle.prepared_checks.specs.Checks.{Accepting};
+ghost use Rattle.prepared_call.specs.Core.{Keeping, Kept, Ran, Running};
+ghost use Rattle.prepared_call.specs.PreparedCall.{PropagateAccepted};
 
 // The passes over a box that is not empty, with room for the box that the rows know. The rows still to be looked at are
 // left in `dirty`.
@@ -74,7 +75,7 @@ pub fn propagate_accepted(
 ) -> PreparedPropagation
     requires { ⌜ Accepting (now ws) (now bounds) (now reasons) ⌝ }
     ensures { λ r.
-        ⌜ Propagates budget (now (ws .entry)) (now (bounds .entry)) (length (now (reasons .entry))) r
+        ⌜ PropagateAccepted budget (now (ws .entry)) (now (bounds .entry)) (length (now (reasons .entry))) r
         (now (ws .exit)) (now (bounds .exit)) (now (reasons .exit)) ⌝ }
 {
     no_reasons(reasons);

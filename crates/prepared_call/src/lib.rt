@@ -3,23 +3,23 @@
 // box before the call. Of any workspace: `refused`, and `accepted` as far as it does not ask for a prepared one. Of one
 // that is prepared for the rows A, whichever they are: `defined`, the answer, the counts and the box are those of
 // `perform` on the model with the lent box, and `prepared`, it still is prepared for them.
-mod checks;
 mod core;
 
-use crate::checks::propagate_fault;
 use crate::core::propagate_accepted;
+use prepared_checks::propagate_fault;
 ghost use mathlib.Core.Bool.{true};
 ghost use mathlib.Core.List.{[]};
 ghost use mathlib.Core.Path.{_≡_};
 ghost use lib.ListN.{length};
 ghost use Rattle.model.specs.Rows.{Rows};
 ghost use Rattle.model.specs.State.{stateOf};
+ghost use Rattle.prepared_checks.specs.Checks.{propagateFault, reasonsFit};
+ghost use Rattle.prepared_model.specs.Layout.{rowsIn, variablesOf};
+ghost use Rattle.prepared_model.specs.Prepared.{Prepared};
 ghost use Rattle.reducer.specs.OpenCalls.{performed};
 ghost use Rattle.semantics.specs.Call.{callOf};
 ghost use Rattle.semantics.specs.Perform.{perform, refused};
-ghost use Rattle.workspace.specs.Layout.{rowsIn, variablesOf};
-ghost use Rattle.workspace.specs.Prepared.{Prepared};
-ghost use Rattle.prepared_call.specs.PreparedCall.{Propagates, preparedAnswer, propagateFault, reasonsFit};
+ghost use Rattle.prepared_call.specs.PreparedCall.{PropagateAccepted, preparedAnswer};
 
 // 01's settle: refused N, None, Settled, Spent, with the passes made and the number of bounds moved; None with the row
 // that was infeasible, `NO_ROW` where the lent box was empty.
@@ -46,7 +46,7 @@ pub fn propagate(
         let W = now (ws .entry) in
         let B = now (bounds .entry) in
         ⌜ (propagateFault W B (now (reasons .entry)) budget ≡ 0
-        → Propagates budget W B (length (now (reasons .entry))) r (now (ws .exit)) (now (bounds .exit))
+        → PropagateAccepted budget W B (length (now (reasons .entry))) r (now (ws .exit)) (now (bounds .exit))
         (now (reasons .exit))) ⌝ }
     ensures defined { λ r.
         let W = now (ws .entry) in

@@ -1,4 +1,1 @@
-pub mod HalfLaws
-pub mod MeaningLaws
-pub mod ProbeCheckLaws
-pub mod SideLaws
+pub mod ProbedLaws

@@ -2,30 +2,29 @@
 // a lent table. Only rows are looked at that may move a bound of a side. Of any workspace: `refused` and `accepted`. Of
 // one that is prepared for the rows A, whichever they are: `defined`, the answer, the counts, the box and the table are
 // those of `perform`, `reasons`, which row moved which bound of a side last, and `prepared`, it still is. What the
-// answer means is then that of `reducer::calls::probe` (`promised-ends`), what the reasons mean `probe-reasons-mean`.
-mod checks;
-mod sides;
+// answer means is then that of `probe_call::probe` (`promised-ends`), what the reasons mean `probe-reasons-mean`.
+mod core;
 
-use crate::checks::probe_fault;
-use crate::sides::probe_prepared;
+use crate::core::probe_prepared;
+use prepared_checks::probe_fault;
 use prepared_propagation::reasons::NO_ROW;
+use probe_call::probe_answer;
 use reducer::calls::ProbeAnswer;
-use reducer::calls::probe_answer;
 ghost use mathlib.Core.Bool.{not, true};
 ghost use mathlib.Core.Path.{_≡_};
 ghost use lib.Dec.{T};
 ghost use lib.ListN.{length};
 ghost use Rattle.model.specs.Rows.{Rows};
 ghost use Rattle.model.specs.State.{stateOf};
-ghost use Rattle.prepared_propagation.specs.Keeps.{Keeps};
+ghost use Rattle.prepared_checks.specs.Checks.{probeFault, sidesFit};
+ghost use Rattle.prepared_model.specs.Keeps.{Keeps};
+ghost use Rattle.prepared_model.specs.Layout.{rowsIn, variablesOf};
+ghost use Rattle.prepared_model.specs.Prepared.{Prepared};
+ghost use Rattle.prepared_model.specs.ProbeReasons.{probeReasons};
 ghost use Rattle.reducer.specs.OpenCalls.{performed, probeAnswer};
 ghost use Rattle.semantics.specs.Call.{callOf};
 ghost use Rattle.semantics.specs.Perform.{perform, refused};
 ghost use Rattle.semantics.specs.Run.{isRefused};
-ghost use Rattle.workspace.specs.Layout.{rowsIn, variablesOf};
-ghost use Rattle.workspace.specs.Prepared.{Prepared};
-ghost use Rattle.prepared_probe.specs.Checks.{probeFault, sidesFit};
-ghost use Rattle.prepared_probe.specs.Reasons.{probeReasons};
 
 // The answer of any probe, and of each side the row that was infeasible, `NO_ROW` where none was.
 pub struct PreparedProbe {

@@ -16,9 +16,13 @@ use Rattle.marked_row.proofs.MarkedRowLaws.{left-by, tightened, unmoved}
 use Rattle.model.specs.Box.{NonEmpty, width}
 use Rattle.model.specs.Model.{modelOf}
 use Rattle.model.specs.Rows.{Row, Rows, rowAt}
-use Rattle.prepared_row.specs.Reasons.{Lent, rowReasons}
-use Rattle.prepared_row.specs.Visit.{Looking}
-use Rattle.prepared_row.proofs.ReasonLaws.{blames-still}
+use Rattle.prepared_model.specs.Layout.{decode, fallOf, riseOf}
+use Rattle.prepared_model.specs.Reasons.{endingRow, noRow, reasonsTo}
+use Rattle.prepared_model.specs.RowReasons.{Lent, rowReasons}
+use Rattle.prepared_model.proofs.DecodeLaws.{decode-valid}
+use Rattle.prepared_model.proofs.ReasonsLaws.{ending-is, reasons-ended, reasons-next}
+use Rattle.prepared_model.proofs.RowReasonLaws.{blames-still}
+use Rattle.prepared_row.specs.Looking.{Looking}
 use Rattle.propagation.proofs.PropagationLoops.{PassIs, pass-begins, row-feasible, row-infeasible}
 use Rattle.row.specs.Answers.{propagatedRowOf}
 use Rattle.row.specs.Kinds.{propagateRowOf}
@@ -34,11 +38,7 @@ use Rattle.semantics.specs.Convergence.{LargestBudget}
 use Rattle.semantics.specs.Propagate.{passTo}
 use Rattle.semantics.proofs.Convergence.{width-limit}
 use Rattle.semantics.proofs.PropagateLaws.{moved-at-most}
-use Rattle.workspace.specs.Layout.{decode, fallOf, riseOf}
-use Rattle.workspace.proofs.DecodeLaws.{decode-valid}
 use Rattle.prepared_propagation.specs.Known.{Known, PassMade, PassTold}
-use Rattle.prepared_propagation.specs.Reasons.{endingRow, noRow, reasonsTo}
-use Rattle.prepared_propagation.proofs.ReasonsLaws.{ending-is, reasons-ended, reasons-next}
 
 -- rows 0 to r − 1 of the pass over B came to P, and to the reasons S after R
 pub record PassBlames (n r : ℕ) (A : Rows) (B : List ℤ) (R : List ℕ) (sum : ℕ) (P : List ℤ) (S : List ℕ) : Type 0 where

@@ -12,21 +12,21 @@ use Rattle.integer.proofs.Parts.{zarith, zify}
 use Rattle.model.specs.Box.{width}
 use Rattle.model.specs.Model.{modelOf}
 use Rattle.model.specs.Rows.{Rows}
-use Rattle.prepared_row.specs.Reasons.{Lent}
-use Rattle.prepared_row.specs.Visit.{Looking}
-use Rattle.propagation.proofs.PropagationLoops.{PassIs, pass-converged, pass-infeasible, pass-moved, passes-made}
+use Rattle.prepared_model.specs.Layout.{decode}
+use Rattle.prepared_model.specs.Reasons.{Reasons, noRow, reasonsFrom}
+use Rattle.prepared_model.specs.RowReasons.{Lent}
+use Rattle.prepared_model.proofs.DecodeLaws.{decode-valid}
+use Rattle.prepared_model.proofs.ReasonsLaws.{told-all, told-converged, told-infeasible, told-moved}
+use Rattle.prepared_row.specs.Looking.{Looking}
 use Rattle.propagation.specs.Results.{propagationOf}
 use Rattle.propagation.specs.declared.Propagation.the-variants as code
+use Rattle.propagation.proofs.PropagationLoops.{PassIs, pass-converged, pass-infeasible, pass-moved, passes-made}
 use Rattle.row_set.specs.Readers.{Calm}
 use Rattle.semantics.specs.Convergence.{LargestBudget}
 use Rattle.semantics.specs.Propagate.{passTo, propagateFrom}
 use Rattle.semantics.proofs.Convergence.{width-limit}
-use Rattle.workspace.specs.Layout.{decode}
-use Rattle.workspace.proofs.DecodeLaws.{decode-valid}
 use Rattle.prepared_propagation.specs.Known.{Known, PassLeft, PassMade, PassTold}
-use Rattle.prepared_propagation.specs.Reasons.{Reasons, noRow, reasonsFrom}
 use Rattle.prepared_propagation.specs.declared.pass.PassEnd.{PassEnd}
-use Rattle.prepared_propagation.proofs.ReasonsLaws.{told-all, told-converged, told-infeasible, told-moved}
 
 pub record Passes (n m : ℕ) (W : List ℕ) (budget : ℕ) (B₀ seen₀ : List ℤ) (D₀ R₀ : List ℕ) (B seen : List ℤ) (D R : List ℕ) (made moved : ℕ) : Type 0 where
   pub le : made ≤ budget

@@ -8,11 +8,11 @@ use mathlib.Core.List.{List}
 use mathlib.Core.Path.{_≡_}
 use Rattle.model.specs.Box.{width}
 use Rattle.model.specs.Rows.{Rows}
-use Rattle.prepared_row.specs.Visit.{Looking}
+use Rattle.prepared_model.specs.Layout.{decode, fallOf, riseOf}
+use Rattle.prepared_model.specs.Reasons.{endingRow, reasonsTo}
+use Rattle.prepared_row.specs.Looking.{Looking}
 use Rattle.row_set.specs.Readers.{Calm, Hearers}
 use Rattle.semantics.specs.Propagate.{passTo}
-use Rattle.workspace.specs.Layout.{decode, fallOf, riseOf}
-use Rattle.prepared_propagation.specs.Reasons.{endingRow, reasonsTo}
 use Rattle.prepared_propagation.specs.declared.pass.PassEnd.{PassEnd}
 
 -- its sets are those of the rows that hear, and the rows that are not to be looked at move nothing

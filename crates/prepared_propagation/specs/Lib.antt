@@ -1,4 +1,1 @@
-pub mod Keeps
 pub mod Known
-pub mod Meaning
-pub mod Reasons

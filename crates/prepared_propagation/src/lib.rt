@@ -1,4 +1,4 @@
-// Propagate all rows (01's settle) of a prepared model: the passes are those of `propagation`, but only rows are looked
+// Propagate all rows (01's settle) of a prepared model: the passes are those of `row_passes`, but only rows are looked
 // at that may move a bound.
 pub mod pass;
 pub mod reasons;
@@ -12,14 +12,14 @@ ghost use mathlib.Core.Bool.{not};
 ghost use mathlib.Core.List.{[]};
 ghost use mathlib.Core.Path.{_≡_};
 ghost use lib.Dec.{T};
-ghost use Rattle.prepared_row.specs.Reasons.{Lent};
-ghost use Rattle.prepared_row.specs.Visit.{Looking};
+ghost use Rattle.prepared_model.specs.Layout.{decode};
+ghost use Rattle.prepared_model.specs.Reasons.{reasonsFrom};
+ghost use Rattle.prepared_model.specs.RowReasons.{Lent};
+ghost use Rattle.prepared_row.specs.Looking.{Looking};
 ghost use Rattle.propagation.specs.Results.{propagationOf};
 ghost use Rattle.row_set.specs.Readers.{Calm};
 ghost use Rattle.semantics.specs.Propagate.{isNone, propagateFrom};
-ghost use Rattle.workspace.specs.Layout.{decode};
 ghost use Rattle.prepared_propagation.specs.Known.{Known};
-ghost use Rattle.prepared_propagation.specs.Reasons.{reasonsFrom};
 
 // How the passes ended, and the row that was infeasible, NO_ROW where none was.
 pub struct PreparedEnd {

@@ -1,6 +1,6 @@
 // One pass over the rows of a prepared model. A row that hears of a bound that moved behind it waits for the next pass.
 use crate::reasons::NO_ROW;
-use prepared_row::visit::visit_at;
+use prepared_row::propagate_row_prepared;
 use row::propagation::RowPropagation;
 use row_set::next_row;
 ghost use mathlib.Core.Bool.{false};
@@ -8,9 +8,9 @@ ghost use mathlib.Core.Path.{_≡_};
 ghost use lib.IntN.{pos};
 ghost use lib.Signed.{_≤ℤ_};
 ghost use Rattle.model.specs.Box.{width};
-ghost use Rattle.prepared_row.specs.Reasons.{Lent};
-ghost use Rattle.prepared_row.specs.Visit.{Looking};
-ghost use Rattle.workspace.specs.Layout.{decode};
+ghost use Rattle.prepared_model.specs.Layout.{decode};
+ghost use Rattle.prepared_model.specs.RowReasons.{Lent};
+ghost use Rattle.prepared_row.specs.Looking.{Looking};
 ghost use Rattle.prepared_propagation.specs.Known.{Known, PassLeft, PassTold};
 
 // Whether a row was infeasible, which ended the pass, the number of bounds moved, and that row.
@@ -43,7 +43,7 @@ pub fn one_pass(
     let mut moved: u32 = 0;
     let mut r = next_row(m, dirty, 0);
     while r < m {
-        match visit_at(n, m, ws, r, bounds, seen, dirty, reasons) {
+        match propagate_row_prepared(n, m, ws, r, bounds, seen, dirty, reasons) {
             RowPropagation::Infeasible => {
                 let row = r as u32;
                 return PassEnd {

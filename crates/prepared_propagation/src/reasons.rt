@@ -1,7 +1,7 @@
 // The lent list that tells of each bound the row that moved it last.
 ghost use mathlib.Core.Path.{_≡_};
 ghost use lib.ListN.{length, replicate};
-ghost use Rattle.prepared_propagation.specs.Reasons.{noRow};
+ghost use Rattle.prepared_model.specs.Reasons.{noRow};
 
 // No row did.
 pub const NO_ROW: u32 = 4_294_967_295;

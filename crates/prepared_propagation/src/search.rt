@@ -1,17 +1,17 @@
 // How a propagation of a prepared model ends whose budget's passes are made (02, C-15): a look at the rows that may
 // move a bound, which is no pass and moves nothing.
-use prepared_row::visit::moves_at;
+use prepared_row::row_moves_prepared;
 use propagation::Propagation;
 use row_set::next_row;
 ghost use mathlib.Core.Path.{_≡_};
 ghost use lib.ListN.{length};
 ghost use Rattle.model.specs.Box.{NonEmpty};
-ghost use Rattle.prepared_row.specs.Visit.{Sized};
+ghost use Rattle.prepared_model.specs.Layout.{decode};
+ghost use Rattle.prepared_row.specs.Looking.{Sized};
 ghost use Rattle.propagation.specs.Results.{propagationOf};
 ghost use Rattle.row_set.specs.Readers.{Calm};
 ghost use Rattle.semantics.specs.FixpointTest.{firstMoving};
 ghost use Rattle.semantics.specs.Propagate.{propagateFrom};
-ghost use Rattle.workspace.specs.Layout.{decode};
 
 // The lowest row whose propagation changes the box, m if there is none.
 fn first_moving(n: usize, m: usize, ws: &[u32], bounds: &[i32], dirty: &[u32]) -> usize
@@ -22,7 +22,7 @@ fn first_moving(n: usize, m: usize, ws: &[u32], bounds: &[i32], dirty: &[u32]) -
 {
     let mut r = next_row(m, dirty, 0);
     while r < m {
-        if moves_at(n, m, ws, r, bounds) {
+        if row_moves_prepared(n, m, ws, r, bounds) {
             return r;
         }
         r = next_row(m, dirty, r + 1);

@@ -1,2 +1,1 @@
 pub mod PreparedReplies
-pub mod PreparedSaid

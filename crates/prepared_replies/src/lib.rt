@@ -1,7 +1,5 @@
 // What the calls on a prepared model say in the C interface: the reply to a propagation, with the row that was
-// infeasible in a place of its own, that of any probe, with a row for each side, and the calls that say it (`exports`).
-pub mod exports;
-
+// infeasible in a place of its own, and that of any probe, with a row for each side.
 use call_replies::probe_reply;
 use prepared_call::PreparedPropagation;
 use prepared_probe::PreparedProbe;

@@ -1,3 +1,2 @@
-pub mod HeardLaws
-pub mod ReasonLaws
-pub mod VisitLaws
+pub mod BlameLaws
+pub mod CalmLaws

@@ -1,3 +1,2 @@
-pub mod Heard
-pub mod Reasons
-pub mod Visit
+pub mod Blaming
+pub mod Looking

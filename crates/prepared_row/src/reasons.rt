@@ -2,7 +2,8 @@
 ghost use mathlib.Core.Path.{_≡_};
 ghost use Prim.Native.Nat.{_<_};
 ghost use lib.ListN.{length, set};
-ghost use Rattle.prepared_row.specs.Reasons.{Blaming, blame as blameOf, reasonAt};
+ghost use Rattle.prepared_model.specs.RowReasons.{blame as blameOf, reasonAt};
+ghost use Rattle.prepared_row.specs.Blaming.{Blaming};
 
 // Number i of the boxes.
 fn blame_bound(i: usize, r: u32, old: &[i32], new: &[i32], reasons: &mut [u32])

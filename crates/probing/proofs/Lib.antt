@@ -1,3 +1,1 @@
-pub mod MarkedLaws
-pub mod ImplicationLoops
-pub mod ProbingLoops
+pub mod ProbingLaws

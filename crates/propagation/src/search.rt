@@ -2,7 +2,7 @@
 // would do is found without doing it, so nothing is written and no box is copied.
 use crate::Propagation;
 use matrix_row::row_moves_at;
-use row_marks::marks::next_row;
+use row_marks::next_row;
 ghost use mathlib.Core.Path.{_≡_};
 ghost use Prim.Native.Nat.{_≤_};
 ghost use lib.ListN.{length};

@@ -1,3 +1,5 @@
 pub mod VerdictLaws
+pub mod TellingLaws
+pub mod HeldLaws
 pub mod CallLaws
 pub mod Corners

@@ -1,12 +1,12 @@
 // The program `reduce` (01, "Book"; 02, C-20): a book on standard input, rounds until one changes nothing, or None, and
 // what is left of the model.
-use reduce_book::output::Form;
 use reduce_book::program;
-use rounds::NO_LIMIT;
+use reduction::Form;
+use rounds_call::NO_LIMIT;
 ghost use mathlib.Core.Bool.{true};
 ghost use mathlib.Core.Path.{_≡_};
-ghost use Rattle.reduce_book.specs.Answers.{Printed};
-ghost use Rattle.reduce_book.specs.declared.output.Form.the-variants.{Report};
+ghost use Rattle.reduce_book.specs.Printed.{Printed};
+ghost use Rattle.reduction.specs.declared.Form.the-variants.{Report};
 ghost use Rattle.rounds.specs.NoLimit.{noLimit};
 
 fn main() {

@@ -1,10 +1,10 @@
 // The program `reduce8` (02, C-20): `reduce` with at most 8 rounds, as it was before.
-use reduce_book::output::Form;
 use reduce_book::program;
+use reduction::Form;
 ghost use mathlib.Core.Bool.{true};
 ghost use mathlib.Core.Path.{_≡_};
-ghost use Rattle.reduce_book.specs.Answers.{Printed};
-ghost use Rattle.reduce_book.specs.declared.output.Form.the-variants.{Report};
+ghost use Rattle.reduce_book.specs.Printed.{Printed};
+ghost use Rattle.reduction.specs.declared.Form.the-variants.{Report};
 
 const ROUNDS: u64 = 8;
 

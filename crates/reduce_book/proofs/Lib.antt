@@ -1,4 +1,1 @@
-pub mod ReductionLaws
-pub mod OutputLaws
-pub mod PrintLaws
-pub mod WorkedOutput
+pub mod ProgramLaws

@@ -1,3 +1,1 @@
-pub mod Output
-pub mod Answers
-pub mod Meaning
+pub mod Printed

@@ -4,19 +4,15 @@
 // the input is kept as it came, that the answer is the one that `outputAs` gives, that its text is written into a
 // buffer and that as many bytes as it has are handed to standard output are proved. A read or a write that fails is
 // told on standard error, and then nothing more is printed; the code has no other way to end without its text.
-mod buffers;
-pub mod output;
-mod reduction;
-
 use book::SizesAnswer;
-use buffers::largest_table;
-use buffers::longest_book;
-use buffers::most_bounds;
-use buffers::most_coefs;
-use buffers::most_kinds;
-use buffers::most_rhs;
-use output::Form;
 use reduction::Answer;
+use reduction::Form;
+use reduction::buffers::largest_table;
+use reduction::buffers::longest_book;
+use reduction::buffers::most_bounds;
+use reduction::buffers::most_coefs;
+use reduction::buffers::most_kinds;
+use reduction::buffers::most_rhs;
 use reduction::solve;
 use streams::input::Input;
 use streams::input::read_all;
@@ -30,8 +26,9 @@ ghost use Rattle.model.specs.Limits.{maxRows, maxVariables};
 ghost use Rattle.model.specs.Rows.{rowsOf};
 ghost use Rattle.intake.specs.Checks.{maxBook};
 ghost use Rattle.intake.specs.Intake.{Held};
-ghost use Rattle.reduce_book.specs.Answers.{Printed, Ready, Sized};
-ghost use Rattle.reduce_book.specs.Output.{outputAs as printedText};
+ghost use Rattle.reduction.specs.Answers.{Ready, Sized};
+ghost use Rattle.reduction.specs.Output.{outputAs as printedText};
+ghost use Rattle.reduce_book.specs.Printed.{Printed};
 
 // The whole program, with at most `limit` rounds; `reduce` and `floor` have the limit that is none, `reduce8` has 8.
 // True where the whole text was printed.
@@ -119,7 +116,17 @@ fn reduce_in(
 {
     match solve(n, m, book, bounds, coefs, rhs, kinds, table, limit) {
         Answer::Refused(number) => refused(number, printed),
-        Answer::Infeasible => output::none(printed),
-        Answer::Reduced(made) => output::left(form, n, m, made, bounds, coefs, rhs, table, printed),
+        Answer::Infeasible => printing::none(printed),
+        Answer::Reduced(made) => printing::left(
+            form,
+            n,
+            m,
+            made,
+            bounds,
+            coefs,
+            rhs,
+            table,
+            printed,
+        ),
     }
 }

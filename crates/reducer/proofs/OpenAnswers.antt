@@ -2,7 +2,7 @@
 use mathlib.Core.Path.{_≡_, ap, refl}
 use Rattle.semantics.specs.Probe as semantic
 use Rattle.reducer.specs.OpenCalls.{probeAnswer, propagateAnswer, removeAnswer, restVerdict, rowAnswer, tightenAnswer}
-use Rattle.probing.specs.Results.{reportOf}
+use Rattle.two_sides.specs.Results.{reportOf}
 use Rattle.reducer.specs.declared.calls.ProbeAnswer.{ProbeAnswer}
 use Rattle.reducer.specs.declared.calls.ProbeAnswer.the-variants as probes
 use Rattle.reducer.specs.declared.calls.PropagateAnswer.{PropagateAnswer}
@@ -15,7 +15,7 @@ use Rattle.reducer.specs.declared.calls.RestAnswer.{RestAnswer}
 use Rattle.reducer.specs.declared.calls.RestAnswer.the-variants as rests
 use Rattle.reducer.specs.declared.calls.TightenAnswer.{TightenAnswer}
 use Rattle.reducer.specs.declared.calls.TightenAnswer.the-variants as tightens
-use Rattle.probing.specs.declared.sides.Side.{Side}
+use Rattle.two_sides.specs.declared.Side.{Side}
 
 rowAnswer-injective : (r s : PropagateRowAnswer) → rowAnswer r ≡ rowAnswer s → r ≡ s
 unfolding rowAnswer

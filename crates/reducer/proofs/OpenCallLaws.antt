@@ -12,7 +12,7 @@ use Rattle.model.specs.Rows.{Rows, rowAt, setRow}
 use Rattle.model.specs.Valid.{ValidModel}
 use Rattle.model.proofs.CheckLaws.{fault-none}
 use Rattle.row.specs.Outcome.{Outcome}
-use Rattle.row_change.specs.KindChanges.{ChangedRow}
+use Rattle.row.specs.KindChanges.{ChangedRow}
 use Rattle.row.specs.Kinds.{propagateRowOf}
 use Rattle.row.specs.Propagation.{PropagatedRow}
 use Rattle.semantics.specs.CallChecks.{callFault}
@@ -32,9 +32,9 @@ use Rattle.semantics.proofs.CallLaws.{perform-accepted}
 use Rattle.semantics.proofs.Demand2.{demand-2}
 use Rattle.semantics.proofs.Preserved.{Preserves, step-preserves}
 use Rattle.semantics.proofs.RestAnswer.{rest-answer, rest-probe-moves}
-use Rattle.probing.specs.Results.{probingOf}
-use Rattle.probing.specs.declared.sides.Probing.{Probing}
-use Rattle.probing.specs.declared.sides.Probing.the-variants as probing
+use Rattle.two_sides.specs.Results.{probingOf}
+use Rattle.two_sides.specs.declared.Probing.{Probing}
+use Rattle.two_sides.specs.declared.Probing.the-variants as probing
 use Rattle.reducer.specs.OpenCalls.{Ends, Means, NoMeans, RestVerdict, performed, probingAnswer, refusedRest, rest, tested}
 
 -- ---- what a call performs

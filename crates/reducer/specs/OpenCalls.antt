@@ -20,8 +20,8 @@ use Rattle.semantics.specs.Propagate as ended
 use Rattle.semantics.specs.RestTest.{Rest, atRest, byRow, byVariable, restFault, restOf}
 use Rattle.semantics.specs.Run.{answersNone}
 use Rattle.model.specs.State.{State}
-use Rattle.probing.specs.Results.{probingOf, reportOf}
-use Rattle.probing.specs.declared.sides.Probing.{Probing}
+use Rattle.two_sides.specs.Results.{probingOf, reportOf}
+use Rattle.two_sides.specs.declared.Probing.{Probing}
 use Rattle.reducer.specs.declared.calls.PropagateRowAnswer.{PropagateRowAnswer}
 use Rattle.reducer.specs.declared.calls.PropagateRowAnswer.the-variants as row
 use Rattle.reducer.specs.declared.calls.PropagateAnswer.{PropagateAnswer}

@@ -5,21 +5,18 @@
 // for the points; `ending`: that the call ended within its budget. Every call is refused by the model's checks first,
 // 3, 5, 6, 7, 23, 8, 9 and 16 (`model_fault`), and then by those that its own comment names.
 use matrix_row::propagate_row_at;
-use open_checks::probe_fault;
 use open_checks::propagation_fault;
 use open_checks::row_call_fault;
-use probing::sides::Probing;
-use probing::sides::Side;
 use propagation::Propagation;
 use row::propagation::RowPropagation;
+use two_sides::Side;
 ghost use mathlib.Core.List.{[]};
 ghost use mathlib.Core.Path.{_≡_};
 ghost use Rattle.semantics.specs.Perform.{perform};
 ghost use Rattle.semantics.specs.Call.{callOf};
 ghost use Rattle.model.specs.Rows.{rowsOf};
 ghost use Rattle.model.specs.State.{stateOf};
-ghost use Rattle.reducer.specs.OpenCalls.{Ends, Means, performed, probeAnswer, probingAnswer};
-ghost use Rattle.reducer.specs.OpenCalls.{propagateAnswer, rowAnswer};
+ghost use Rattle.reducer.specs.OpenCalls.{Ends, Means, performed, propagateAnswer, rowAnswer};
 
 // 01's visit: refused N, None, Narrowed with the number of bounds moved, Same.
 pub enum PropagateRowAnswer {
@@ -133,70 +130,9 @@ pub fn propagate(
     if fault != 0 {
         return PropagateAnswer::Refused(fault);
     }
-    match propagation::propagate(n, m, bounds, coefs, rhs, kinds, budget) {
+    match row_passes::propagate(n, m, bounds, coefs, rhs, kinds, budget) {
         Propagation::Infeasible(passes, moved) => PropagateAnswer::Infeasible(passes, moved),
         Propagation::Converged(passes, moved) => PropagateAnswer::Converged(passes, moved),
         Propagation::BudgetSpent(passes, moved) => PropagateAnswer::BudgetSpent(passes, moved),
     }
-}
-
-// What a probing says, as an answer.
-pub fn probe_answer(p: Probing) -> ProbeAnswer
-    ensures { λ r. ⌜ probeAnswer r ≡ probingAnswer p ⌝ }
-{
-    match p {
-        Probing::Infeasible(side0, side1) => ProbeAnswer::Infeasible(side0, side1),
-        Probing::Fixed(value, side0, side1) => ProbeAnswer::Fixed(value, side0, side1),
-        Probing::BothFeasible(added, side0, side1) => ProbeAnswer::BothFeasible(
-            added,
-            side0,
-            side1,
-        ),
-    }
-}
-
-// Probes the free binary variable `variable`, each side with `budget` passes (01's probe). Refused by 10, 13 to
-// 15.
-pub fn probe(
-    n: usize,
-    m: usize,
-    bounds: &mut [i32],
-    coefs: &[i32],
-    rhs: &[i32],
-    kinds: &[u8],
-    table: &mut [u8],
-    variable: u32,
-    budget: u32,
-) -> ProbeAnswer
-    ensures defined { λ r.
-        let A = rowsOf (now (coefs .entry)) (now (rhs .entry)) (now (kinds .entry)) in
-        let s = stateOf n m (now (bounds .entry)) A (now (table .entry)) in
-        let r' = stateOf n m (now (bounds .exit)) A (now (table .exit)) in
-        ⌜ performed (probeAnswer r) r' ≡ perform s (callOf s 3 0 variable budget) ⌝ }
-    ensures meaning { λ r.
-        let A = rowsOf (now (coefs .entry)) (now (rhs .entry)) (now (kinds .entry)) in
-        let s = stateOf n m (now (bounds .entry)) A (now (table .entry)) in
-        let r' = stateOf n m (now (bounds .exit)) A (now (table .exit)) in
-        ⌜ Means s r' (probeAnswer r) ⌝ }
-    ensures ending { λ r.
-        let A = rowsOf (now (coefs .entry)) (now (rhs .entry)) (now (kinds .entry)) in
-        let s = stateOf n m (now (bounds .entry)) A (now (table .entry)) in
-        let r' = stateOf n m (now (bounds .exit)) A (now (table .exit)) in
-        ⌜ Ends (callOf s 3 0 variable budget) s r' (probeAnswer r) ⌝ }
-{
-    let fault = probe_fault(n, m, bounds, coefs, rhs, kinds, table, variable, budget);
-    if fault != 0 {
-        return ProbeAnswer::Refused(fault);
-    }
-    probe_answer(probing::sides::probe(
-        n,
-        m,
-        bounds,
-        coefs,
-        rhs,
-        kinds,
-        table,
-        variable as usize,
-        budget,
-    ))
 }

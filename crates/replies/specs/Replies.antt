@@ -7,7 +7,7 @@ use Rattle.book.specs.Answers as books
 use Rattle.model.specs.Checks.{Check, first, must}
 use Rattle.plan.specs.Answers as plans
 use Rattle.plan.specs.Lengths.{Lengths}
-use Rattle.probing.specs.Results.{reportOf}
+use Rattle.two_sides.specs.Results.{reportOf}
 use Rattle.reducer.specs.OpenCalls.{RestVerdict, refusedRest, tested}
 use Rattle.rounds.specs.Rounds as rounds
 use Rattle.row.specs.Outcome.{Outcome, changed, infeasible, unchanged}

@@ -1,5 +1,5 @@
 // What a call says, and how it is written into the answer's places.
-use probing::sides::Side;
+use two_sides::Side;
 ghost use mathlib.Core.Path.{_≡_};
 ghost use Prim.Native.Nat.{_+_, _<_};
 ghost use lib.ListN.{length, replicate, set};

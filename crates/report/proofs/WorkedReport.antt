@@ -30,6 +30,11 @@ example : report 2 1 2 (pos 0 ∷ pos 1 ∷ pos 0 ∷ pos 1 ∷ []) (pos 1 ∷ p
 unfolding table report reducedLine variableAt variableLine rowAt rowLine rowOf implicationAt implicationLine byteLine isZeroRow all eqZ texts field fields signed decimal digits
 example = refl
 
+-- r 0 4 3 2: the right side stands before the coefficients
+row : rowLine 0 (pos 4) (pos 3 ∷ pos 2 ∷ []) ≡ 114 ∷ 32 ∷ 48 ∷ 32 ∷ 52 ∷ 32 ∷ 51 ∷ 32 ∷ 50 ∷ 10 ∷ []
+unfolding rowLine field fields texts signed decimal digits
+row = refl
+
 -- −1000000, and 0
 minus : signed (negsuc 999_999) ++ decimal 0 ≡ 45 ∷ 49 ∷ 48 ∷ 48 ∷ 48 ∷ 48 ∷ 48 ∷ 48 ∷ 48 ∷ []
 unfolding signed decimal digits

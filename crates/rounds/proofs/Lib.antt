@@ -1,3 +1,6 @@
+pub mod RoundLaws
+pub mod SpentLaws
+pub mod RoundRestLaws
 pub mod NoLimit
 pub mod RestLaws
 pub mod RoundsLaws

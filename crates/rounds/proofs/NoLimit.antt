@@ -17,7 +17,7 @@ use Rattle.model.specs.State.{State}
 use Rattle.semantics.proofs.Accepted.{accepted-valid}
 use Rattle.semantics.proofs.Measure.{call-lowers, measure-limit, run-never}
 use Rattle.semantics.specs.Unmoved.{anySpent}
-use Rattle.round.specs.Round.{anyChange, isChange, round}
+use Rattle.rounds.specs.Round.{anyChange, isChange, round}
 use Rattle.rounds.specs.NoLimit.{EndsWithin, NeverAtLimit, NoLimit, RoundsEnd, RoundsGoOn, RoundsLower, WithoutLimit, allRounds, noLimit, roundsOn}
 use Rattle.rounds.specs.Rounds.{Rounds, RoundsAnswer, RoundsEnding, RoundsRun, after, atLimit, ended, infeasible, nothingChanged, refusedRounds, roundsFault, roundsFrom, runRounds}
 

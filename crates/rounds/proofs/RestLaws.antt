@@ -1,8 +1,8 @@
 -- Rounds whose last one changed nothing, without a Spent side in it, end at rest: that of the last round, by induction over the rounds.
 use Prim.Native.Nat.{suc, zero, ℕ}
-use lib.Dec.{T, eqb, eqb→eq}
+use lib.Dec.{eqb, eqb→eq}
 use mathlib.Core.Bool.{Bool, cond, false, true}
-use mathlib.Core.Path.{_≡_, ap, refl, subst, sym}
+use mathlib.Core.Path.{_≡_, refl, subst, sym}
 use Rattle.integer.proofs.Tests.{cond-ind}
 use Rattle.model.specs.Box.{isEmpty}
 use Rattle.model.specs.State.{State}
@@ -12,10 +12,10 @@ use Rattle.semantics.specs.Run.{run}
 use Rattle.semantics.specs.Unmoved.{anySpent}
 use Rattle.semantics.proofs.Accepted.{accepted-valid}
 use Rattle.semantics.proofs.Preserved.{run-preserves}
-use Rattle.round.specs.Rest.{RoundRests}
-use Rattle.round.specs.Round.{anyChange, round}
-use Rattle.round.proofs.RestLaws.{round-rests}
-use Rattle.round.proofs.RoundLaws.{run-append}
+use Rattle.rounds.specs.RoundRest.{RoundRests}
+use Rattle.rounds.specs.Round.{anyChange, round}
+use Rattle.rounds.proofs.RoundRestLaws.{round-rests}
+use Rattle.rounds.proofs.RoundLaws.{run-append}
 use Rattle.rounds.specs.Rest.{EndsAtRest}
 use Rattle.rounds.specs.Rounds.{Rounds, RoundsAnswer, RoundsEnding, RoundsRun, after, atLimit, ended, infeasible, nothingChanged, refusedRounds, roundsFault, roundsFrom, runRounds}
 

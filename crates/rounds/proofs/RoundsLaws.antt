@@ -1,4 +1,5 @@
--- What `rounds::run` needs of the definitions: the rounds that are still to be made, and what all of them mean. Assumes nothing.
+-- What `rounds_loop::make_rounds` and `rounds_call::run` need of the definitions: the rounds that are still to be made, and what all of
+-- them mean. Assumes nothing.
 use Prim.Native.Nat.{_*_, _+_, _-_, _<_, _≤_, suc, zero, ℕ}
 use lib.Dec.{T, eqb, eqb→eq}
 use borrow.Author.Tests.{ne-eqb}
@@ -20,12 +21,12 @@ use Rattle.semantics.proofs.Accepted.{accepted-valid}
 use Rattle.semantics.proofs.Demand2.{no-point}
 use Rattle.semantics.proofs.ImplicationLaws.{zeros-hold}
 use Rattle.semantics.proofs.Preserved.{run-preserves}
-use Rattle.round.specs.Round.{anyChange, round}
+use Rattle.rounds.specs.Round.{anyChange, round}
 use Rattle.semantics.specs.Unmoved.{anySpent}
 use Rattle.rounds.specs.NoLimit.{NeverAtLimit, NotReached}
 use Rattle.rounds.specs.Rest.{EndsAtRest}
 use Rattle.rounds.specs.Rounds.{Rounds, RoundsAnswer, RoundsEnding, RoundsRun, SamePoints, after, atLimit, ended, infeasible, nothingChanged, refusedRounds, roundsFault, roundsFrom, runRounds}
-use Rattle.round.proofs.RoundLaws.{Leads, leads-valid, run-append}
+use Rattle.rounds.proofs.RoundLaws.{Leads, leads-valid, run-append}
 use Rattle.rounds.proofs.NoLimit.{never-at-limit}
 use Rattle.rounds.proofs.RestLaws.{rounds-rest}
 
@@ -174,10 +175,15 @@ module _ (limit : ℕ) (s : State) where
   unfolding runRounds run
   refuses e h = let z = ne-eqb (roundsFault s) 0 (λ q. h (e ∙ q)) in answers (rw (z, e) refl) (rw z refl)
 
-  pub finished : {t : State} {e : RoundsEnding} {k : ℕ} {b : Bool} → roundsFault s ≡ 0 → Finishes s (roundsFrom limit 0 false s) t (halt e k b)
-      → Answers (ended e k b) t
-  unfolding runRounds run halt
-  finished {b = b} z f =
+  -- rounds that end so, and what they leave
+  pub ends-so : {t : State} {e : RoundsEnding} {k : ℕ} {b : Bool} → Finishes s (roundsFrom limit 0 false s) t (halt e k b)
+      → let r = roundsFrom limit 0 false s in (ended e k b ≡ ended (r .ending) (r .rounds) (r .spent)) × (t ≡ run s (r .calls))
+  unfolding run halt
+  ends-so {b = b} f =
       let r = roundsFrom limit 0 false s in
-      answers (rw z (ap₂ (λ (x : RoundsEnding) (y : ℕ). ended x y b) (f .ending) (f .rounds) ∙ ap (ended (r .ending) (r .rounds)) (f .spent)))
-      (rw z (f .left))
+      (ap₂ (λ (x : RoundsEnding) (y : ℕ). ended x y b) (f .ending) (f .rounds) ∙ ap (ended (r .ending) (r .rounds)) (f .spent), f .left)
+
+  pub finished : {a : RoundsAnswer} {t : State} → roundsFault s ≡ 0
+      → let r = roundsFrom limit 0 false s in a ≡ ended (r .ending) (r .rounds) (r .spent) → t ≡ run s (r .calls) → Answers a t
+  unfolding runRounds
+  finished z e f = answers (rw z e) (rw z f)

@@ -8,7 +8,7 @@ use Rattle.semantics.specs.Measure.{maxMeasure, measure}
 use Rattle.semantics.specs.Run.{run}
 use Rattle.semantics.specs.Unmoved.{anySpent}
 use Rattle.model.specs.State.{State}
-use Rattle.round.specs.Round.{anyChange, round}
+use Rattle.rounds.specs.Round.{anyChange, round}
 use Rattle.rounds.specs.Rounds.{Rounds, RoundsAnswer, RoundsRun, after, atLimit, ended, infeasible, nothingChanged, roundsFrom, runRounds}
 
 -- rounds with a limit that is never reached (`rounds-end`), where `made` are made, and `last` says whether a side was Spent in the last

@@ -1,4 +1,4 @@
--- The rounds of `reduce` (01, "Book"): what a round is stands in `round/specs/Round`; "It ends after a round that changed nothing,
+-- The rounds of `reduce` (01, "Book"): what a round is stands in `Round` beside it; "It ends after a round that changed nothing,
 -- after 8 rounds, or at None."
 use Prim.Native.Nat.{_*_, suc, zero, ℕ}
 use lib.Dec.{eqb}
@@ -15,7 +15,7 @@ use Rattle.semantics.specs.Run.{run}
 use Rattle.semantics.specs.Unmoved.{anySpent}
 use Rattle.semantics.specs.Call.{Call}
 use Rattle.model.specs.State.{State}
-use Rattle.round.specs.Round.{anyChange, round}
+use Rattle.rounds.specs.Round.{anyChange, round}
 
 -- how they end: at None, after a round that changed nothing, at the limit
 pub data RoundsEnding : Type 0 where

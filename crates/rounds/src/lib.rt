@@ -1,17 +1,5 @@
-// The rounds of `reduce`: rounds are made until one changes nothing. The model and the table are checked once; each
-// call leaves them valid.
-use round::round;
-ghost use mathlib.Core.Path.{_≡_};
-ghost use Rattle.semantics.specs.Run.{run as ran};
-ghost use Rattle.model.specs.Rows.{rowsOf};
-ghost use Rattle.model.specs.State.{stateOf};
-ghost use Rattle.rounds.specs.Answers.{roundsAnswer};
-ghost use Rattle.rounds.specs.NoLimit.{NotReached};
-ghost use Rattle.rounds.specs.Rest.{EndsAtRest};
-ghost use Rattle.rounds.specs.Rounds.{SamePoints, runRounds};
-
-// The limit that is none: it is never reached, since every model's rounds end below it (`unreached`).
-pub const NO_LIMIT: u64 = 18_446_744_073_709_551_615;
+// One round of `reduce` and its rounds (01, "Book"; 02, C-20 and C-24), by definition: why they end, and what they
+// promise. No code stands here: crate `round` makes one round, `rounds_call` all of them.
 
 // How the rounds ended, with the number of rounds made and whether the budget of a probe's side was spent in the last
 // of them: refused N; at None; after a round that changed nothing; at the limit.
@@ -20,59 +8,4 @@ pub enum RoundsAnswer {
     Infeasible(u64, bool),
     NothingChanged(u64, bool),
     AtLimit(u64, bool),
-}
-
-// Makes rounds until one changes nothing, the box is empty or `limit` rounds are made. Refused by the model's
-// checks and 10; the table is kept and extended. Where the last round changed nothing and no side in it was spent, the
-// model is at rest (`rest`).
-pub fn run(
-    n: usize,
-    m: usize,
-    bounds: &mut [i32],
-    coefs: &mut [i32],
-    rhs: &mut [i32],
-    kinds: &mut [u8],
-    table: &mut [u8],
-    limit: u64,
-) -> RoundsAnswer
-    ensures answer { λ r.
-        let A = rowsOf (now (coefs .entry)) (now (rhs .entry)) (now (kinds .entry)) in
-        let s = stateOf n m (now (bounds .entry)) A (now (table .entry)) in
-        ⌜ roundsAnswer r ≡ runRounds limit s .answer ⌝ }
-    ensures left { λ r.
-        let A = rowsOf (now (coefs .entry)) (now (rhs .entry)) (now (kinds .entry)) in
-        let A' = rowsOf (now (coefs .exit)) (now (rhs .exit)) (now (kinds .exit)) in
-        let s = stateOf n m (now (bounds .entry)) A (now (table .entry)) in
-        let r' = stateOf n m (now (bounds .exit)) A' (now (table .exit)) in
-        ⌜ r' ≡ ran s (runRounds limit s .calls) ⌝ }
-    ensures meaning { λ r.
-        let A = rowsOf (now (coefs .entry)) (now (rhs .entry)) (now (kinds .entry)) in
-        let A' = rowsOf (now (coefs .exit)) (now (rhs .exit)) (now (kinds .exit)) in
-        let s = stateOf n m (now (bounds .entry)) A (now (table .entry)) in
-        let r' = stateOf n m (now (bounds .exit)) A' (now (table .exit)) in
-        ⌜ SamePoints s r' (roundsAnswer r) ⌝ }
-    ensures unreached { λ r. ⌜ NotReached limit (roundsAnswer r) ⌝ }
-    ensures rest { λ r.
-        let A' = rowsOf (now (coefs .exit)) (now (rhs .exit)) (now (kinds .exit)) in
-        let r' = stateOf n m (now (bounds .exit)) A' (now (table .exit)) in
-        ⌜ EndsAtRest r' (roundsAnswer r) ⌝ }
-{
-    let fault = model_checks::model_table_fault(n, m, bounds, coefs, rhs, kinds, table, true);
-    if fault != 0 {
-        return RoundsAnswer::Refused(fault);
-    }
-    let mut made: u64 = 0;
-    let mut spent = false;
-    while made < limit {
-        made += 1;
-        let last = round(n, m, bounds, coefs, rhs, kinds, table);
-        spent = last.spent;
-        if boxes::is_empty(bounds) {
-            return RoundsAnswer::Infeasible(made, spent);
-        }
-        if !last.changed {
-            return RoundsAnswer::NothingChanged(made, spent);
-        }
-    }
-    RoundsAnswer::AtLimit(made, spent)
 }

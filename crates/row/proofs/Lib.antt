@@ -14,3 +14,9 @@ pub mod KindBooks
 pub mod ReachLaws
 pub mod KindMoves
 pub mod RowLoops
+pub mod Replacement
+pub mod TighteningLaws
+pub mod RedundancyLaws
+pub mod KindChangeLaws
+pub mod KindChangeBooks
+pub mod WorkedBooks

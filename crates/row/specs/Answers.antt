@@ -1,13 +1,16 @@
--- What the enum that the code returns stands for among 01's answers. The reading is injective: no answer hides another
--- (`propagatedRowOf-injective`).
+-- What the enums that the code returns stand for among 01's answers. Each is injective: no answer hides another (`answers-injective`).
 use Prim.Native.Nat.{_+_, _<_, _^_, ℕ}
 use lib.IntN.{ℤ}
 use mathlib.Core.List.{List}
 use mathlib.Core.Path.{_≡_}
-use Rattle.row.specs.Outcome.{changed, infeasible, unchanged}
+use Rattle.row.specs.Outcome.{Outcome, changed, infeasible, unchanged}
 use Rattle.row.specs.Propagation.{PropagatedRow}
 use Rattle.row.specs.declared.propagation.RowPropagation.{RowPropagation}
 use Rattle.row.specs.declared.propagation.RowPropagation.the-variants as propagation
+use Rattle.row.specs.declared.tightening.CoefficientTightening.{CoefficientTightening}
+use Rattle.row.specs.declared.tightening.CoefficientTightening.the-variants as tightening
+use Rattle.row.specs.declared.redundancy.RowRemoval.{RowRemoval}
+use Rattle.row.specs.declared.redundancy.RowRemoval.the-variants as removal
 
 -- visit: None, Narrowed with the number of bounds that moved, Same; and the box that is left
 unfoldable pub propagatedRowOf : RowPropagation → List ℤ → PropagatedRow
@@ -26,3 +29,15 @@ bothForms (propagation.Tightened k) propagation.Infeasible = propagation.Infeasi
 bothForms (propagation.Tightened k) (propagation.Tightened i) = propagation.Tightened (k + i)
 bothForms (propagation.Tightened k) propagation.Unchanged = propagation.Tightened k
 bothForms propagation.Unchanged s = s
+
+-- sharpen: None, Sharpened, Same
+unfoldable pub tighteningOutcome : CoefficientTightening → Outcome
+tighteningOutcome tightening.Infeasible = infeasible
+tighteningOutcome tightening.Tightened = changed
+tighteningOutcome tightening.Unchanged = unchanged
+
+-- drop: None, Dropped, Same
+unfoldable pub removalOutcome : RowRemoval → Outcome
+removalOutcome removal.Infeasible = infeasible
+removalOutcome removal.Removed = changed
+removalOutcome removal.Unchanged = unchanged

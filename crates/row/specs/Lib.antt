@@ -2,6 +2,10 @@ pub mod Outcome
 pub mod Activity
 pub mod Moved
 pub mod Propagation
+pub mod Tightening
+pub mod Redundancy
 pub mod Kinds
+pub mod KindChanges
 pub mod ValidRow
 pub mod Answers
+pub mod WorkedBooks

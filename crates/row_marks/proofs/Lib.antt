@@ -1,2 +1,1 @@
-pub mod IndexLoops
 pub mod MarkLaws

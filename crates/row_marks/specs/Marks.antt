@@ -13,7 +13,7 @@ use Rattle.model.specs.Valid.{ValidModel}
 use Rattle.model.specs.Model.{modelOf}
 use Rattle.row.specs.Outcome.{unchanged}
 use Rattle.row.specs.Kinds.{propagateRowOf}
-use Rattle.row_marks.specs.Index.{ColumnSigns, Index, RowSteps, signOf}
+use Rattle.row_index.specs.Index.{ColumnSigns, Index, RowSteps, signOf}
 
 -- the invariant; of the empty box it says nothing
 pub record Clean (n m : ℕ) (A : Rows) (B : List ℤ) (marks : List ℕ) : Type 0 where

@@ -1,4 +1,3 @@
 pub mod Clauses
 pub mod PartLaws
 pub mod ViewLaws
-pub mod RowInLaws

@@ -17,11 +17,11 @@ use Rattle.model.specs.State.{State, withBox, withRow}
 use Rattle.model.specs.Valid.{ValidModel, ValidTable}
 use Rattle.model.proofs.BoxLaws.{free-lower, free-upper, sameList-refl, sameList→eq}
 use Rattle.model.proofs.RowsLaws.{length-rowOf, setRow-row, setRow-same}
-use Rattle.row_change.specs.KindChanges.{ChangedRow, removeRowOf, tightenRowOf}
+use Rattle.row.specs.KindChanges.{ChangedRow, removeRowOf, tightenRowOf}
 use Rattle.row.specs.Kinds.{propagateRowOf}
 use Rattle.row.specs.Outcome.{isChanged, isInfeasible}
 use Rattle.row.proofs.ImpliedBoxLaws.{valid-nonEmpty}
-use Rattle.row_change.proofs.KindChangeLaws.{remove-kinded-changed, remove-kinded-replaces, remove-kinded-unchanged, tighten-kinded-changed, tighten-kinded-length, tighten-kinded-unchanged}
+use Rattle.row.proofs.KindChangeLaws.{remove-kinded-changed, remove-kinded-replaces, remove-kinded-unchanged, tighten-kinded-changed, tighten-kinded-length, tighten-kinded-unchanged}
 use Rattle.row.proofs.KindLaws.{kinded-changed, kinded-feasible, kinded-unchanged}
 use Rattle.semantics.specs.Call.{Call, Kind, hasRow, hasTable, hasVariable, kindOf, probing, propagation, removal, rowPropagation, tightening}
 use Rattle.semantics.specs.CallChecks.{callFault}

@@ -16,7 +16,7 @@ use Rattle.model.proofs.BoxLaws.{isEmpty-test, not-in-empty}
 use Rattle.row.specs.Kinds.{propagateRowOf}
 use Rattle.row.specs.Outcome.{Outcome, changed, infeasible as infeasibleRow, isChanged, isInfeasible, isUnchanged, unchanged}
 use Rattle.row.proofs.ImpliedBoxLaws.{valid-nonEmpty}
-use Rattle.row_change.proofs.KindChangeLaws.{remove-kinded-infeasible, remove-kinded-unchanged, tighten-kinded-infeasible, tighten-kinded-unchanged}
+use Rattle.row.proofs.KindChangeLaws.{remove-kinded-infeasible, remove-kinded-unchanged, tighten-kinded-infeasible, tighten-kinded-unchanged}
 use Rattle.row.proofs.KindLaws.{kinded-feasible, kinded-infeasible-moved, kinded-moved}
 use Rattle.row.proofs.KindMovedLaws.{kinded-moved-le, kinded-moved-some, kinded-still-moved}
 use Rattle.row.proofs.PointBox.{boxAt, in→Inside, nonEmpty-at}

@@ -16,7 +16,7 @@ use Rattle.integer.specs.Order.{eqZ}
 use Rattle.integer.proofs.Parts.{one-part-zero, sub-parts, zarith, zify}
 use Rattle.integer.proofs.RangeLaws.{abs-parts}
 use Rattle.integer.proofs.Tests.{T→true, and-i, and-l, and-r, cond-ind, decide, eqZ→eq, eq→eqZ, eqb-test}
-use Rattle.model.specs.Box.{Inside, NonEmpty, at, emptyBox, isEmpty, sameList}
+use Rattle.model.specs.Box.{Inside, NonEmpty, at, emptyBox, sameList}
 use Rattle.model.specs.Limits.{maxCoef, minCoef}
 use Rattle.model.specs.Model.{Model}
 use Rattle.model.specs.Rows.{Row, Rows, isEquality, rowAt, rowsOf, setRow}
@@ -25,14 +25,13 @@ use Rattle.model.specs.Valid.{Between, ValidBox, ValidModel, ValidTable}
 use Rattle.model.proofs.BoxLaws.{not-in-empty, sameList-refl, sameList→eq}
 use Rattle.model.proofs.RowsLaws.{length-rowOf, setRow-other, setRow-row}
 use Rattle.row.specs.Activity.{maxActivity}
-use Rattle.row.specs.Kinds.{propagateRowOf}
 use Rattle.row.proofs.Width.{width-mono, width-same}
-use Rattle.row_change.specs.KindChanges.{removeRowOf, tightenRowOf}
-use Rattle.row_change.specs.Redundancy.{removeRedundantRow, zeroRow}
-use Rattle.row_change.specs.Tightening.{tightenCoefficient}
-use Rattle.row_change.proofs.KindChangeLaws.{remove-kinded-ind, remove-kinded-replaces, tighten-kinded-ind, tighten-kinded-length}
-use Rattle.row_change.proofs.RedundancyLaws.{at-zeroRow, remove-redundant-row-ind}
-use Rattle.row_change.proofs.TighteningLaws.{tighten-coefficient-ind}
+use Rattle.row.specs.KindChanges.{removeRowOf, tightenRowOf}
+use Rattle.row.specs.Redundancy.{removeRedundantRow, zeroRow}
+use Rattle.row.specs.Tightening.{tightenCoefficient}
+use Rattle.row.proofs.KindChangeLaws.{remove-kinded-ind, remove-kinded-replaces, tighten-kinded-ind, tighten-kinded-length}
+use Rattle.row.proofs.RedundancyLaws.{at-zeroRow, remove-redundant-row-ind}
+use Rattle.row.proofs.TighteningLaws.{tighten-coefficient-ind}
 use Rattle.semantics.specs.Call.{Call, Kind, hasRow, hasTable, hasVariable, isRetired, isUnknown, kindOf, probing, propagation, removal, rowPropagation, tightening, unknown}
 use Rattle.semantics.specs.CallChecks.{callFault}
 use Rattle.semantics.specs.Demand2.{Demand2, ones}

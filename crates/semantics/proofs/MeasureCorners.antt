@@ -12,9 +12,9 @@ use Rattle.row.specs.Kinds.{propagateRowOf}
 use Rattle.row.specs.Moved.{differs, movedBounds}
 use Rattle.row.specs.Outcome.{isChanged, isInfeasible}
 use Rattle.row.specs.Propagation.{impliedBox, newLower, newUpper, propagateRow, stays}
-use Rattle.row_change.specs.KindChanges.{removeRowOf, tightenRowOf}
-use Rattle.row_change.specs.Redundancy.{removeRedundantRow, zeroRow}
-use Rattle.row_change.specs.Tightening.{tightenAt, tightenCoefficient}
+use Rattle.row.specs.KindChanges.{removeRowOf, tightenRowOf}
+use Rattle.row.specs.Redundancy.{removeRedundantRow, zeroRow}
+use Rattle.row.specs.Tightening.{tightenAt, tightenCoefficient}
 use Rattle.semantics.specs.Books.{AllHold, callOn, fresh, freshKinds, probeCall, propagateCall, removeCall, rowed, tightenCall}
 use Rattle.semantics.specs.Call.{hasBudget, hasRow, hasTable, hasVariable, isUnknown, kindOf, lengthsOf}
 use Rattle.semantics.specs.CallChecks.{callChecks, callFault, givenModel, isLent, lentTable, recordChecks}

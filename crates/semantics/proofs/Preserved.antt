@@ -17,7 +17,7 @@ use Rattle.model.proofs.RowsLaws.{length-rowOf}
 use Rattle.row.specs.ValidRow.{ValidRow}
 use Rattle.row.proofs.ImpliedBoxLaws.{valid-empty, valid-inside}
 use Rattle.row.proofs.PointBox.{Inside→in, in→Inside, nonEmpty-at}
-use Rattle.row_change.proofs.KindChangeLaws.{ReplacesRow, remove-kinded-kind, remove-kinded-replaces, remove-kinded-valid, tighten-kinded-kind, tighten-kinded-replaces, tighten-kinded-valid}
+use Rattle.row.proofs.KindChangeLaws.{ReplacesRow, remove-kinded-kind, remove-kinded-replaces, remove-kinded-valid, tighten-kinded-kind, tighten-kinded-replaces, tighten-kinded-valid}
 use Rattle.row.proofs.PropagationLaws.{empty-no-point}
 use Rattle.semantics.specs.Call.{Call, Kind, hasRow, hasVariable, isUnknown, kindOf, probing, propagation, removal, rowPropagation, tightening, unknown}
 use Rattle.semantics.specs.Perform.{act}

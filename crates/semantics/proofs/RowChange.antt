@@ -16,9 +16,9 @@ use Rattle.model.specs.Rows.{Row, Rows, rowAt, rowOf, setRow}
 use Rattle.model.specs.State.{State, withRow}
 use Rattle.model.specs.Valid.{Between, ValidModel}
 use Rattle.model.proofs.RowsLaws.{at-rowOf, fits, length-rowOf, setRow-coef, setRow-coefs, setRow-ind, setRow-kinds, setRow-length, setRow-rhs, setRow-same, splice-all}
-use Rattle.row_change.specs.KindChanges.{removeRowOf, tightenRowOf}
+use Rattle.row.specs.KindChanges.{removeRowOf, tightenRowOf}
 use Rattle.row.specs.ValidRow.{ValidRow}
-use Rattle.row_change.proofs.KindChangeLaws.{ReplacesRow, remove-kinded-replaces, tighten-kinded-kind, tighten-kinded-length, tighten-kinded-other}
+use Rattle.row.proofs.KindChangeLaws.{ReplacesRow, remove-kinded-replaces, tighten-kinded-kind, tighten-kinded-length, tighten-kinded-other}
 use Rattle.semantics.specs.Call.{Call, removal, tightening}
 use Rattle.semantics.specs.Demand2.{Untouched}
 use Rattle.semantics.specs.Perform.{act}

@@ -15,7 +15,7 @@ use Rattle.model.specs.Model.{Model}
 use Rattle.model.specs.Rows.{Row, rowAt}
 use Rattle.model.specs.State.{State}
 use Rattle.model.specs.Valid.{ValidState}
-use Rattle.row_change.specs.Redundancy.{zeroRow}
+use Rattle.row.specs.Redundancy.{zeroRow}
 use Rattle.semantics.specs.Call.{Call}
 use Rattle.semantics.specs.Passes.{totalWidth}
 use Rattle.semantics.specs.Run.{CallClass, changedCall, classOf, infeasibleCall, noCounts, refusedCall, run, runListed, step, tally, unchangedCall}

@@ -5,7 +5,7 @@ use mathlib.Core.Bool.{cond}
 use Rattle.model.specs.Rows.{rowAt}
 use Rattle.model.specs.State.{State, withBox, withRow}
 use Rattle.row.specs.Outcome.{Outcome}
-use Rattle.row_change.specs.KindChanges.{removeRowOf, tightenRowOf}
+use Rattle.row.specs.KindChanges.{removeRowOf, tightenRowOf}
 use Rattle.row.specs.Kinds.{propagateRowOf}
 use Rattle.semantics.specs.Call.{Call, Kind, kindOf, probing, propagation, removal, rowPropagation, tightening, unknown}
 use Rattle.semantics.specs.CallChecks.{callFault, listedFault}

@@ -1,5 +1,4 @@
 // Reading a sparse book: every check over the book's bytes, and only then the numbers into the lent buffers.
-use crate::numbers::read_numbers;
 use book::SizesAnswer;
 use book::layout::ROWS;
 use book::layout::TRAILER;
@@ -7,17 +6,18 @@ use book::layout::VARIABLES;
 use book::layout::rows_of;
 use book::layout::trailer_u16;
 use book::layout::variables_of;
-use sparse_layout::head::frame_fault;
+use sparse_checks::head::frame_fault;
 use sparse_reading::layout_fault;
 use sparse_reading::number_fault;
+use sparse_reading::read_numbers;
 ghost use mathlib.Core.Path.{_≡_};
 ghost use Prim.Native.Nat.{ℕ};
 ghost use Rattle.book.specs.Answers.{sizesAnswer, sizesAre};
 ghost use Rattle.model.specs.Model.{modelOf};
 ghost use Rattle.model.specs.Rows.{rowsOf};
 ghost use Rattle.sparse_layout.specs.SparseBook.{encodeSparse};
-ghost use Rattle.sparse.specs.SparseCalls.{sparseBoundsRead, sparseCoefsRead, sparseKindsRead, sparseReadCall};
-ghost use Rattle.sparse.specs.SparseCalls.{sparseReadFault, sparseRhsRead, sparseTrailerCall};
+ghost use Rattle.sparse_calls.specs.SparseCalls.{sparseBoundsRead, sparseCoefsRead, sparseKindsRead, sparseReadCall};
+ghost use Rattle.sparse_calls.specs.SparseCalls.{sparseReadFault, sparseRhsRead, sparseTrailerCall};
 
 // n and m of the 16 trailer bytes alone. Refused by 1, more than 16 bytes by 5, then 3 and 4, 4 for the offsets only.
 pub fn trailer(bytes: &[u8]) -> SizesAnswer

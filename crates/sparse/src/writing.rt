@@ -6,6 +6,7 @@ use buffer_checks::is_product;
 use bytes::integers::write_integers;
 use model_checks::model_fault;
 use model_checks::size_fault;
+use sparse_calls::LengthAnswer;
 use sparse_writing::sparse_length;
 use sparse_writing::write_rows;
 ghost use mathlib.Core.List.{[]};
@@ -19,14 +20,8 @@ ghost use Rattle.model.specs.Model.{modelOf};
 ghost use Rattle.model.specs.Rows.{rowsOf};
 ghost use Rattle.sparse_layout.specs.SparseBook.{decodeSparse, sparseLength};
 ghost use Rattle.sparse_layout.specs.SparseChecks.{sparseFault};
-ghost use Rattle.sparse.specs.SparseCalls.{lengthAnswer, sparseLengthCall, sparseWriteCall, sparseWriteFault};
-ghost use Rattle.sparse.specs.SparseCalls.{sparseWritten};
-
-pub enum LengthAnswer {
-    // By the number of the first check that fails.
-    Refused(u32),
-    Bytes(usize),
-}
+ghost use Rattle.sparse_calls.specs.SparseCalls.{lengthAnswer, sparseLengthCall, sparseWriteCall, sparseWriteFault};
+ghost use Rattle.sparse_calls.specs.SparseCalls.{sparseWritten};
 
 // Whether the sparse book of n variables, m rows and these coefficients has len bytes. Beyond the limits of n and m, or
 // where there are not m · n coefficients, nothing is asked: check 3 or 5 answers there.

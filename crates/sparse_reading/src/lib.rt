@@ -5,13 +5,14 @@ use book::layout::VARIABLES;
 use book::layout::trailer_u16;
 use book_reading::bounds_fault;
 use bytes::integers::are_in_range;
+use bytes::integers::read_integers;
 use bytes::read_i32;
 use bytes::read_u16;
 use model::MAX_COEF;
 use model::MAX_RHS;
-use sparse_layout::entries::entries_fault;
-use sparse_layout::entries::row_count;
-use sparse_layout::head::head_fault;
+use sparse_checks::entries::entries_fault;
+use sparse_checks::entries::row_count;
+use sparse_checks::head::head_fault;
 ghost use mathlib.Core.Path.{_≡_};
 ghost use Prim.Native.Nat.{_+_, _*_, _≤_};
 ghost use lib.IntN.{pos};
@@ -155,4 +156,28 @@ pub fn read_kinds(n: usize, book: &[u8], kinds: &mut [u8])
         p += 7 + 6 * (row_count(book, p) as usize);
         i += 1;
     }
+}
+
+// Reads the numbers of a book that has passed the checks of its layout into buffers of its model's lengths.
+pub fn read_numbers(
+    n: usize,
+    m: usize,
+    book: &[u8],
+    bounds: &mut [i32],
+    coefs: &mut [i32],
+    rhs: &mut [i32],
+    kinds: &mut [u8],
+)
+    requires layout { ⌜ HoldsRows n m (now book) × (first (allEntryChecks n m (now book)) ≡ 0) ⌝ }
+    requires lengths { ⌜ (length (now bounds) ≡ 2 * n) × (length (now coefs) ≡ m * n)
+        × (length (now rhs) ≡ m) × (length (now kinds) ≡ m) ⌝ }
+    ensures bounds_read { λ r. ⌜ now (bounds .exit) ≡ boundsOf n (now (book .entry)) ⌝ }
+    ensures coefs_read { λ r. ⌜ now (coefs .exit) ≡ sparseCoefsOf n m (now (book .entry)) ⌝ }
+    ensures rhs_read { λ r. ⌜ now (rhs .exit) ≡ sparseRhsOf n m (now (book .entry)) ⌝ }
+    ensures kinds_read { λ r. ⌜ now (kinds .exit) ≡ sparseKindsOf n m (now (book .entry)) ⌝ }
+{
+    read_integers(book, 0, 4, bounds);
+    read_coefs(n, m, book, coefs);
+    read_rhs(n, book, rhs);
+    read_kinds(n, book, kinds);
 }

@@ -1,7 +1,7 @@
 // Standard output. `printed` counts the bytes that were written: so a contract can say that a text is printed once, and
 // whole. A write that fails is told on standard error.
 use libc::STDOUT_FILENO;
-use report::write_refused;
+use report_line::write_refused;
 ghost use mathlib.Core.Bool.{true};
 ghost use mathlib.Core.Path.{_≡_};
 ghost use Prim.Native.Nat.{_+_, _<_};

@@ -46,7 +46,7 @@ fn say(
             moved: moved::agrees(made, before, bounds),
         };
     }
-    let RoundsAnswer::Infeasible(_, _) = rounds::run(
+    let RoundsAnswer::Infeasible(_, _) = rounds_call::run(
         n,
         row_count(n),
         bounds,

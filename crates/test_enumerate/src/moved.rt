@@ -1,11 +1,11 @@
 // The bounds that a call says it moved, held against the bounds before and after it.
 use crate::grid::counted;
-use probing::sides::Side;
 use reducer::calls::ProbeAnswer;
 use reducer::calls::PropagateAnswer;
 use reducer::calls::PropagateRowAnswer;
 use test_support::made::Made;
 use test_support::parts::lesser;
+use two_sides::Side;
 
 // How many bounds differ.
 fn differing(before: &[i32], after: &[i32]) -> usize {

@@ -1,13 +1,13 @@
 // One open call by its record, and what it answered.
 use change_call::remove_redundant_row;
 use change_call::tighten_coefficient;
+use probe_call::probe;
 use reducer::calls::ProbeAnswer;
 use reducer::calls::PropagateAnswer;
 use reducer::calls::PropagateRowAnswer;
 use reducer::calls::RemoveAnswer;
 use reducer::calls::RestAnswer;
 use reducer::calls::TightenAnswer;
-use reducer::calls::probe;
 use reducer::calls::propagate;
 use reducer::calls::propagate_row;
 use rest_call::is_probing_fixpoint;

@@ -6,13 +6,13 @@ use crate::print::line;
 use crate::print::text;
 use crate::words::fill_naturals;
 use crate::words::number;
+use plan::BufferLengths;
+use plan::LengthsAnswer;
+use plan::PassesAnswer;
 use plan::WidthAnswer;
-use plan::buffers::BufferLengths;
-use plan::buffers::LengthsAnswer;
-use plan::buffers::lengths;
-use plan::list::PassesAnswer;
-use plan::list::passes;
 use plan::width;
+use plan_lengths::lengths;
+use plan_passes::passes;
 
 fn model_lengths(l: BufferLengths) {
     count(l.bounds);

@@ -28,7 +28,7 @@ fn tied_coef(w: u32, ak: i32, aj: i32) -> i32
 }
 
 // The right side: b, or b − a_j.
-fn tied_side(w: u32, aj: i32, b: i32) -> i32
+fn tied_rhs(w: u32, aj: i32, b: i32) -> i32
     requires { ⌜ Within 1000000 aj × Within 1000000000 b ⌝ }
     ensures { λ r. ⌜ r ≡ cond (eqb w 0) b (b -ℤ aj) ⌝ }
 {
@@ -44,7 +44,7 @@ fn row_fits(coefs: &[i32], b: i32, k: usize, j: usize, w: u32) -> bool
     ensures { λ r. ⌜ r ≡ rowFits k j w (now (coefs .entry)) b ⌝ }
 {
     let a = tied_coef(w, coefs[k], coefs[j]);
-    let side = tied_side(w, coefs[j], b);
+    let side = tied_rhs(w, coefs[j], b);
     ((-MAX_COEF <= a) & (a <= MAX_COEF)) & ((-MAX_RHS <= side) & (side <= MAX_RHS))
 }
 
@@ -59,7 +59,7 @@ fn tie_row(coefs: &mut [i32], b: &mut i32, k: usize, j: usize, w: u32)
     let old = *b;
     coefs[k] = tied_coef(w, ak, aj);
     coefs[j] = 0;
-    *b = tied_side(w, aj, old);
+    *b = tied_rhs(w, aj, old);
 }
 
 // The same of row i.

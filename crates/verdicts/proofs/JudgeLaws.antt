@@ -12,18 +12,18 @@ use Rattle.model.specs.Rows.{rowAt, rowOf}
 use Rattle.model.specs.Valid.{ValidModel}
 use Rattle.model.proofs.RowsLaws.{length-rowOf}
 use Rattle.row.proofs.RowLoops.{coefs-small}
-use Rattle.row_marks.proofs.IndexLoops.{line-end}
-use Rattle.row_view.specs.RowIn.{RowIn, StepsIn}
+use Rattle.row_index.proofs.IndexLoops.{line-end}
+use Rattle.matrix_view.specs.RowIn.{RowIn, StepsIn}
 use Rattle.semantics.proofs.RowChange.{row-valid}
 use Rattle.sweep.specs.Steps.{Steps}
 use Rattle.proposals.specs.Call.{allocationFault}
 use Rattle.proposals.proofs.CallLaws.{accepted}
-use Rattle.verdicts.specs.Holding.{Judgeable, Lent, Pending}
+use Rattle.proposals.specs.Holding.{Judgeable, Lent, Pending}
 use Rattle.proposals.specs.Proposals.{proposal}
-use Rattle.verdicts.specs.Telling.{Tells, held}
+use Rattle.proposals.specs.Telling.{Tells, held}
 use Rattle.proposals.specs.Verdict.{meets, rowMet, verdictBy}
 use Rattle.proposals.proofs.VerdictLaws.{inBox-test, inside-by, inside-case}
-use Rattle.verdicts.proofs.HeldLaws.{held-verdict, inside-small}
+use Rattle.proposals.proofs.HeldLaws.{held-verdict, inside-small}
 
 -- the part that is lent as the steps of row i
 pub lent-steps : {n : ℕ} {C A : List ℤ} {across : List ℕ} (i : ℕ) → A ≡ rowOf n C i → StepsIn n C across i

@@ -1,4 +1,1 @@
-pub mod HeldLaws
-pub mod TellingLaws
-pub mod ValueLaws
 pub mod JudgeLaws

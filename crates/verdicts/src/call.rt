@@ -12,10 +12,10 @@ ghost use lib.ListN.{length};
 ghost use Rattle.model.specs.Model.{modelOf};
 ghost use Rattle.model.specs.Rows.{rowsOf};
 ghost use Rattle.proposals.specs.Call.{allocationFault, verdictsLeft};
-ghost use Rattle.verdicts.specs.Holding.{Judgeable};
+ghost use Rattle.proposals.specs.Holding.{Judgeable};
 ghost use Rattle.proposals.specs.Meaning.{Judged};
 ghost use Rattle.proposals.specs.Proposals.{proposal};
-ghost use Rattle.verdicts.specs.Telling.{Tells};
+ghost use Rattle.proposals.specs.Telling.{Tells};
 ghost use Rattle.proposals.specs.Verdict.{verdict};
 
 const MAX_PROPOSALS: u32 = 64;

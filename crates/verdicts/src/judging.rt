@@ -1,21 +1,21 @@
 // All proposals: against the box, and then against one row after the other. A verdict is told in two numbers, and is
 // open as long as the first is 0.
-use crate::proposal::first_outside;
-use crate::proposal::line;
-use crate::proposal::meets_row;
-use row_marks::index::know_steps;
+use one_proposal::first_outside;
+use one_proposal::line;
+use one_proposal::meets_row;
+use row_index::know_steps;
 ghost use mathlib.Core.Path.{_≡_};
 ghost use Prim.Native.Nat.{ℕ, _*_, _+_, _<_, _≤_};
 ghost use lib.ListN.{getD, length};
 ghost use Rattle.model.specs.Model.{modelOf};
 ghost use Rattle.model.specs.Rows.{rowAt, rowOf, rowWith, rowsOf};
-ghost use Rattle.row_marks.specs.Index.{RowSteps};
-ghost use Rattle.row_view.specs.RowIn.{RowIn, StepsIn};
+ghost use Rattle.row_index.specs.Index.{RowSteps};
+ghost use Rattle.matrix_view.specs.RowIn.{RowIn, StepsIn};
 ghost use Rattle.sweep.specs.Steps.{Steps};
 ghost use Rattle.proposals.specs.Proposals.{proposal};
 ghost use Rattle.proposals.specs.Verdict.{Verdict, meets, verdict};
-ghost use Rattle.verdicts.specs.Holding.{Holdable, Judgeable, Lent, Pending};
-ghost use Rattle.verdicts.specs.Telling.{Says, Tells, boxVerdict, held, withNumbers, withVerdict};
+ghost use Rattle.proposals.specs.Holding.{Holdable, Judgeable, Lent, Pending};
+ghost use Rattle.proposals.specs.Telling.{Says, Tells, boxVerdict, held, withNumbers, withVerdict};
 
 // The first number of a verdict.
 const INSIDE: u32 = 0;

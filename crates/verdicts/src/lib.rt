@@ -4,6 +4,5 @@
 // check that fails.
 mod call;
 mod judging;
-mod proposal;
 
 pub use call::check_allocations;

@@ -8,8 +8,8 @@ ghost use lib.Signed.{_≤ℤ_};
 ghost use Rattle.model.specs.Box.{at};
 ghost use Rattle.model.specs.Limits.{maxBound, minBound};
 ghost use Rattle.model.specs.Valid.{Between};
-ghost use Rattle.workspace.specs.Kept.{SameBut};
-ghost use Rattle.workspace.specs.Layout.{boundOf, boxIn, dirtyOf, isOurs, workspaceLen};
+ghost use Rattle.prepared_model.specs.Layout.{boundOf, boxIn, dirtyOf, isOurs, workspaceLen};
+ghost use Rattle.prepared_model.specs.SameBut.{SameBut};
 
 pub const WORKSPACE_LEN: usize = 16_768;
 
@@ -20,7 +20,7 @@ pub const SET_AT: usize = 4;
 pub const BOX_AT: usize = 8;
 
 // The right side and the kind of each row.
-pub const SIDES_AT: usize = 264;
+pub const RHS_AT: usize = 264;
 
 // The rows that hear of each variable.
 pub const HEARERS_AT: usize = 384;

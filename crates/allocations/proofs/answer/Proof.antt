@@ -5,11 +5,11 @@ use lib.Seq.{length-take-le}
 use mathlib.Core.Path.{_∙_, _≡_, ap, subst, sym}
 use native.Mathlib.Omega.{arith}
 use Rattle.report.specs.Report.{refusedLine}
-use Rattle.allocations.specs.Answers.{Answers, Judged}
-use Rattle.allocations.specs.Output.{inputVerdict, output}
-use Rattle.allocations.specs.declared.judging.Answer.{Answer}
-use Rattle.allocations.proofs.InputLaws.{held-whole}
-use Rattle.allocations.proofs.OutputLaws.{output-long, output-refused, output-told}
+use Rattle.allocation_input.specs.Answers.{Answers, Judged}
+use Rattle.allocation_input.specs.Output.{inputVerdict, output}
+use Rattle.allocation_input.specs.declared.Answer.{Answer}
+use Rattle.allocation_input.proofs.InputLaws.{held-whole}
+use Rattle.allocation_input.proofs.OutputLaws.{output-long, output-refused, output-told}
 use borrow.Author.Needs.{needs}
 use Rattle.allocations.proofs.answer.Statement.{statement}
 use Rattle.allocations.proofs.answer.Tie as tie

@@ -58,27 +58,27 @@ use Rattle.flat_list.specs.ListAnswers.{listRun}
 use Rattle.flat_list.specs.declared.RunAnswer.{RunAnswer}
 use Rattle.flat_list.proofs.RunAnswer as S
 use Rattle.flat_list.proofs.RunAnswer.Laws as S′
-use Rattle.call_list.specs.Records.{Runs, noCall, numbersOf, runNext}
+use Rattle.call_record.specs.Records.{Runs, noCall, numbersOf, runNext}
 use Rattle.call.specs.declared.Call.{Call}
 use Rattle.call_list.proofs.Buffers.{All, Back, Carried, Claims, Left, Lents, Long, Names, Owns, ReadParts, ReadTimes, Refs, Rooms, Slice, Times, Tokens, comes, give, left, lend, lists, locals, made, names, parts, read-parts, read-times, refs, room, same, sliced, take, times, values}
 use Rattle.call_list.proofs.Locals.{Blocks, Cell, Dies, allocated, blockOf, cell, cells, envOf, first, free, freed, holds, settled}
 use Rattle.call_list.proofs.Parameters.{Shown, Spots, Texts, buffers, few, many, shown, spots, state, texts}
 use Rattle.call_list.proofs.Reborrow.{has, reborrows, takes}
-use Rattle.call_list.proofs.Running.{Running, running-end, running-next, running-room, running-start}
+use Rattle.call_record.proofs.Running.{Running, running-end, running-next, running-room, running-start}
 use Rattle.call.proofs.Call as R
 use Rattle.call.proofs.Call.Laws as R′
 use Rattle.call_list.proofs.record_at as record-at
 use Rattle.call_list.proofs.record_at.Symbol as record-at-def
 use Rattle.call_list.proofs.record_at.Symbol.{name as #call-list·record-at}
 use Rattle.call_list.proofs.record_at.Met as record-at-thm
-use Rattle.call_list.proofs.run_none as run-none
-use Rattle.call_list.proofs.run_none.Symbol as run-none-def
-use Rattle.call_list.proofs.run_none.Symbol.{name as #call-list·run-none}
-use Rattle.call_list.proofs.run_none.Met as run-none-thm
-use Rattle.call_list.proofs.run_next as run-next
-use Rattle.call_list.proofs.run_next.Symbol as run-next-def
-use Rattle.call_list.proofs.run_next.Symbol.{name as #call-list·run-next}
-use Rattle.call_list.proofs.run_next.Met as run-next-thm
+use Rattle.flat_list.proofs.run_none as run-none
+use Rattle.flat_list.proofs.run_none.Symbol as run-none-def
+use Rattle.flat_list.proofs.run_none.Symbol.{name as #flat-list·run-none}
+use Rattle.flat_list.proofs.run_none.Met as run-none-thm
+use Rattle.call_record.proofs.run_next as run-next
+use Rattle.call_record.proofs.run_next.Symbol as run-next-def
+use Rattle.call_record.proofs.run_next.Symbol.{name as #call-record·run-next}
+use Rattle.call_record.proofs.run_next.Met as run-next-thm
 use Rattle.call_list.proofs.run.Key.{name as #call-list·run}
 use Rattle.call_list.proofs.run as run
 use Rattle.call_list.proofs.run.Statement as stated
@@ -351,7 +351,7 @@ module _ {M : Type 1} (𝓤 : URA M) (H : Heap 𝓤) (A : Atoms 𝓤) (W : Given
   passed = sliced Bs (v ∷ [])
 
   module _ (𝓣 : Tables 𝓤 H) (known-record : Triple 𝓤 (𝓣 .C #call-list·record-at) (RecordAt 𝓤 H A at-mem go))
-      (known-none : Triple 𝓤 (𝓣 .C #call-list·run-none) (RunNone 𝓤 H A at-mem go)) (known-next : Triple 𝓤 (𝓣 .C #call-list·run-next) (RunNext 𝓤 H A at-mem go))
+      (known-none : Triple 𝓤 (𝓣 .C #flat-list·run-none) (RunNone 𝓤 H A at-mem go)) (known-next : Triple 𝓤 (𝓣 .C #call-record·run-next) (RunNext 𝓤 H A at-mem go))
       (rooms : Rooms Bs) (first : Long Bs xs) (is-list : Is (ShrSlice (named 5) κ R.the-row) s (v ∷ [])) where
     abbrev C : Calls 𝓤 H
     C = 𝓣 .C
@@ -521,8 +521,8 @@ module _ {M : Type 1} (𝓤 : URA M) (H : Heap 𝓤) (A : Atoms 𝓤) (W : Given
         by ! (begins bs))
 
 module _ {M : Type 1} (𝓤 : URA M) (H : Heap 𝓤) (A : Atoms 𝓤) (W : Given 𝓤 H A) (mem : Memory → SProp 𝓤) (go : Routine → Fun 𝓤) (𝓣 : Tables 𝓤 H)
-    (known-record : Triple 𝓤 (𝓣 .C #call-list·record-at) (RecordAt 𝓤 H A mem go)) (known-none : Triple 𝓤 (𝓣 .C #call-list·run-none) (RunNone 𝓤 H A mem go))
-    (known-next : Triple 𝓤 (𝓣 .C #call-list·run-next) (RunNext 𝓤 H A mem go)) where
+    (known-record : Triple 𝓤 (𝓣 .C #call-list·record-at) (RecordAt 𝓤 H A mem go)) (known-none : Triple 𝓤 (𝓣 .C #flat-list·run-none) (RunNone 𝓤 H A mem go))
+    (known-next : Triple 𝓤 (𝓣 .C #call-record·run-next) (RunNext 𝓤 H A mem go)) where
   run-walks : Walks 𝓤 H A run.ended stayed (WpFn 𝓤 H (𝓣 .C) (𝓣 .Λ) code.function) (run.clauses 𝓤 H A mem go)
   run-walks = walked 𝓤 H A run.ended stayed (run.clauses 𝓤 H A mem go) (WpFn 𝓤 H (𝓣 .C) (𝓣 .Λ) code.function)
       (λ κs. (uint-vals w64, (uint-vals w64, (slice-vals, (slice-vals, (slice-vals, (slice-vals, (slice-vals, (slice-vals, tt)))))))))
@@ -581,5 +581,5 @@ run-spec 𝓤 H 𝓜 𝓖 𝓡 =
     (tables 𝓤 H 𝓜 𝓡 code.env .C) (tables 𝓤 H 𝓜 𝓡 code.env .Λ) #call-list·run code.function (code.unfolded 𝓤 H 𝓜 𝓡)
     (run-meets 𝓤 H (𝓖 .A) (givenOf 𝓤 H 𝓜 𝓖) (𝓜 .mem) (𝓡 .run) (tablesOf 𝓤 H 𝓜 (tables 𝓤 H 𝓜 𝓡 code.env))
     (cited 𝓤 H (RecordAt 𝓤 H (𝓖 .A) (𝓜 .mem) (𝓡 .run)) 𝓜 𝓡 code.env #call-list·record-at record-at-def.routine code.calls-call-list·record-at (record-at-thm.met 𝓤 H 𝓜 𝓖 𝓡))
-    (cited 𝓤 H (RunNone 𝓤 H (𝓖 .A) (𝓜 .mem) (𝓡 .run)) 𝓜 𝓡 code.env #call-list·run-none run-none-def.routine code.calls-call-list·run-none (run-none-thm.met 𝓤 H 𝓜 𝓖 𝓡))
-    (cited 𝓤 H (RunNext 𝓤 H (𝓖 .A) (𝓜 .mem) (𝓡 .run)) 𝓜 𝓡 code.env #call-list·run-next run-next-def.routine code.calls-call-list·run-next (run-next-thm.met 𝓤 H 𝓜 𝓖 𝓡)))
+    (cited 𝓤 H (RunNone 𝓤 H (𝓖 .A) (𝓜 .mem) (𝓡 .run)) 𝓜 𝓡 code.env #flat-list·run-none run-none-def.routine code.calls-flat-list·run-none (run-none-thm.met 𝓤 H 𝓜 𝓖 𝓡))
+    (cited 𝓤 H (RunNext 𝓤 H (𝓖 .A) (𝓜 .mem) (𝓡 .run)) 𝓜 𝓡 code.env #call-record·run-next run-next-def.routine code.calls-call-record·run-next (run-next-thm.met 𝓤 H 𝓜 𝓖 𝓡)))

@@ -50,7 +50,7 @@ use Rattle.flat_list.specs.ListAnswers.{listRun}
 use Rattle.flat_list.specs.declared.RunAnswer.{RunAnswer}
 use Rattle.flat_list.proofs.RunAnswer as S
 use Rattle.flat_list.proofs.RunAnswer.Laws as S′
-use Rattle.call_list.specs.Records.{numbersOf}
+use Rattle.call_record.specs.Records.{numbersOf}
 use Rattle.call.specs.declared.Call.{Call}
 use Rattle.call_list.proofs.Buffers.{All, Copies, Finals, Leaves, Left, Owns, Refs, Rooms, Same, Slice, Times, Tokens, copies, finals, give, last-token, left, lists, locals, made, names, parts, refs, sliced, take, times, values}
 use Rattle.call_list.proofs.Held.{Claim, frees-array, lends-array}

@@ -7,8 +7,8 @@ use mathlib.Core.List.{List, []}
 use mathlib.Core.Path.{_∙_, _≡_, refl, sym}
 use Rattle.model.specs.Rows.{Rows, rowAt, rowsOf}
 use Rattle.model.specs.Valid.{ValidModel}
-use Rattle.row_change.specs.Answers.{removalOutcome}
-use Rattle.row_change.specs.KindChanges.{removeRowOf}
+use Rattle.row.specs.Answers.{removalOutcome}
+use Rattle.row.specs.KindChanges.{removeRowOf}
 use Rattle.semantics.specs.CallChecks.{callFault}
 use Rattle.semantics.specs.Perform.{Answer, act, perform, removed}
 use Rattle.semantics.specs.Call.{Call, callOf, hasRow, kindOf}
@@ -16,7 +16,7 @@ use Rattle.model.specs.State.{State, stateOf}
 use Rattle.model.specs.Model.{modelOf}
 use Rattle.reducer.specs.OpenCalls.{performed, removeAnswer}
 use Rattle.reducer.proofs.OpenCallLaws.{on-row, perform-refused, promised, row-changed}
-use Rattle.row_view.proofs.RowInLaws.{row-in, valid-row}
+use Rattle.matrix_view.proofs.RowInLaws.{row-in, valid-row}
 use Rattle.change_call.proofs.remove_redundant_row.Statement.{statement}
 use Rattle.change_call.proofs.remove_redundant_row.Tie as tie
 

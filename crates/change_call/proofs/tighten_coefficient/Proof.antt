@@ -7,8 +7,8 @@ use mathlib.Core.List.{List, []}
 use mathlib.Core.Path.{_∙_, _≡_, refl, sym}
 use Rattle.model.specs.Rows.{Rows, rowAt, rowsOf}
 use Rattle.model.specs.Valid.{ValidModel}
-use Rattle.row_change.specs.Answers.{tighteningOutcome}
-use Rattle.row_change.specs.KindChanges.{tightenRowOf}
+use Rattle.row.specs.Answers.{tighteningOutcome}
+use Rattle.row.specs.KindChanges.{tightenRowOf}
 use Rattle.semantics.specs.CallChecks.{callFault}
 use Rattle.semantics.specs.Perform.{Answer, act, perform, tightened}
 use Rattle.semantics.specs.Call.{Call, callOf, hasRow, hasVariable, kindOf}
@@ -17,7 +17,7 @@ use Rattle.model.specs.Model.{modelOf}
 use Rattle.semantics.proofs.Accepted.{accepted}
 use Rattle.reducer.specs.OpenCalls.{performed, tightenAnswer}
 use Rattle.reducer.proofs.OpenCallLaws.{on-row, perform-refused, promised, row-changed}
-use Rattle.row_view.proofs.RowInLaws.{row-in, valid-row}
+use Rattle.matrix_view.proofs.RowInLaws.{row-in, valid-row}
 use Rattle.change_call.proofs.tighten_coefficient.Statement.{statement}
 use Rattle.change_call.proofs.tighten_coefficient.Tie as tie
 

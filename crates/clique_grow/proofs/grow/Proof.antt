@@ -3,7 +3,7 @@ use Prim.Native.Nat.{_*_, _-_, _≤_}
 use mathlib.Core.Logic.{⊎-elim}
 use mathlib.Core.Path.{_∙_, _≡_, sym}
 use native.Mathlib.Omega.{arith}
-use Rattle.row_change.proofs.RedundancyLaws.{length-zeroRow}
+use Rattle.row.proofs.RedundancyLaws.{length-zeroRow}
 use Rattle.cliques.specs.Cliques.{grow, growTo, valueOf}
 use Rattle.clique_grow.proofs.CandidateLaws.{GrownTo, grown-length, grown-most, grown-passes, grown-start, grown-takes, length-ones}
 use Rattle.clique_grow.proofs.grow.Statement.{statement}

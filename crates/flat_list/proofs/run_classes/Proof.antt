@@ -4,9 +4,9 @@ use mathlib.Core.Path.{_∙_, _≡_, sym}
 use native.Mathlib.Omega.{arith}
 use Rattle.model.specs.Rows.{rowsOf}
 use Rattle.model.specs.State.{State, stateOf}
-use Rattle.flat_list.specs.Classes.{classesFault}
+use Rattle.flat_record.specs.Classes.{classesFault}
 use Rattle.flat_list.specs.ListAnswers.{classesRun, listAnswer, listRun, ranTo}
-use Rattle.flat_list.proofs.ClassLaws.{classes-accepted, classes-listed, classes-promised, classes-ran, classes-refused}
+use Rattle.flat_record.proofs.ClassLaws.{classes-accepted, classes-listed, classes-promised, classes-ran, classes-refused}
 use Rattle.flat_list.proofs.run_classes.Statement.{statement}
 use Rattle.flat_list.proofs.run_classes.Tie as tie
 

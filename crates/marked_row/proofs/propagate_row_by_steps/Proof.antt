@@ -10,8 +10,8 @@ use Rattle.model.specs.Rows.{Rows, rowAt, rowsOf}
 use Rattle.row.specs.Answers.{propagatedRowOf}
 use Rattle.row.specs.Kinds.{propagateRowOf}
 use Rattle.row_marks.specs.Marks.{Visitable}
-use Rattle.row_marks.proofs.IndexLoops.{row-end}
-use Rattle.row_view.proofs.RowInLaws.{row-fits, row-in, valid-row}
+use Rattle.row_index.proofs.IndexLoops.{row-end}
+use Rattle.matrix_view.proofs.RowInLaws.{row-fits, row-in, valid-row}
 use Rattle.marked_row.proofs.MarkedRowLaws.{broken, left-by, said, steps-in, tightened, unmoved, visited-empty, visited-moved, visited-remarks, visited-unmoved}
 use Rattle.marked_row.proofs.propagate_row_by_steps.Statement.{statement}
 use Rattle.marked_row.proofs.propagate_row_by_steps.Tie as tie

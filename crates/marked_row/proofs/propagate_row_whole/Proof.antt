@@ -10,7 +10,7 @@ use Rattle.model.specs.Rows.{Rows, rowAt, rowsOf}
 use Rattle.row.specs.Answers.{propagatedRowOf}
 use Rattle.row.specs.Kinds.{propagateRowOf}
 use Rattle.row_marks.specs.Marks.{Visitable}
-use Rattle.row_view.proofs.RowInLaws.{row-in, valid-row}
+use Rattle.matrix_view.proofs.RowInLaws.{row-in, valid-row}
 use Rattle.marked_row.proofs.MarkedRowLaws.{broken, left-by, said, tightened, unmoved, visited-empty, visited-moved, visited-nonEmpty, visited-unmoved}
 use Rattle.marked_row.proofs.propagate_row_whole.Statement.{statement}
 use Rattle.marked_row.proofs.propagate_row_whole.Tie as tie

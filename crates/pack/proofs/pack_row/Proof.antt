@@ -14,9 +14,9 @@ use Rattle.integer.proofs.RangeLaws.{within-fits}
 use Rattle.integer.proofs.Reading.{eq-read}
 use Rattle.model.specs.Box.{at}
 use Rattle.packed_row.specs.Words.{coefsFrom}
+use Rattle.prepared_model.specs.SameBut.{SameBut}
+use Rattle.prepared_model.proofs.KeptLaws.{same-inside, same-none, same-wider}
 use Rattle.row.proofs.ActivityLaws.{within-coef}
-use Rattle.workspace.specs.Kept.{SameBut}
-use Rattle.workspace.proofs.KeptLaws.{same-inside, same-none, same-wider}
 use Rattle.pack.proofs.PackLaws.{coef-packed, coef-small, row-more, row-zero}
 use Rattle.pack.proofs.pack_row.Statement.{statement}
 use Rattle.pack.proofs.pack_row.Tie as tie

@@ -8,9 +8,9 @@ use native.Mathlib.Nat.{mul-le-mul-right}
 use native.Mathlib.Omega.{arith}
 use Rattle.model.specs.Rows.{rowOf}
 use Rattle.packed_row.specs.Words.{coefsFrom}
-use Rattle.workspace.specs.Kept.{SameBut}
-use Rattle.workspace.specs.Layout.{rowWords}
-use Rattle.workspace.proofs.KeptLaws.{same-none, same-wider}
+use Rattle.prepared_model.specs.Layout.{rowWords}
+use Rattle.prepared_model.specs.SameBut.{SameBut}
+use Rattle.prepared_model.proofs.KeptLaws.{same-none, same-wider}
 use Rattle.pack.proofs.PackLaws.{length-row, part-row, row-range, row-room, rows-more, rows-same}
 use Rattle.pack.proofs.pack_rows.Statement.{statement}
 use Rattle.pack.proofs.pack_rows.Tie as tie

@@ -8,7 +8,7 @@ use Rattle.model.specs.Model.{modelOf}
 use Rattle.model.specs.Rows.{rowsOf}
 use Rattle.model.specs.Valid.{ValidModel}
 use Rattle.model.proofs.CheckLaws.{fits-fault-none}
-use Rattle.workspace.specs.Layout.{workspaceLen}
+use Rattle.prepared_model.specs.Layout.{workspaceLen}
 use Rattle.prepare.proofs.WrittenLaws.{valid-zero, written-prepared}
 use Rattle.prepare.proofs.prepare.Statement.{statement}
 use Rattle.prepare.proofs.prepare.Tie as tie

@@ -1,9 +1,9 @@
 -- `prepared_call::propagate`: refused by the number of its checks, else what the accepted call comes to. Assumes nothing.
 use borrow.Author.Needs.{needs}
 use mathlib.Core.Path.{_∙_, _≡_, sym}
-use Rattle.prepared_call.specs.PreparedCall.{propagateFault}
+use Rattle.prepared_checks.specs.Checks.{propagateFault}
+use Rattle.prepared_checks.proofs.CheckLaws.{accepting}
 use Rattle.prepared_call.proofs.CallLaws.{accepted-all, refused-all}
-use Rattle.prepared_call.proofs.CheckLaws.{accepting}
 use Rattle.prepared_call.proofs.propagate.Statement.{statement}
 use Rattle.prepared_call.proofs.propagate.Tie as tie
 

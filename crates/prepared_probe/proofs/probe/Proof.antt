@@ -6,14 +6,14 @@ use mathlib.Core.Path.{_∙_, _≡_, ap, refl, sym}
 use native.Mathlib.Omega.{arith}
 use Rattle.model.specs.Rows.{Rows}
 use Rattle.model.specs.State.{State, stateOf}
+use Rattle.prepared_checks.specs.Checks.{probeFault}
+use Rattle.prepared_checks.proofs.ProbeCheckLaws.{Accepted, accepted, fault-is}
+use Rattle.prepared_model.specs.Layout.{rowsIn, variablesOf}
 use Rattle.reducer.specs.OpenCalls.{performed, probeAnswer}
 use Rattle.reducer.proofs.OpenCallLaws.{perform-refused, probing-performed}
 use Rattle.semantics.specs.Call.{callOf}
 use Rattle.semantics.specs.Perform.{refused}
 use Rattle.semantics.specs.Run.{isRefused}
-use Rattle.workspace.specs.Layout.{rowsIn, variablesOf}
-use Rattle.prepared_probe.specs.Checks.{probeFault}
-use Rattle.prepared_probe.proofs.ProbeCheckLaws.{Accepted, accepted, fault-is}
 use Rattle.prepared_probe.proofs.probe.Statement.{statement}
 use Rattle.prepared_probe.proofs.probe.Tie as tie
 

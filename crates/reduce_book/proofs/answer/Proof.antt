@@ -9,8 +9,8 @@ use mathlib.Core.Path.{_∙_, _≡_, ap, sym}
 use native.Mathlib.Omega.{arith}
 use Rattle.book.specs.Answers.{refused, sizesAnswer, sizesAre}
 use Rattle.intake.specs.Checks.{SizedBook}
-use Rattle.reduce_book.specs.Output.{outputAs}
-use Rattle.reduce_book.proofs.ReductionLaws.{head-output, held-sized}
+use Rattle.reduction.specs.Output.{outputAs}
+use Rattle.reduce_book.proofs.ProgramLaws.{head-output, held-sized}
 use Rattle.reduce_book.proofs.answer.Statement.{statement}
 use Rattle.reduce_book.proofs.answer.Tie as tie
 

@@ -6,7 +6,7 @@ use lib.ListN.{length}
 use lib.Seq.{length-take-le}
 use mathlib.Core.Path.{_∙_, _≡_, ap, sym}
 use native.Mathlib.Omega.{arith}
-use Rattle.reduce_book.proofs.ReductionLaws.{coefs-fit, length-zeros, parts-ready, table-fits}
+use Rattle.reduction.proofs.ReductionLaws.{coefs-fit, length-zeros, parts-ready, table-fits}
 use Rattle.reduce_book.proofs.reduce.Statement.{statement}
 use Rattle.reduce_book.proofs.reduce.Tie as tie
 

@@ -3,8 +3,8 @@
 use borrow.Author.Needs.{needs}
 use lib.ListN.{length}
 use mathlib.Core.Path.{_∙_, ap}
-use Rattle.reduce_book.specs.Answers.{answerText}
-use Rattle.reduce_book.proofs.ReductionLaws.{left-prints}
+use Rattle.reduction.specs.Answers.{answerText}
+use Rattle.reduce_book.proofs.ProgramLaws.{left-prints}
 use Rattle.reduce_book.proofs.reduce_in.Statement.{statement}
 use Rattle.reduce_book.proofs.reduce_in.Tie as tie
 

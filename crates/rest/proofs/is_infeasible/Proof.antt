@@ -4,7 +4,7 @@ use mathlib.Core.List.{[]}
 use mathlib.Core.Path.{sym}
 use Rattle.semantics.specs.Propagate.{isNone}
 use Rattle.propagation.specs.Results.{propagationOf}
-use Rattle.probing.proofs.ProbingLoops.{is-some}
+use Rattle.probe_side.proofs.SideLaws.{is-some}
 use Rattle.rest.proofs.is_infeasible.Statement.{statement}
 use Rattle.rest.proofs.is_infeasible.Tie as tie
 

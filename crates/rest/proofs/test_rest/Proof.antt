@@ -8,7 +8,7 @@ use Rattle.model.specs.Box.{isEmpty}
 use Rattle.model.specs.Rows.{Rows, rowsOf}
 use Rattle.row.proofs.ImpliedBoxLaws.{valid-nonEmpty}
 use Rattle.rest.specs.Results.{restAnswerOf}
-use Rattle.probing.proofs.MarkedLaws.{marked-none}
+use Rattle.probe_side.proofs.MarkedLaws.{marked-none}
 use Rattle.rest.proofs.RestLaws.{rest-by-row, rest-by-variable, rest-empty, rest-found-none}
 use Rattle.rest.proofs.test_rest.Statement.{statement}
 use Rattle.rest.proofs.test_rest.Tie as tie

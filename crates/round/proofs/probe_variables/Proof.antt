@@ -1,7 +1,7 @@
 -- `round::probe_variables`: nothing is known yet. Assumes nothing.
 use borrow.Author.Needs.{needs}
 use Rattle.model.specs.State.{stateOf}
-use Rattle.probing.proofs.MarkedLaws.{marked-none}
+use Rattle.probe_side.proofs.MarkedLaws.{marked-none}
 use Rattle.round.proofs.probe_variables.Statement.{statement}
 use Rattle.round.proofs.probe_variables.Tie as tie
 

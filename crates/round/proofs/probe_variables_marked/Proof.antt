@@ -7,14 +7,14 @@ use mathlib.Core.Logic.{⊎-elim}
 use mathlib.Core.Path.{_∙_, _≡_, refl, sym}
 use native.Mathlib.Omega.{arith}
 use Rattle.model.specs.Box.{isFree}
-use Rattle.probing.specs.Marked.{Marked}
+use Rattle.probe_side.specs.Marked.{Marked}
 use Rattle.semantics.specs.Call.{callOf}
 use Rattle.model.specs.Rows.{rowsOf}
 use Rattle.model.specs.State.{State, stateOf}
 use Rattle.semantics.specs.Unmoved.{anySpent}
-use Rattle.round.specs.Round.{probeCall, probes, roundBudget, upwards}
-use Rattle.round.proofs.RoundLaws.{Turns, accepts-probe, all-turns, call-turn, flag-kept, no-turn, skip-turn, turns-lengths, turns-valid}
-use Rattle.round.proofs.SpentLaws.{spent-call, spent-skip, spent-turn, spent-turns}
+use Rattle.rounds.specs.Round.{probeCall, probes, roundBudget, upwards}
+use Rattle.rounds.proofs.RoundLaws.{Turns, accepts-probe, all-turns, call-turn, flag-kept, no-turn, skip-turn, turns-lengths, turns-valid}
+use Rattle.rounds.proofs.SpentLaws.{spent-call, spent-skip, spent-turn, spent-turns}
 use Rattle.round.proofs.probe_variables_marked.Statement.{statement}
 use Rattle.round.proofs.probe_variables_marked.Tie as tie
 

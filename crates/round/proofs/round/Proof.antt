@@ -6,12 +6,12 @@ use mathlib.Core.Path.{_≡_, refl}
 use borrow.Author.Needs.{needs}
 use Rattle.semantics.specs.Call.{callOf, kindOf}
 use Rattle.semantics.specs.Unmoved.{anySpent}
-use Rattle.step.proofs.StepLaws.{ran-settle}
+use Rattle.probe_step.proofs.AcceptedLaws.{ran-settle}
 use Rattle.model.specs.Rows.{rowsOf}
 use Rattle.model.specs.State.{State, stateOf}
-use Rattle.round.specs.Round.{andThen, removals, probes, round, roundBudget, propagateCall, tightenings}
-use Rattle.round.proofs.RoundLaws.{Leads, SameLengths, accepts-propagation, flag-kept, flag-raised, in-order, leads-then, leads-valid, one-call, same-lengths}
-use Rattle.round.proofs.SpentLaws.{round-spent}
+use Rattle.rounds.specs.Round.{andThen, removals, probes, round, roundBudget, propagateCall, tightenings}
+use Rattle.rounds.proofs.RoundLaws.{Leads, SameLengths, accepts-propagation, flag-kept, flag-raised, in-order, leads-then, leads-valid, one-call, same-lengths}
+use Rattle.rounds.proofs.SpentLaws.{round-spent}
 use Rattle.round.proofs.round.Statement.{statement}
 use Rattle.round.proofs.round.Tie as tie
 

@@ -17,8 +17,9 @@ use Rattle.model.specs.Model.{modelOf}
 use Rattle.semantics.proofs.Accepted.{accepted}
 use Rattle.call.specs.Classes.{classIs}
 use Rattle.call.proofs.KindLaws.{kind-other}
-use Rattle.step.proofs.StepLaws.{fault-probed, listed-accepted, listed-ran, listed-refused, own-11, own-18, own-budget, own-probe, own-row, ran-probed, ran-settle, ran-visit}
-use Rattle.row_view.proofs.RowInLaws.{row-in, valid-row}
+use Rattle.matrix_view.proofs.RowInLaws.{row-in, valid-row}
+use Rattle.probe_step.proofs.AcceptedLaws.{ran-settle, ran-visit}
+use Rattle.step.proofs.StepLaws.{fault-probed, listed-accepted, listed-ran, listed-refused, own-11, own-18, own-budget, own-probe, own-row, ran-probed}
 use Rattle.step.proofs.run_record.Statement.{statement}
 use Rattle.step.proofs.run_record.Tie as tie
 

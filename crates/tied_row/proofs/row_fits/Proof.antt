@@ -43,14 +43,14 @@ shared-slice-copy-out-tied-coef-2 c = search needs
 tied-coef-requires : tie.Need-tied-coef-requires
 tied-coef-requires c κs = let s = c .before .before in rw (k-is s, j-is s) (s .pre .coefs (s .args .k), s .pre .coefs (s .args .j))
 
-mul-tied-side : tie.Need-mul-tied-side
-mul-tied-side c = search needs
+mul-tied-rhs : tie.Need-mul-tied-rhs
+mul-tied-rhs c = search needs
 
-shared-slice-copy-out-tied-side : tie.Need-shared-slice-copy-out-tied-side
-shared-slice-copy-out-tied-side c = search needs
+shared-slice-copy-out-tied-rhs : tie.Need-shared-slice-copy-out-tied-rhs
+shared-slice-copy-out-tied-rhs c = search needs
 
-tied-side-requires : tie.Need-tied-side-requires
-tied-side-requires c κs = let s = c .before .before .before .before in rw (j-is s, b-is s) (s .pre .coefs (s .args .j), s .pre .rhs)
+tied-rhs-requires : tie.Need-tied-rhs-requires
+tied-rhs-requires c κs = let s = c .before .before .before .before in rw (j-is s, b-is s) (s .pre .coefs (s .args .j), s .pre .rhs)
 
 sub-result : tie.Need-sub-result
 sub-result c = search needs
@@ -63,7 +63,7 @@ unfolding rowFits tiedRhs
 returns c =
     let s = c .before .before .before .before .before in
     let a-is = read w32 (record { sfits = c .before .before .tied-coef .ok }) (rw (k-is s, j-is s) at (c .before .before .tied-coef .ensures)) in
-    let side-is = read w32 (record { sfits = c .tied-side .ok }) (rw (j-is s, b-is s) at (c .tied-side .ensures)) in
+    let side-is = read w32 (record { sfits = c .tied-rhs .ok }) (rw (j-is s, b-is s) at (c .tied-rhs .ensures)) in
     rw (a-is, side-is) refl
 
 pub row-fits-spec : {M : Type 1} → statement M
@@ -75,9 +75,9 @@ row-fits-spec =
     mul-tied-coef-2
     shared-slice-copy-out-tied-coef-2
     tied-coef-requires
-    mul-tied-side
-    shared-slice-copy-out-tied-side
-    tied-side-requires
+    mul-tied-rhs
+    shared-slice-copy-out-tied-rhs
+    tied-rhs-requires
     sub-result
     sub-result-2
     returns)

@@ -56,8 +56,8 @@ mul-coefs c = search needs
 slice-set-of-coefs : tie.Need-slice-set-of-coefs
 slice-set-of-coefs c = search needs
 
-tied-side-requires : tie.Need-tied-side-requires
-tied-side-requires c κs =
+tied-rhs-requires : tie.Need-tied-rhs-requires
+tied-rhs-requires c κs =
     let s = c .before .before .before .before in rw (j-is s, b-is s) (s .pre .coefs (s .args .j), s .pre .rhs)
 
 same-length : tie.Need-same-length
@@ -68,7 +68,7 @@ unfolding tiedCoefs tiedRhs
 returns c =
     let s = c .before .before .before .before .before in
     let a-is = read w32 (record { sfits = c .before .tied-coef .ok }) (rw (k-is s, j-is s) at (c .before .tied-coef .ensures)) in
-    let side-is = read w32 (record { sfits = c .tied-side .ok }) (rw (j-is s, b-is s) at (c .tied-side .ensures)) in
+    let side-is = read w32 (record { sfits = c .tied-rhs .ok }) (rw (j-is s, b-is s) at (c .tied-rhs .ensures)) in
     rw (a-is, side-is) (refl, refl)
 
 pub tie-row-spec : {M : Type 1} → statement M
@@ -84,6 +84,6 @@ tie-row-spec =
     slice-set-from-b
     mul-coefs
     slice-set-of-coefs
-    tied-side-requires
+    tied-rhs-requires
     same-length
     returns)

@@ -9,9 +9,9 @@ use mir.Val.{toZ}
 use native.Mathlib.Omega.{arith}
 use Rattle.integer.proofs.RangeLaws.{within-fits}
 use Rattle.integer.proofs.Reading.{fits-read}
+use Rattle.prepared_model.specs.Layout.{boundOf}
+use Rattle.prepared_model.proofs.DecodeLaws.{bound-in}
 use Rattle.row.proofs.ActivityLaws.{within-bound}
-use Rattle.workspace.specs.Layout.{boundOf}
-use Rattle.workspace.proofs.DecodeLaws.{bound-in}
 use Rattle.workspace.proofs.bound.Statement.{statement}
 use Rattle.workspace.proofs.bound.Tie as tie
 

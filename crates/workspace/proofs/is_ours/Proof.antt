@@ -8,7 +8,7 @@ use mathlib.Core.List.{List}
 use mathlib.Core.Path.{_≡_}
 use native.Mathlib.Omega.{arith}
 use Rattle.integer.proofs.Tests.{T→false, T→true, eqb-test, leb-test, ltb-test}
-use Rattle.workspace.specs.Layout.{isOurs, ourMark, workspaceLen}
+use Rattle.prepared_model.specs.Layout.{isOurs, ourMark, workspaceLen}
 use Rattle.workspace.proofs.is_ours.Statement.{statement}
 use Rattle.workspace.proofs.is_ours.Tie as tie
 

@@ -11,11 +11,11 @@ use native.Mathlib.Omega.{arith}
 use Rattle.integer.proofs.Parts.{zarith}
 use Rattle.integer.proofs.RangeLaws.{within-fits}
 use Rattle.model.specs.Box.{at}
+use Rattle.prepared_model.specs.Layout.{boundOf}
+use Rattle.prepared_model.specs.SameBut.{SameBut}
+use Rattle.prepared_model.proofs.DecodeLaws.{bound-raised, box-at, length-box}
+use Rattle.prepared_model.proofs.KeptLaws.{same-more, same-none, same-wider}
 use Rattle.row.proofs.ActivityLaws.{within-bound}
-use Rattle.workspace.specs.Kept.{SameBut}
-use Rattle.workspace.specs.Layout.{boundOf}
-use Rattle.workspace.proofs.DecodeLaws.{bound-raised, box-at, length-box}
-use Rattle.workspace.proofs.KeptLaws.{same-more, same-none, same-wider}
 use Rattle.workspace.proofs.keep_box.Statement.{statement}
 use Rattle.workspace.proofs.keep_box.Tie as tie
 

@@ -1,6 +1,6 @@
 -- `workspace::keep_set`: the four numbers of the set are put at 4. Assumes nothing.
 use borrow.Author.Needs.{needs}
-use Rattle.workspace.specs.Layout.{dirtyOf}
+use Rattle.prepared_model.specs.Layout.{dirtyOf}
 use Rattle.workspace.proofs.keep_set.Statement.{statement}
 use Rattle.workspace.proofs.keep_set.Tie as tie
 

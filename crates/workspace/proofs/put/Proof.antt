@@ -5,8 +5,8 @@ use lib.ListN.{drop, getD, length, length-drop, take}
 use lib.Seq.{ext-getD, getD-drop, getD-set-other, getD-set-same, getD-take, length-take-le}
 use mathlib.Core.Path.{_∙_, _≡_}
 use native.Mathlib.Omega.{arith}
-use Rattle.workspace.specs.Kept.{SameBut}
-use Rattle.workspace.proofs.KeptLaws.{same-more, same-none, same-wider}
+use Rattle.prepared_model.specs.SameBut.{SameBut}
+use Rattle.prepared_model.proofs.KeptLaws.{same-more, same-none, same-wider}
 use Rattle.workspace.proofs.put.Statement.{statement}
 use Rattle.workspace.proofs.put.Tie as tie
 

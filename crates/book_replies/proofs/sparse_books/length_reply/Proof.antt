@@ -1,6 +1,6 @@
 -- `book_replies::sparse_books::length_reply`: each case has its numbers. Assumes nothing.
 use Rattle.replies.specs.Replies.{replyOf}
-use Rattle.sparse.specs.SparseCalls.{lengthAnswer}
+use Rattle.sparse_calls.specs.SparseCalls.{lengthAnswer}
 use Rattle.book_replies.specs.SparseReplies.{lengthReply}
 use borrow.Author.Needs.{needs}
 use Rattle.book_replies.proofs.sparse_books.length_reply.Statement.{statement}

@@ -6,7 +6,7 @@ use lib.ListN.{length}
 use lib.Seq.{length-take-le}
 use mathlib.Core.Path.{_∙_, _≡_, ap, sym}
 use native.Mathlib.Omega.{arith}
-use Rattle.sparse.specs.SparseCalls.{bytesAre, lengthAnswer, toSparseLengthCall}
+use Rattle.sparse_calls.specs.SparseCalls.{bytesAre, lengthAnswer, toSparseLengthCall}
 use Rattle.convert.specs.Answers.{answerBytes}
 use Rattle.convert.proofs.ConvertLaws.{length-refused, length-told, part-fits, sparse-book, sparse-room}
 use Rattle.convert.proofs.conversion.sparse_edition.Statement.{statement}

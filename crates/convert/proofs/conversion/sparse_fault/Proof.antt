@@ -9,7 +9,7 @@ use Rattle.book.specs.BookChecks.{modelNumberChecks}
 use Rattle.sparse_layout.specs.SparseBook.{decodeSparse, sparseModelIn}
 use Rattle.sparse_layout.specs.SparseChecks.{sparseChecks, sparseFault, sparseLayoutChecks}
 use Rattle.sparse_layout.proofs.SparseAcceptLaws.{SparseLayout, sparse-layout-numbered, sparse-layout-test}
-use Rattle.sparse.proofs.SparseCallLaws.{layout-holds}
+use Rattle.sparse_calls.proofs.SparseCallLaws.{layout-holds}
 use Rattle.convert.proofs.conversion.sparse_fault.Statement.{statement}
 use Rattle.convert.proofs.conversion.sparse_fault.Tie as tie
 

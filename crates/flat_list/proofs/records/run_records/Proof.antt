@@ -10,7 +10,7 @@ use Rattle.model.specs.State.{State, stateOf}
 use Rattle.semantics.proofs.CallLists.{along-end, list-accepted}
 use Rattle.call.specs.Classes.{countsOf}
 use Rattle.flat_list.specs.ListAnswers.{ranTo}
-use Rattle.flat_list.proofs.ClassLaws.{Told, told-end, told-more, told-start}
+use Rattle.flat_record.proofs.ClassLaws.{Told, told-end, told-more, told-start}
 use Rattle.flat_list.proofs.records.run_records.Statement.{statement}
 use Rattle.flat_list.proofs.records.run_records.Tie as tie
 

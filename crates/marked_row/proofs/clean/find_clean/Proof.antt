@@ -4,7 +4,7 @@ use lib.ListN.{length}
 use mathlib.Core.Path.{_∙_, _≡_, refl}
 use native.Mathlib.Omega.{arith}
 use Rattle.model.specs.Rows.{rowsOf}
-use Rattle.row_marks.specs.Index.{RowSteps}
+use Rattle.row_index.specs.Index.{RowSteps}
 use Rattle.row_marks.specs.Marks.{Clean}
 use Rattle.marked_row.proofs.clean.find_clean.Statement.{statement}
 use Rattle.marked_row.proofs.clean.find_clean.Tie as tie

@@ -3,7 +3,7 @@ use borrow.Author.Needs.{needs}
 use mathlib.Core.Path.{_∙_, sym}
 use native.Mathlib.Omega.{arith}
 use Rattle.model.specs.Rows.{rowAt, rowsOf}
-use Rattle.row_view.proofs.RowInLaws.{row-in, valid-row}
+use Rattle.matrix_view.proofs.RowInLaws.{row-in, valid-row}
 use Rattle.marked_row.proofs.MarkedRowLaws.{clean-set, moves-none}
 use Rattle.marked_row.proofs.clean.find_clean_row.Statement.{statement}
 use Rattle.marked_row.proofs.clean.find_clean_row.Tie as tie

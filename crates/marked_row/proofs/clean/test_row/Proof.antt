@@ -1,6 +1,6 @@
 -- `marked_row::clean::test_row`: both tests are of the whole row. Assumes nothing.
 use borrow.Author.Needs.{needs}
-use Rattle.row_marks.proofs.IndexLoops.{row-end}
+use Rattle.row_index.proofs.IndexLoops.{row-end}
 use Rattle.marked_row.proofs.MarkedRowLaws.{steps-in}
 use Rattle.marked_row.proofs.clean.test_row.Statement.{statement}
 use Rattle.marked_row.proofs.clean.test_row.Tie as tie

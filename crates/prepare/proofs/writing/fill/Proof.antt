@@ -6,8 +6,8 @@ use mathlib.Core.List.{List}
 use mathlib.Core.Path.{_∙_, _≡_}
 use native.Mathlib.Decide.{ℕ-discrete}
 use native.Mathlib.Omega.{arith}
-use Rattle.workspace.specs.Kept.{SameBut}
-use Rattle.workspace.proofs.KeptLaws.{same-inside, same-none, same-wider}
+use Rattle.prepared_model.specs.SameBut.{SameBut}
+use Rattle.prepared_model.proofs.KeptLaws.{same-inside, same-none, same-wider}
 use Rattle.prepare.proofs.writing.fill.Statement.{statement}
 use Rattle.prepare.proofs.writing.fill.Tie as tie
 

@@ -15,8 +15,8 @@ fill-requires c κs = search needs
 fill-requires-2 : tie.Need-fill-requires-2
 fill-requires-2 c κs = search needs
 
-pack-sides-requires : tie.Need-pack-sides-requires
-pack-sides-requires c κs =
+pack-rhs-requires : tie.Need-pack-rhs-requires
+pack-rhs-requires c κs =
     let boxed = c .before .before .before in
     let s = boxed .before .before .before .before .before .before .before .before .before .before .before .before in
     let v = s .pre .0 in
@@ -38,7 +38,7 @@ pack-rows-requires c κs =
       v .fewRows,
       v .coefsLen,
       v .coefs,
-      e .write-columns .kept .1 .1 .1 .1 .0 ∙ d .pack-sides .kept .1 .1 .1 .0 ∙ b .fill2 .kept .1 .1 .1 .0 ∙ a .fill .kept .1 .1 .1 .0
+      e .write-columns .kept .1 .1 .1 .1 .0 ∙ d .pack-rhs .kept .1 .1 .1 .0 ∙ b .fill2 .kept .1 .1 .1 .0 ∙ a .fill .kept .1 .1 .1 .0
           ∙ h .write-head .kept .1 .1 .0 ∙ s .pre .1,
     )
 
@@ -58,7 +58,7 @@ returns c =
     let H = h .write-head .ensures in
     let D = a .fill .ensures in
     let B = b .fill2 .ensures in
-    let S = d .pack-sides .ensures in
+    let S = d .pack-rhs .ensures in
     let C = e .write-columns .ensures in
     let R = f .pack-rows .ensures in
     all-written _ (s .pre .1) (v .few) (v .fewRows) (H .0) (H .1) (D .0) (D .1) (B .0) (B .1) (S .0) (S .1) (C .0) (C .1) (R .0) (R .1)
@@ -70,7 +70,7 @@ write-spec =
     write-head-requires
     fill-requires
     fill-requires-2
-    pack-sides-requires
+    pack-rhs-requires
     write-columns-requires
     pack-rows-requires
     same-length

@@ -4,8 +4,8 @@ use lib.ListN.{length-set, set}
 use lib.Seq.{getD-set-other, getD-set-same}
 use mathlib.Core.Path.{_∙_}
 use native.Mathlib.Omega.{arith}
-use Rattle.workspace.specs.Layout.{ourMark}
-use Rattle.workspace.proofs.KeptLaws.{same-inside, same-none, same-wider}
+use Rattle.prepared_model.specs.Layout.{ourMark}
+use Rattle.prepared_model.proofs.KeptLaws.{same-inside, same-none, same-wider}
 use Rattle.prepare.proofs.writing.write_head.Statement.{statement}
 use Rattle.prepare.proofs.writing.write_head.Tie as tie
 

@@ -2,7 +2,7 @@
 use borrow.Author.Needs.{needs}
 use mathlib.Core.Path.{_∙_}
 use native.Mathlib.Omega.{arith}
-use Rattle.workspace.specs.Layout.{variablesOf}
+use Rattle.prepared_model.specs.Layout.{variablesOf}
 use Rattle.prepared_call.proofs.core.keep.Statement.{statement}
 use Rattle.prepared_call.proofs.core.keep.Tie as tie
 

@@ -6,7 +6,7 @@ use lib.ListN.{length}
 use mathlib.Core.Bool.{false}
 use mathlib.Core.Path.{_∙_, _≡_, refl, sym}
 use Rattle.model.specs.Box.{isEmpty}
-use Rattle.workspace.specs.Layout.{variablesOf}
+use Rattle.prepared_model.specs.Layout.{variablesOf}
 use Rattle.prepared_call.proofs.CoreLaws.{converged-is, converged-left, empty-is-none, infeasible-is, running, spent-is, spent-left}
 use Rattle.prepared_call.proofs.core.propagate_accepted.Statement.{statement}
 use Rattle.prepared_call.proofs.core.propagate_accepted.Tie as tie

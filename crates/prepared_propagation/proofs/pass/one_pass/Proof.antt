@@ -9,12 +9,12 @@ use mathlib.Core.Logic.{_⊎_, inl, inr, ⊎-elim}
 use mathlib.Core.Path.{_∙_, _≡_, refl}
 use native.Mathlib.Omega.{arith}
 use Rattle.model.specs.Rows.{rowAt}
+use Rattle.prepared_model.specs.Layout.{decode}
+use Rattle.prepared_model.specs.RowReasons.{rowReasons}
 use Rattle.row.specs.Answers.{propagatedRowOf}
 use Rattle.row.specs.Kinds.{propagateRowOf}
 use Rattle.row.specs.declared.propagation.RowPropagation.the-variants.{Tightened, Unchanged}
 use Rattle.semantics.proofs.PropagateLaws.{moved-at-most}
-use Rattle.prepared_row.specs.Reasons.{rowReasons}
-use Rattle.workspace.specs.Layout.{decode}
 use Rattle.prepared_propagation.proofs.PassLaws.{Passing, passing-all, passing-ended, passing-first, passing-lost, passing-next, passing-some, sum-small}
 use Rattle.prepared_propagation.proofs.pass.one_pass.Statement.{statement}
 use Rattle.prepared_propagation.proofs.pass.one_pass.Tie as tie
@@ -35,11 +35,11 @@ loop-holds c =
     let v = c .before .before .before .before .before .pre in
     passing-first (v .0) (v .1) _ (t .1) (t .2)
 
-visit-at-requires : tie.Need-visit-at-requires Inv-loop μ-loop
-visit-at-requires c κs = let i = c .before .before .before .before .before .loop .inv in (i .looking, omega arith, i .lent)
+propagate-row-prepared-requires : tie.Need-propagate-row-prepared-requires Inv-loop μ-loop
+propagate-row-prepared-requires c κs = let i = c .before .before .before .before .before .loop .inv in (i .looking, omega arith, i .lent)
 
 -- what the row answers and leaves
-module _ (k : tie.After-visit-at Inv-loop μ-loop) where
+module _ (k : tie.After-propagate-row-prepared Inv-loop μ-loop) where
   abbrev h : tie.At-loop Inv-loop μ-loop
   h = k .before .before .before .before .before .before
 
@@ -47,17 +47,17 @@ module _ (k : tie.After-visit-at Inv-loop μ-loop) where
   s = h .before .before .before .before .before .before
 
   abbrev Q : List ℤ
-  Q = k .visit-at .last .1 .1 .1 .1 .0
+  Q = k .propagate-row-prepared .last .1 .1 .1 .1 .0
 
-  heard : propagatedRowOf (k .visit-at .result) Q ≡ propagateRowOf (s .args .n) (rowAt (s .args .n) (decode (s .args .n) (s .args .m) (s .args .ws .now)) (h .loop .r)) (h .loop .bounds)
-  heard = k .visit-at .ensures .0
+  heard : propagatedRowOf (k .propagate-row-prepared .result) Q ≡ propagateRowOf (s .args .n) (rowAt (s .args .n) (decode (s .args .n) (s .args .m) (s .args .ws .now)) (h .loop .r)) (h .loop .bounds)
+  heard = k .propagate-row-prepared .ensures .0
 
   taken : h .loop .r < s .args .m
   taken = k .before .before .before .before .before .loop-test .taken
 
-  blamed : k .visit-at .last .1 .1 .1 .1 .1 .1 .1 .0
+  blamed : k .propagate-row-prepared .last .1 .1 .1 .1 .1 .1 .1 .0
       ≡ rowReasons (h .loop .r) (h .loop .bounds) (propagateRowOf (s .args .n) (rowAt (s .args .n) (decode (s .args .n) (s .args .m) (s .args .ws .now)) (h .loop .r)) (h .loop .bounds)) (h .loop .reasons)
-  blamed = k .visit-at .ensures .1 .1 .1
+  blamed = k .propagate-row-prepared .ensures .1 .1 .1
 
 enum-told : tie.Need-enum-told Inv-loop μ-loop
 enum-told c = search needs
@@ -66,22 +66,22 @@ cast-row : tie.Need-cast-row Inv-loop μ-loop
 cast-row c = let k = c .before .before .before .before .before .before .before .before in omega (arith, taken k, s k .pre .0 .sized .fewRows)
 
 same-length : tie.Need-same-length Inv-loop μ-loop
-same-length c = let k = c .before .before .before .before .before .before .before .before in k .visit-at .kept .1 .1 .1 .1 .0 ∙ h k .loop .inv .boxLen
+same-length c = let k = c .before .before .before .before .before .before .before .before in k .propagate-row-prepared .kept .1 .1 .1 .1 .0 ∙ h k .loop .inv .boxLen
 
 same-length-2 : tie.Need-same-length-2 Inv-loop μ-loop
-same-length-2 c = let k = c .before .before .before .before .before .before .before .before in k .visit-at .kept .1 .1 .1 .1 .1 .0 ∙ h k .loop .inv .seenLen
+same-length-2 c = let k = c .before .before .before .before .before .before .before .before in k .propagate-row-prepared .kept .1 .1 .1 .1 .1 .0 ∙ h k .loop .inv .seenLen
 
 same-length-3 : tie.Need-same-length-3 Inv-loop μ-loop
-same-length-3 c = let k = c .before .before .before .before .before .before .before .before in k .visit-at .kept .1 .1 .1 .1 .1 .1 .0 ∙ h k .loop .inv .setLen
+same-length-3 c = let k = c .before .before .before .before .before .before .before .before in k .propagate-row-prepared .kept .1 .1 .1 .1 .1 .1 .0 ∙ h k .loop .inv .setLen
 
 same-length-4 : tie.Need-same-length-4 Inv-loop μ-loop
-same-length-4 c = let k = c .before .before .before .before .before .before .before .before in k .visit-at .kept .1 .1 .1 .1 .1 .1 .1 .0 ∙ h k .loop .inv .listLen
+same-length-4 c = let k = c .before .before .before .before .before .before .before .before in k .propagate-row-prepared .kept .1 .1 .1 .1 .1 .1 .1 .0 ∙ h k .loop .inv .listLen
 
 returns : tie.Need-returns Inv-loop μ-loop
 returns c =
     let k = c .before .before .before .before .before .before .before .before in
     let i = h k .loop .inv in (
-      passing-ended i (taken k) _ (Q k) (heard k) _ (k .visit-at .ensures .1 .1 .0) (blamed k) (c .enum-told .given .1),
+      passing-ended i (taken k) _ (Q k) (heard k) _ (k .propagate-row-prepared .ensures .1 .1 .0) (blamed k) (c .enum-told .given .1),
       ((λ e. absurd (true≢false e)), moved-at-most _ _ _ (i .looking .nonEmpty) (i .lost)),
     )
 
@@ -104,7 +104,7 @@ add-next-row c = let k = c .before .before .before .before .before .before .befo
 next-row-requires-2 : tie.Need-next-row-requires-2 Inv-loop μ-loop
 next-row-requires-2 c κs =
     let k = c .before .before .before .before .before .before .before .before in
-    (omega (arith, taken k), omega (arith, s k .pre .0 .sized .fewRows), k .visit-at .kept .1 .1 .1 .1 .1 .1 .0 ∙ h k .loop .inv .looking .set)
+    (omega (arith, taken k), omega (arith, s k .pre .0 .sized .fewRows), k .propagate-row-prepared .kept .1 .1 .1 .1 .1 .1 .0 ∙ h k .loop .inv .looking .set)
 
 loop-less : tie.Need-loop-less Inv-loop μ-loop
 loop-less c =
@@ -114,23 +114,23 @@ loop-less c =
 
 -- where the row was not infeasible
 module _ (c : tie.After-next-row2 Inv-loop μ-loop) where
-  abbrev k : tie.After-visit-at Inv-loop μ-loop
+  abbrev k : tie.After-propagate-row-prepared Inv-loop μ-loop
   k = c .before .before .before .before .before .before .before .before .before
 
   abbrev seen : List ℤ
-  seen = k .visit-at .last .1 .1 .1 .1 .1 .0
+  seen = k .propagate-row-prepared .last .1 .1 .1 .1 .1 .0
 
   abbrev dirty : List ℕ
-  dirty = k .visit-at .last .1 .1 .1 .1 .1 .1 .0
+  dirty = k .propagate-row-prepared .last .1 .1 .1 .1 .1 .1 .0
 
   abbrev reasons : List ℕ
-  reasons = k .visit-at .last .1 .1 .1 .1 .1 .1 .1 .0
+  reasons = k .propagate-row-prepared .last .1 .1 .1 .1 .1 .1 .1 .0
 
-  next : {x now : ℕ} → ((k .visit-at .result ≡ Tightened x) × (now ≡ h k .loop .moved + x)) ⊎ ((k .visit-at .result ≡ Unchanged) × (now ≡ h k .loop .moved))
+  next : {x now : ℕ} → ((k .propagate-row-prepared .result ≡ Tightened x) × (now ≡ h k .loop .moved + x)) ⊎ ((k .propagate-row-prepared .result ≡ Unchanged) × (now ≡ h k .loop .moved))
       → Passing (s k .args .n) (s k .args .m) (s k .args .ws .now) (s k .args .bounds .now) (s k .args .seen .now) (s k .args .dirty .now) (s k .args .reasons .now)
       (Q k) seen dirty reasons now (c .next-row2 .result)
   next w =
-      let v = k .visit-at in
+      let v = k .propagate-row-prepared in
       let t = c .next-row2 .ensures in
       passing-next (h k .loop .inv) (taken k) _ (Q k) (heard k) w seen dirty (v .ensures .1 .0) (v .ensures .1 .1 .0) (blamed k)
       (v .kept .1 .1 .1 .1 .0) (v .kept .1 .1 .1 .1 .1 .0) (v .kept .1 .1 .1 .1 .1 .1 .0) (v .kept .1 .1 .1 .1 .1 .1 .1 .0) (c .next-row2 .result) (t .0) (t .1) (t .2)
@@ -169,7 +169,7 @@ one-pass-spec =
     μ-loop
     next-row-requires
     loop-holds
-    visit-at-requires
+    propagate-row-prepared-requires
     enum-told
     cast-row
     same-length

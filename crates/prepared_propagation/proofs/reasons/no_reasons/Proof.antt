@@ -6,7 +6,7 @@ use mathlib.Core.List.{List, [], _++_, _∷_}
 use mathlib.Core.Path.{_∙_, _≡_, ap, refl, sym}
 use native.Mathlib.Numerals.{add-one}
 use native.Mathlib.Omega.{arith}
-use Rattle.prepared_propagation.specs.Reasons.{noRow}
+use Rattle.prepared_model.specs.Reasons.{noRow}
 use Rattle.prepared_propagation.proofs.reasons.no_reasons.Statement.{statement}
 use Rattle.prepared_propagation.proofs.reasons.no_reasons.Tie as tie
 

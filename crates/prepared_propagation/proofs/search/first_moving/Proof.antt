@@ -8,10 +8,10 @@ use mathlib.Core.Path.{_∙_, _≡_, sym}
 use native.Mathlib.Omega.{arith}
 use Rattle.integer.specs.Index.{all}
 use Rattle.model.specs.Rows.{Rows}
+use Rattle.prepared_model.specs.Layout.{decode}
 use Rattle.propagation.proofs.SearchLaws.{found, none-found}
 use Rattle.row_set.specs.Readers.{Calm}
 use Rattle.semantics.specs.FixpointTest.{rowLeaves}
-use Rattle.workspace.specs.Layout.{decode}
 use Rattle.prepared_propagation.proofs.SearchLaws.{calm-passed, calm-tested}
 use Rattle.prepared_propagation.proofs.search.first_moving.Statement.{statement}
 use Rattle.prepared_propagation.proofs.search.first_moving.Tie as tie
@@ -48,15 +48,15 @@ loop-holds c =
     let e = c .next-row .ensures in
     (e .1, λ k. calm-passed (n s) (m s) (A s) (B s) (D s) (s .pre .0 .some) (s .pre .1) k 0 _ tt (e .1) (e .2))
 
-moves-at-requires : tie.Need-moves-at-requires Inv-loop μ-loop
-moves-at-requires c κs = let s = c .before .before .before .before .before in (s .pre .0, c .loop-test .taken)
+row-moves-prepared-requires : tie.Need-row-moves-prepared-requires Inv-loop μ-loop
+row-moves-prepared-requires c κs = let s = c .before .before .before .before .before in (s .pre .0, c .loop-test .taken)
 
 returns : tie.Need-returns Inv-loop μ-loop
 returns c k =
     let s = c .before .before .before .before .before .before .before in
     let h = c .before .before .before .loop in
     found (n s) (A s) (B s) (s .pre .0 .some) (s .pre .1) (m s) (h .r) (c .before .before .loop-test .taken) (h .inv .1 k)
-    (sym (c .before .moves-at .ensures) ∙ c .if1 .taken)
+    (sym (c .before .row-moves-prepared .ensures) ∙ c .if1 .taken)
 
 add-next-row : tie.Need-add-next-row Inv-loop μ-loop
 add-next-row c = omega arith
@@ -76,7 +76,7 @@ loop-again c =
     let e = c .next-row2 .ensures in (
       e .1,
       λ k. calm-tested (n s) (m s) (A s) (B s) (D s) (s .pre .0 .some) (s .pre .1) k (h .r) _ (h .inv .1 k) (c .before .before .before .loop-test .taken)
-          (sym (c .before .before .moves-at .ensures) ∙ c .before .if1 .left) (e .1) (e .2),
+          (sym (c .before .before .row-moves-prepared .ensures) ∙ c .before .if1 .left) (e .1) (e .2),
     )
 
 returns-2 : tie.Need-returns-2 Inv-loop μ-loop
@@ -94,7 +94,7 @@ first-moving-spec =
     μ-loop
     next-row-requires
     loop-holds
-    moves-at-requires
+    row-moves-prepared-requires
     returns
     add-next-row
     next-row-requires-2

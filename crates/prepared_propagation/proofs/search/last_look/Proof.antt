@@ -1,10 +1,10 @@
 -- `search::last_look`: what `propagateFrom` says where no pass is left. Assumes nothing.
 use borrow.Author.Needs.{needs}
 use native.Mathlib.Omega.{arith}
+use Rattle.prepared_model.specs.Layout.{decode}
 use Rattle.propagation.specs.Results.{propagationOf}
 use Rattle.semantics.specs.Propagate.{propagateFrom}
 use Rattle.semantics.proofs.PropagateLaws.{look-converged, look-spent}
-use Rattle.workspace.specs.Layout.{decode}
 use Rattle.prepared_propagation.proofs.search.last_look.Statement.{statement}
 use Rattle.prepared_propagation.proofs.search.last_look.Tie as tie
 

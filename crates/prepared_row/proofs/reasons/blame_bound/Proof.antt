@@ -6,7 +6,7 @@ use mathlib.Core.Path.{ap, sym}
 use mir.Syntax.{w32}
 use mir.Val.{ofZ}
 use Rattle.integer.proofs.Reading.{eq-read}
-use Rattle.prepared_row.proofs.ReasonLaws.{kept-is, reason-moved}
+use Rattle.prepared_model.proofs.RowReasonLaws.{kept-is, reason-moved}
 use Rattle.prepared_row.proofs.reasons.blame_bound.Statement.{statement}
 use Rattle.prepared_row.proofs.reasons.blame_bound.Tie as tie
 

@@ -6,7 +6,7 @@ use mathlib.Core.Path.{_∙_, _≡_, sym}
 use native.Mathlib.Omega.{arith}
 use Rattle.integer.specs.Index.{all}
 use Rattle.model.specs.Rows.{Rows, rowsOf}
-use Rattle.row_view.proofs.RowInLaws.{row-in, valid-row}
+use Rattle.matrix_view.proofs.RowInLaws.{row-in, valid-row}
 use Rattle.semantics.specs.FixpointTest.{rowLeaves}
 use Rattle.propagation.proofs.SearchLaws.{clean-passed, found, none-found, tested-passed}
 use Rattle.propagation.proofs.search.first_moving.Statement.{statement}

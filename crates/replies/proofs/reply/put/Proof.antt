@@ -5,8 +5,8 @@ use lib.ListN.{length, length-set, replicate, set}
 use mathlib.Core.List.{List, _++_, _∷_}
 use mathlib.Core.Path.{_∙_, _≡_, ap, refl, subst, sym}
 use native.Mathlib.Omega.{arith}
-use Rattle.probing.specs.Results.{reportOf}
-use Rattle.probing.specs.declared.sides.Side.{Side}
+use Rattle.two_sides.specs.Results.{reportOf}
+use Rattle.two_sides.specs.declared.Side.{Side}
 use Rattle.replies.specs.Replies.{answerLength, bit, padded, replyOf, returned, sideNumbers, written}
 use Rattle.replies.proofs.reply.put.Statement.{statement}
 use Rattle.replies.proofs.reply.put.Tie as tie

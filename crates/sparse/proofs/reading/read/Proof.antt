@@ -14,8 +14,8 @@ use Rattle.book.specs.Book.{boundsOf}
 use Rattle.sparse_layout.specs.SparseBook.{HoldsRows, decodeSparse, sparseCoefsOf, sparseKindsOf, sparseModelIn, sparseRhsOf}
 use Rattle.sparse_layout.specs.SparseChecks.{allEntryChecks}
 use Rattle.sparse_layout.proofs.SparseAcceptLaws.{SparseLayout}
-use Rattle.sparse.specs.SparseCalls.{sparseBoundsRead, sparseCoefsRead, sparseKindsRead, sparseReadCall, sparseReadFault, sparseRhsRead}
-use Rattle.sparse.proofs.SparseCallLaws.{layout-holds, sparse-read-passed, sparse-reads-back}
+use Rattle.sparse_calls.specs.SparseCalls.{sparseBoundsRead, sparseCoefsRead, sparseKindsRead, sparseReadCall, sparseReadFault, sparseRhsRead}
+use Rattle.sparse_calls.proofs.SparseCallLaws.{layout-holds, sparse-read-passed, sparse-reads-back}
 use borrow.Author.Needs.{needs}
 use Rattle.sparse.proofs.reading.read.Statement.{statement}
 use Rattle.sparse.proofs.reading.read.Tie as tie

@@ -12,8 +12,8 @@ use Rattle.book.specs.BookChecks.{modelNumberChecks}
 use Rattle.sparse_layout.specs.SparseBook.{decodeSparse, sparseModelIn}
 use Rattle.sparse_layout.specs.SparseChecks.{sparseLayoutChecks}
 use Rattle.sparse_layout.proofs.SparseAcceptLaws.{SparseLayout, sparse-layout-numbered, sparse-layout-test}
-use Rattle.sparse.specs.SparseCalls.{sparseReadChecks, sparseReadFault}
-use Rattle.sparse.proofs.SparseCallLaws.{layout-holds}
+use Rattle.sparse_calls.specs.SparseCalls.{sparseReadChecks, sparseReadFault}
+use Rattle.sparse_calls.proofs.SparseCallLaws.{layout-holds}
 use borrow.Author.Needs.{needs}
 use Rattle.sparse.proofs.reading.read_fault.Statement.{statement}
 use Rattle.sparse.proofs.reading.read_fault.Tie as tie

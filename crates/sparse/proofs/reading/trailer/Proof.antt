@@ -7,7 +7,7 @@ use Rattle.model.proofs.CheckLaws.{fails, past}
 use Rattle.book.specs.Answers.{sizesAnswer, sizesAre}
 use Rattle.book.proofs.AnswerLaws.{accepted-by, refused-by}
 use Rattle.sparse_layout.specs.SparseChecks.{sparseTrailerChecks}
-use Rattle.sparse.specs.SparseCalls.{sparseTrailerCall}
+use Rattle.sparse_calls.specs.SparseCalls.{sparseTrailerCall}
 use borrow.Author.Needs.{needs}
 use Rattle.sparse.proofs.reading.trailer.Statement.{statement}
 use Rattle.sparse.proofs.reading.trailer.Tie as tie

@@ -7,8 +7,8 @@ use Rattle.model.specs.Valid.{ValidModel}
 use Rattle.model.proofs.CheckLaws.{fault-none}
 use Rattle.sparse_layout.specs.SparseBook.{sparseLength}
 use Rattle.sparse_layout.proofs.WritingLaws.{length-coefs}
-use Rattle.sparse.specs.SparseCalls.{bytesAre, lengthAnswer, sparseLengthCall}
-use Rattle.sparse.proofs.SparseCallLaws.{length-accepted, length-refused}
+use Rattle.sparse_calls.specs.SparseCalls.{bytesAre, lengthAnswer, sparseLengthCall}
+use Rattle.sparse_calls.proofs.SparseCallLaws.{length-accepted, length-refused}
 use borrow.Author.Needs.{needs}
 use Rattle.sparse.proofs.writing.length.Statement.{statement}
 use Rattle.sparse.proofs.writing.length.Tie as tie

@@ -15,12 +15,12 @@ use Rattle.book.specs.Book.{boundBytes, trailerBytes}
 use Rattle.sparse_layout.specs.SparseBook.{encodeSparse, sparseLength, sparseRowBytes, sparseRowBytesAt}
 use Rattle.bytes.specs.Bytes.{integerBytes, integersBytes}
 use Rattle.bytes.specs.Pieces.{joined, overwrite}
-use Rattle.sparse.specs.SparseCalls.{sparseWriteCall, sparseWriteFault, sparseWritten}
+use Rattle.sparse_calls.specs.SparseCalls.{sparseWriteCall, sparseWriteFault, sparseWritten}
 use Rattle.book.proofs.AnswerLaws.{accepted-by, becomes, refused-by, stays}
 use Rattle.book.proofs.EncodeLaws.{length-trailerBytes}
 use Rattle.sparse_layout.proofs.SparseEncodeLaws.{sparse-assembled, sparseLength-below}
 use Rattle.bytes.proofs.PieceLaws.{length-part, overwrite-part}
-use Rattle.sparse.proofs.SparseCallLaws.{sparse-write-passed, sparse-writes-back}
+use Rattle.sparse_calls.proofs.SparseCallLaws.{sparse-write-passed, sparse-writes-back}
 use Rattle.sparse.proofs.writing.write.Statement.{statement}
 use Rattle.sparse.proofs.writing.write.Tie as tie
 

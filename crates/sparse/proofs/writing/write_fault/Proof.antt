@@ -3,7 +3,7 @@
 use mathlib.Core.Path.{_∙_}
 use Rattle.model.specs.Model.{modelOf}
 use Rattle.model.specs.Rows.{rowsOf}
-use Rattle.sparse.proofs.SparseCallLaws.{sparse-write-answers}
+use Rattle.sparse_calls.proofs.SparseCallLaws.{sparse-write-answers}
 use borrow.Author.Needs.{needs}
 use Rattle.sparse.proofs.writing.write_fault.Statement.{statement}
 use Rattle.sparse.proofs.writing.write_fault.Tie as tie

@@ -6,7 +6,7 @@ use Rattle.model.specs.Rows.{rowsOf}
 use Rattle.proposals.proofs.CallLaws.{judged, left-accepted, left-refused}
 use Rattle.proposals.specs.Meaning.{Judged}
 use Rattle.verdicts.proofs.JudgeLaws.{judgeable}
-use Rattle.verdicts.proofs.TellingLaws.{tells-numbers}
+use Rattle.proposals.proofs.TellingLaws.{tells-numbers}
 use borrow.Author.Needs.{needs}
 use Rattle.verdicts.proofs.call.check_allocations.Statement.{statement}
 use Rattle.verdicts.proofs.call.check_allocations.Tie as tie

@@ -2,8 +2,8 @@
 use mathlib.Core.Path.{_∙_, ap, sym}
 use native.Mathlib.Omega.{arith}
 use Rattle.proposals.specs.Verdict.{outsideAt}
-use Rattle.verdicts.proofs.TellingLaws.{told-inside, told-outside}
-use Rattle.verdicts.proofs.HeldLaws.{box-inside, box-outside}
+use Rattle.proposals.proofs.TellingLaws.{told-inside, told-outside}
+use Rattle.proposals.proofs.HeldLaws.{box-inside, box-outside}
 use borrow.Author.Needs.{needs}
 use Rattle.verdicts.proofs.judging.hold_box.Statement.{statement}
 use Rattle.verdicts.proofs.judging.hold_box.Tie as tie

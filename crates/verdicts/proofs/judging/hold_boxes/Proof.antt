@@ -7,10 +7,10 @@ use mathlib.Core.List.{List}
 use mathlib.Core.Path.{_∙_, _≡_, ap, refl, subst, sym}
 use native.Mathlib.Omega.{arith}
 use Rattle.model.proofs.RowsLaws.{length-rowOf}
-use Rattle.row_marks.proofs.IndexLoops.{line-end}
+use Rattle.row_index.proofs.IndexLoops.{line-end}
 use Rattle.proposals.specs.Proposals.{proposal}
-use Rattle.verdicts.specs.Telling.{Says, boxVerdict, withVerdict}
-use Rattle.verdicts.proofs.TellingLaws.{length-told, says-more}
+use Rattle.proposals.specs.Telling.{Says, boxVerdict, withVerdict}
+use Rattle.proposals.proofs.TellingLaws.{length-told, says-more}
 use Rattle.verdicts.proofs.judging.hold_boxes.Statement.{statement}
 use Rattle.verdicts.proofs.judging.hold_boxes.Tie as tie
 

@@ -7,9 +7,9 @@ use mir.Val.{SFits}
 use Rattle.model.specs.Rows.{rowWith}
 use Rattle.proposals.specs.Verdict.{meets}
 use Rattle.integer.proofs.Tests.{told-false, told-true}
-use Rattle.verdicts.proofs.TellingLaws.{told-again, told-breaks}
+use Rattle.proposals.proofs.TellingLaws.{told-again, told-breaks}
 use Rattle.proposals.proofs.VerdictLaws.{inside-case}
-use Rattle.verdicts.proofs.HeldLaws.{held-broken, held-met, held-told}
+use Rattle.proposals.proofs.HeldLaws.{held-broken, held-met, held-told}
 use borrow.Author.Needs.{needs}
 use Rattle.verdicts.proofs.judging.hold_one.Statement.{statement}
 use Rattle.verdicts.proofs.judging.hold_one.Tie as tie

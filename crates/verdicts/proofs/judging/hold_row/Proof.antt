@@ -10,13 +10,13 @@ use mir.Syntax.{w32}
 use mir.Val.{ofZ, toZ}
 use native.Mathlib.Omega.{arith}
 use Rattle.model.specs.Rows.{rowWith}
-use Rattle.row_marks.proofs.IndexLoops.{line-end}
+use Rattle.row_index.proofs.IndexLoops.{line-end}
 use Rattle.sweep.specs.Steps.{Steps}
-use Rattle.verdicts.specs.Holding.{Holdable}
+use Rattle.proposals.specs.Holding.{Holdable}
 use Rattle.proposals.specs.Proposals.{proposal}
-use Rattle.verdicts.specs.Telling.{Says, held, withVerdict}
+use Rattle.proposals.specs.Telling.{Says, held, withVerdict}
 use Rattle.proposals.specs.Verdict.{Verdict, meets}
-use Rattle.verdicts.proofs.TellingLaws.{Halfway, halfway-more, halfway-start}
+use Rattle.proposals.proofs.TellingLaws.{Halfway, halfway-more, halfway-start}
 use Rattle.verdicts.proofs.judging.hold_row.Statement.{statement}
 use Rattle.verdicts.proofs.judging.hold_row.Tie as tie
 

@@ -6,12 +6,12 @@ use mathlib.Core.Path.{ap₂, subst, sym}
 use mir.Facts.{toZ-ofZ}
 use mir.Syntax.{w32}
 use Rattle.model.specs.Rows.{rowWith}
-use Rattle.verdicts.specs.Holding.{Pending}
+use Rattle.proposals.specs.Holding.{Pending}
 use Rattle.proposals.specs.Proposals.{proposal}
-use Rattle.verdicts.specs.Telling.{held}
+use Rattle.proposals.specs.Telling.{held}
 use Rattle.proposals.specs.Verdict.{meets}
 use Rattle.verdicts.proofs.JudgeLaws.{lent-steps}
-use Rattle.verdicts.proofs.TellingLaws.{tells-as}
+use Rattle.proposals.proofs.TellingLaws.{tells-as}
 use borrow.Author.Needs.{needs}
 use Rattle.verdicts.proofs.judging.hold_row_at.Statement.{statement}
 use Rattle.verdicts.proofs.judging.hold_row_at.Tie as tie

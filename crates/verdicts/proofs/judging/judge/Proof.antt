@@ -6,14 +6,14 @@ use native.Mathlib.Omega.{arith}
 use Rattle.model.specs.Model.{Model, modelOf}
 use Rattle.model.specs.Rows.{rowsOf}
 use Rattle.marked_row.proofs.MarkedRowLaws.{steps-in}
-use Rattle.row_marks.specs.Index.{RowSteps}
-use Rattle.row_marks.proofs.IndexLoops.{row-end}
+use Rattle.row_index.specs.Index.{RowSteps}
+use Rattle.row_index.proofs.IndexLoops.{row-end}
 use Rattle.proposals.specs.Proposals.{proposal}
-use Rattle.verdicts.specs.Telling.{Tells}
+use Rattle.proposals.specs.Telling.{Tells}
 use Rattle.proposals.specs.Verdict.{verdict, verdictBy}
 use Rattle.verdicts.proofs.JudgeLaws.{held-row, pending, row-in}
-use Rattle.verdicts.proofs.TellingLaws.{tells-as}
-use Rattle.verdicts.proofs.HeldLaws.{box-verdict}
+use Rattle.proposals.proofs.TellingLaws.{tells-as}
+use Rattle.proposals.proofs.HeldLaws.{box-verdict}
 use Rattle.verdicts.proofs.judging.judge.Statement.{statement}
 use Rattle.verdicts.proofs.judging.judge.Tie as tie
 

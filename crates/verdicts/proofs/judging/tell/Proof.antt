@@ -1,7 +1,7 @@
 -- `verdicts::judging::tell`: two numbers are written. Assumes nothing.
 use borrow.Author.Needs.{needs}
 use mathlib.Core.Path.{refl}
-use Rattle.verdicts.specs.Telling.{withNumbers}
+use Rattle.proposals.specs.Telling.{withNumbers}
 use Rattle.verdicts.proofs.judging.tell.Statement.{statement}
 use Rattle.verdicts.proofs.judging.tell.Tie as tie
 

@@ -1,0 +1,9 @@
+pub mod Keeps
+pub mod Layout
+pub mod Meaning
+pub mod Prepared
+pub mod ProbeMeaning
+pub mod ProbeReasons
+pub mod Reasons
+pub mod RowReasons
+pub mod SameBut

@@ -1,4 +1,0 @@
-pub mod Checks
-pub mod Meaning
-pub mod Reasons
-pub mod Sides

@@ -1,0 +1,3 @@
+pub mod OutputLaws
+pub mod ReductionLaws
+pub mod WorkedOutput

@@ -1,0 +1,36 @@
+-- `report_line::write_none` writes noneLine piece by piece (`_⨾_`). Assumes nothing.
+use borrow.Author.Needs.{needs}
+use native.Mathlib.Omega.{arith}
+use Rattle.report.specs.Report.{noneLine}
+use Rattle.text.proofs.TextLaws.{_⨾_}
+use Rattle.report_line.proofs.write_none.Statement.{statement}
+use Rattle.report_line.proofs.write_none.Tie as tie
+
+slice-aggregate-write-text : tie.Need-slice-aggregate-write-text
+slice-aggregate-write-text c = search needs
+
+write-text-requires : tie.Need-write-text-requires
+write-text-requires c κs = search needs
+
+write-byte-requires : tie.Need-write-byte-requires
+write-byte-requires c κs = search needs
+
+same-length : tie.Need-same-length
+same-length c = search needs
+
+returns : tie.Need-returns
+unfolding noneLine
+returns c =
+    let w2 = c .before .before in
+    let w1 = w2 .before .before .before .before in
+    (w1 .write-text .ensures ⨾ w2 .write-byte .ensures, omega arith)
+
+pub write-none-spec : {M : Type 1} → statement M
+write-none-spec =
+    tie.close
+    (tie.spec
+    slice-aggregate-write-text
+    write-text-requires
+    write-byte-requires
+    same-length
+    returns)

@@ -1,3 +1,0 @@
-pub mod RoundLaws
-pub mod SpentLaws
-pub mod RestLaws

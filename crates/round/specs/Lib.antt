@@ -1,4 +1,0 @@
-pub mod Round
-pub mod Phase
-pub mod TightenedAt
-pub mod Rest

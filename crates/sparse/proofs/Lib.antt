@@ -1,3 +1,0 @@
-pub mod SparseCallLaws
-pub mod ConversionLaws
-pub mod RoomLaws

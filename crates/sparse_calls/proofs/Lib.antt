@@ -1,0 +1,2 @@
+pub mod SparseCallLaws
+pub mod ConversionLaws

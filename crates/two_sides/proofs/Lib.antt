@@ -1,0 +1,2 @@
+pub mod ImplicationLoops
+pub mod JoinLaws

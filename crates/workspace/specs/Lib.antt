@@ -1,3 +1,0 @@
-pub mod Kept
-pub mod Layout
-pub mod Prepared
