@@ -10,7 +10,7 @@ use native.Mathlib.Decide.{ℕ-discrete}
 use native.Mathlib.Nat.{mul-le-mul-right, suc-mul}
 use native.Mathlib.Omega.{arith}
 use Rattle.integer.proofs.Tests.{false→T, true→T}
-use Rattle.marked_row.proofs.MarkedRowLaws.{visit-zero}
+use Rattle.marked_row.proofs.MarkedRowLaws.{zero-stays}
 use Rattle.model.specs.Box.{NonEmpty, emptyBox}
 use Rattle.model.specs.Rows.{Row, Rows, isEquality, rowAt}
 use Rattle.model.proofs.BoxLaws.{inside-refl, not-in-empty}
@@ -89,7 +89,7 @@ module _ {ws W : List ℕ} {r : ℕ} {B seen : List ℤ} {D : List ℕ} (v : Loo
     set = v .set;
     oldLen = rw (v .known) (v .words .box .len);
     newLen = rw q (kinded-valid row (v .words .box) .len);
-    elsewhere = λ k h e. rw (v .known, q) (visit-zero n row B f k h e);
+    elsewhere = λ k h e. rw (v .known, q) (zero-stays n row B f k h e);
   }
 
   pub moved-blaming : {Q : List ℤ} {R : List ℕ} → Lent n R → Q ≡ propagateRowOf n row B .box → T (not (isInfeasible (propagateRowOf n row B .outcome)))

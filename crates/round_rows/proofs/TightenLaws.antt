@@ -53,40 +53,40 @@ module _ (s : State) (r k : ℕ) where
   tightening = tightenRowOf (s .model .n) (rowAt (s .model .n) (s .model .rows) r) (s .model .box) k
 
   -- it stays; a coefficient of an = row does anyway
-  quiet : mayTighten (at row k) (maxActivity (s .model .n) row (s .model .box)) (at (s .model .rows .rhs) r) ≡ false → T (not (isChanged (tightening .outcome)))
+  untightened : mayTighten (at row k) (maxActivity (s .model .n) row (s .model .box)) (at (s .model .rows .rhs) r) ≡ false → T (not (isChanged (tightening .outcome)))
   unfolding isChanged
-  quiet h = tighten-kinded-ind (s .model .n) (rowAt (s .model .n) (s .model .rows) r) (s .model .box) k (λ q. T (not (isChanged (q .outcome))))
+  untightened h = tighten-kinded-ind (s .model .n) (rowAt (s .model .n) (s .model .rows) r) (s .model .box) k (λ q. T (not (isChanged (q .outcome))))
       (λ _. cond-ind (isEmpty (s .model .n) (s .model .box)) outcomes.infeasible outcomes.unchanged (λ o. T (not (isChanged o))) (λ _. tt) (λ _. tt))
       (λ _. tighten-fails (s .model .n) row (at (s .model .rows .rhs) r) (s .model .box) k h)
 
   -- the call to tighten it leaves the state and changes nothing, refused or not
-  quiet-class : T (not (isChanged (tightening .outcome))) → isChange (classOf s (callOf s 4 r k 0)) ≡ false
+  untightened-class : T (not (isChanged (tightening .outcome))) → isChange (classOf s (callOf s 4 r k 0)) ≡ false
   unfolding callOf kindOf classOf perform isRefused isChange
-  quiet-class t = ⊎-elim
+  untightened-class t = ⊎-elim
       (λ f. ap isChange (tighten-class s (callOf s 4 r k 0) (eqb→eq (callFault s (callOf s 4 r k 0)) 0 f) refl)
       ∙ ap (λ (x : Bool). isChange (classBy (isInfeasible (tightening .outcome)) (not x))) (T→false (isChanged (tightening .outcome)) t)
       ∙ same-class (isInfeasible (tightening .outcome)))
       (λ f. rw (T→false (eqb (callFault s (callOf s 4 r k 0)) 0) f) refl)
       (decide (eqb (callFault s (callOf s 4 r k 0)) 0))
 
-  quiet-call : mayTighten (at row k) (maxActivity (s .model .n) row (s .model .box)) (at (s .model .rows .rhs) r) ≡ false → Leads s (callOf s 4 r k 0 ∷ []) s false
+  untightened-call : mayTighten (at row k) (maxActivity (s .model .n) row (s .model .box)) (at (s .model .rows .rhs) r) ≡ false → Leads s (callOf s 4 r k 0 ∷ []) s false
   unfolding run anyChange act callOf kindOf
-  quiet-call h =
-      let t = quiet h in
+  untightened-call h =
+      let t = untightened h in
       let u = tighten-kinded-unchanged (s .model .n) (rowAt (s .model .n) (s .model .rows) r) (s .model .box) k t in
       record {
         left = sym (step-ind s (callOf s 4 r k 0) (λ x. x ≡ s) (λ _. withRow-same s r (tightening .row) u) refl);
-        changed = sym (or-false (isChange (classOf s (callOf s 4 r k 0))) ∙ quiet-class t);
+        changed = sym (or-false (isChange (classOf s (callOf s 4 r k 0))) ∙ untightened-class t);
       }
 
   -- so the turn of a variable that is not free, or whose coefficient fails the test, is made by doing nothing
-  pub quiet-turn : {most : ℤ} → k < s .model .n → most ≡ maxActivity (s .model .n) row (s .model .box)
+  pub untightened-turn : {most : ℤ} → k < s .model .n → most ≡ maxActivity (s .model .n) row (s .model .box)
       → (isFree (s .model .box) k && mayTighten (at (s .model .rows .coefs) (r * s .model .n + k)) most (at (s .model .rows .rhs) r)) ≡ false → Leads s (tightenCall r k s) s false
   unfolding tightenCall
-  quiet-turn {most} h e z = go (isFree (s .model .box) k) z
+  untightened-turn {most} h e z = go (isFree (s .model .box) k) z
     where
       go : (free : Bool) → (free && mayTighten (at (s .model .rows .coefs) (r * s .model .n + k)) most (at (s .model .rows .rhs) r)) ≡ false → Leads s (cond free (callOf s 4 r k 0 ∷ []) []) s false
-      go true q = quiet-call (rw (at-rowOf (s .model .n) (s .model .rows .coefs) r k h, sym e) q)
+      go true q = untightened-call (rw (at-rowOf (s .model .n) (s .model .rows .coefs) r k h, sym e) q)
       go false q = no-call s
 
 -- what is asked where the greatest activity of a row is found, and where a coefficient is tested

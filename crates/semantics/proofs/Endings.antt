@@ -24,10 +24,10 @@ use Rattle.semantics.proofs.PropagateLaws.{look-ind, pass-infeasible-bo
 
 -- ---- the endings differ
 
-abbrev IsSettled : Ending → Type 0
-IsSettled infeasible = ⊥
-IsSettled converged = Unit {0}
-IsSettled budgetSpent = ⊥
+abbrev IsConverged : Ending → Type 0
+IsConverged infeasible = ⊥
+IsConverged converged = Unit {0}
+IsConverged budgetSpent = ⊥
 
 pub spent-iff : (e : Ending) → (e ≡ budgetSpent) ↔ T (isSpent e)
 unfolding isSpent
@@ -43,17 +43,17 @@ module _ (budget m p : ℕ) (A : Rows) {n : ℕ} (h : 0 < n) where
   ends-infeasible : Said infeasible (emptyBox n)
   unfolding isSpent
   ends-infeasible = record {
-    settled = ((λ q. absurd (subst IsSettled (sym q) tt)), (λ f. absurd (void (f .nonEmpty))));
-    spent = ((λ q. absurd (spent-iff infeasible .0 q)), (λ f. absurd (void (f .0))));
+    settled = ((λ q. absurd (subst IsConverged (sym q) tt)), (λ f. absurd (none-within (f .nonEmpty))));
+    spent = ((λ q. absurd (spent-iff infeasible .0 q)), (λ f. absurd (none-within (f .0))));
   }
     where
-      void : NonEmpty n (emptyBox n) → ⊥
-      void q = not-in-empty n (emptyBox n) h q (inside-refl n (emptyBox n))
+      none-within : NonEmpty n (emptyBox n) → ⊥
+      none-within q = not-in-empty n (emptyBox n) h q (inside-refl n (emptyBox n))
 
   -- a quiet box is Settled
-  ends-quiet : {P : List ℤ} → Fixpoint n m A P → Said converged P
+  ends-fixpoint : {P : List ℤ} → Fixpoint n m A P → Said converged P
   unfolding isSpent
-  ends-quiet {P} f = record {
+  ends-fixpoint {P} f = record {
     settled = ((λ _. f), (λ _. refl));
     spent = ((λ q. absurd (spent-iff converged .0 q)), (λ q. absurd (still q)));
   }
@@ -65,7 +65,7 @@ module _ (budget m p : ℕ) (A : Rows) {n : ℕ} (h : 0 < n) where
   ends-moving : {P : List ℤ} → NonEmpty n P → p ≡ budget → firstMoving n m A P < m → Said budgetSpent P
   unfolding firstMoving isInfeasible isChanged
   ends-moving {P} q e l = record {
-    settled = ((λ g. absurd (subst IsSettled (sym g) tt)), (λ f. absurd (moves (f .same (firstMoving n m A P) l))));
+    settled = ((λ g. absurd (subst IsConverged (sym g) tt)), (λ f. absurd (moves (f .same (firstMoving n m A P) l))));
     spent = ((λ _. (q, e, (firstMoving n m A P, l, λ o. moves (kinded-unchanged (rowAt n A (firstMoving n m A P)) q (rw o tt) (rw o tt))))), (λ _. refl));
   }
     where
@@ -77,12 +77,12 @@ module _ (m : ℕ) (A : Rows) {n : ℕ} (h : 0 < n) where
       → let r = propagateFrom left made sum n m A B in EndsAs budget n m A (r .box) (r .ending) (r .passes)
   unfolding propagateFrom
   propagateFrom-ends-as zero made sum budget {B} e p = look-ind n m A B (λ q. EndsAs budget n m A B q made)
-      (ends-moving budget m made A h p (omega arith)) (λ t. ends-quiet budget m made A h (fixpoint-test n m A B p .0 t))
+      (ends-moving budget m made A h p (omega arith)) (λ t. ends-fixpoint budget m made A h (fixpoint-test n m A B p .0 t))
   propagateFrom-ends-as (suc left) made sum budget {B} e p =
       propagateFrom-ind left made sum n m A B (λ r. EndsAs budget n m A (r .box) (r .ending) (r .passes))
       (λ t. rw (pass-infeasible-box n A m B t) (ends-infeasible budget m (suc made) A h))
       (λ t _. propagateFrom-ends-as left (suc made) (sum + passTo n m A B .moved) budget (omega arith) (pass-nonEmpty A m p t))
-      (λ t u. rw (pass-moved-none A p m t u) (ends-quiet budget m (suc made) A h (record { nonEmpty = p; same = pass-stays m A p t u })))
+      (λ t u. rw (pass-moved-none A p m t u) (ends-fixpoint budget m (suc made) A h (record { nonEmpty = p; same = pass-stays m A p t u })))
 
   -- of a settle of any box
   pub propagate-ends-as : (budget : ℕ) {B : List ℤ} → (B ≡ emptyBox n) ⊎ NonEmpty n B

@@ -23,10 +23,10 @@ use Rattle.semantics.proofs.PropagateLaws.{propagate-empty, propagate-i
 
 -- ---- the endings differ
 
-abbrev Settled : Ending → Type 0
-Settled infeasible = ⊥
-Settled converged = Unit {0}
-Settled budgetSpent = ⊥
+abbrev Converged : Ending → Type 0
+Converged infeasible = ⊥
+Converged converged = Unit {0}
+Converged budgetSpent = ⊥
 
 abbrev None : Ending → Type 0
 None infeasible = Unit {0}
@@ -48,17 +48,17 @@ module _ (m : ℕ) (A : Rows) {n : ℕ} (h : 0 < n) (B P : List ℤ) where
       → (T (isNone e) → (Q : List ℤ) → Fixpoint n m A Q → Inside n Q B → ⊥) → (T (not (isNone e)) → GreatestFixpoint n m A B P)
       → EndsGreatest n m A B P e
   unfolding isSpent isNone
-  ends-by infeasible t void none greatest = record {
+  ends-by infeasible t empty none greatest = record {
     notSpent = not-spent infeasible tt;
-    greatest = ((λ q. absurd (subst None q tt)), (λ g. absurd (not-empty (void tt) g)));
+    greatest = ((λ q. absurd (subst None q tt)), (λ g. absurd (not-empty (empty tt) g)));
     none = ((λ _. none tt), (λ _. refl));
   }
-  ends-by converged t void none greatest = record {
+  ends-by converged t empty none greatest = record {
     notSpent = not-spent converged tt;
     greatest = ((λ _. greatest tt), (λ _. refl));
-    none = ((λ q. absurd (subst Settled q tt)), (λ f. absurd (f P (greatest tt .fixpoint) (greatest tt .inside))));
+    none = ((λ q. absurd (subst Converged q tt)), (λ f. absurd (f P (greatest tt .fixpoint) (greatest tt .inside))));
   }
-  ends-by budgetSpent t void none greatest = absurd t
+  ends-by budgetSpent t empty none greatest = absurd t
 
 -- ---- a settle
 

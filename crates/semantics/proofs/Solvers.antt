@@ -39,9 +39,9 @@ module _ (n m : ℕ) (A : Rows) (B : List ℤ) (h : 0 < n) (p : NonEmpty n B) (b
   not-empty : B ≡ emptyBox n → ⊥
   not-empty e = not-in-empty n B h p (subst (Inside n B) e (inside-refl n B))
 
-  still-quiet : propagate budget n m A B .box ≡ B → Fixpoint n m A B
+  still-fixpoint : propagate budget n m A B .box ≡ B → Fixpoint n m A B
   unfolding EnoughPasses
-  still-quiet same =
+  still-fixpoint same =
       let r = propagate budget n m A B in
       let e : Ends n m A B r = propagate-ends budget n m A B h p enough in
       let t = not-T (isNone (r .ending)) (λ t. not-empty (sym same ∙ propagate-infeasible-box n m A budget B t)) in
@@ -63,7 +63,7 @@ nothing-moves-rests s v w = ⊎-elim
     let M = s .model in
     let q = w .settle in
     inr (record {
-      fixpoint = still-quiet (M .n) (M .m) (M .rows) (M .box) (v .model .some) p (q .0) (q .1) (q .2);
+      fixpoint = still-fixpoint (M .n) (M .m) (M .rows) (M .box) (v .model .some) p (q .0) (q .1) (q .2);
       spans = λ k kn f. let r = w .probes k kn f in
           still-spans (M .n) (M .m) (M .rows) (M .box) (v .model .some) p (r .0) (r .1) k (s .table) kn f (r .2);
     }))

@@ -24,7 +24,7 @@ use Rattle.semantics.specs.Perform.{Answer, Performed, act, perform, pro
 use Rattle.semantics.specs.Probe.{fix, probe, sideOf}
 use Rattle.semantics.specs.Propagate.{Ending, budgetSpent, converged, infeasible, isNone, isSpent, propagate}
 use Rattle.semantics.specs.Run.{CallClass, answersNone, changedCall, classOf, infeasibleCall, isRefused, probeInfeasible, refusalOf, refusedCall, run, step, unchangedCall}
-use Rattle.semantics.specs.Unmoved.{UnmovedQuiet, UnmovedSpans}
+use Rattle.semantics.specs.Unmoved.{UnmovedFixpoint, UnmovedSpans}
 use Rattle.semantics.proofs.CallLaws.{step-ind}
 use Rattle.semantics.proofs.Convergence.{side-moves}
 use Rattle.semantics.proofs.Demand2.{demand-2}
@@ -36,21 +36,21 @@ use Rattle.semantics.proofs.PropagateLaws.{propagate-empty, propagate-k
 -- ---- one settle
 
 -- neither None nor Spent is Settled
-settled-is : (e : Ending) → T (not (isNone e)) → (e ≡ budgetSpent → ⊥) → e ≡ converged
+converged-is : (e : Ending) → T (not (isNone e)) → (e ≡ budgetSpent → ⊥) → e ≡ converged
 unfolding isNone
-settled-is infeasible t f = absurd t
-settled-is converged t f = refl
-settled-is budgetSpent t f = absurd (f refl)
+converged-is infeasible t f = absurd t
+converged-is converged t f = refl
+converged-is budgetSpent t f = absurd (f refl)
 
-pub unmoved-quiet : UnmovedQuiet
-unfolding UnmovedQuiet
-unmoved-quiet budget n m A B h p b t same =
+pub unmoved-fixpoint : UnmovedFixpoint
+unfolding UnmovedFixpoint
+unmoved-fixpoint budget n m A B h p b t same =
     let r = propagate budget n m A B in
     let e = propagate-ends-as m A h budget (inr p) in
     let z = propagate-moved-iff m A budget p t .1 same in
     let l = propagate-moved-passes n m A budget B in
     let spent : r .ending ≡ budgetSpent → ⊥ = λ q. let w = e .spent .0 q .1 in let y : ⊥ = omega arith in y in
-    subst (Fixpoint n m A) same (e .settled .0 (settled-is (r .ending) t spent))
+    subst (Fixpoint n m A) same (e .settled .0 (converged-is (r .ending) t spent))
 
 -- ---- one probe
 
@@ -59,12 +59,12 @@ unfolding isSpent
 not-spent e t q = subst (λ (x : Ending). T (not (isSpent x))) q t
 
 -- a settle that is neither None nor Spent, whatever its budget, ends in the greatest fixpoint inside its box
-pub settled-greatest : (budget m : ℕ) (A : Rows) {n : ℕ} {B : List ℤ} → 0 < n → NonEmpty n B → let r = propagate budget n m A B in
+pub converged-greatest : (budget m : ℕ) (A : Rows) {n : ℕ} {B : List ℤ} → 0 < n → NonEmpty n B → let r = propagate budget n m A B in
     T (not (isNone (r .ending))) → T (not (isSpent (r .ending))) → GreatestFixpoint n m A B (r .box)
-settled-greatest budget m A {n} {B} h p t u =
+converged-greatest budget m A {n} {B} h p t u =
     let r = propagate budget n m A B in
     record {
-      fixpoint = propagate-ends-as m A h budget (inr p) .settled .0 (settled-is (r .ending) t (not-spent (r .ending) u));
+      fixpoint = propagate-ends-as m A h budget (inr p) .settled .0 (converged-is (r .ending) t (not-spent (r .ending) u));
       inside = propagate-shrinks n m A budget B t;
       greatest = λ Q q i. propagate-keeps h q budget i;
     }
@@ -85,8 +85,8 @@ unmoved-spans k budget n m A B t kn p f =
     record {
       q0 = propagate budget n m A (fix n B k 0) .box;
       q1 = propagate budget n m A (fix n B k 1) .box;
-      greatest0 = settled-greatest budget m A h (fix-nonEmpty k 0 p) x (not-or-l a b u);
-      greatest1 = settled-greatest budget m A h (fix-nonEmpty k 1 p) y (not-or-r a b u);
+      greatest0 = converged-greatest budget m A h (fix-nonEmpty k 0 p) x (not-or-l a b u);
+      greatest1 = converged-greatest budget m A h (fix-nonEmpty k 1 p) y (not-or-r a b u);
       span = e;
     })
 

@@ -30,9 +30,9 @@ unfoldable pub anySpent : State → List Call → Bool
 anySpent s [] = false
 anySpent s (c ∷ cs) = sideSpent (perform s c .answer) || anySpent (step s c) cs
 
--- a settle of two passes or more that is not None and leaves the box: the box is quiet, Spent or not (`unmoved-quiet`)
-unfoldable pub UnmovedQuiet : Type 0
-UnmovedQuiet =
+-- a settle of two passes or more that is not None and leaves the box: the box is quiet, Spent or not (`unmoved-fixpoint`)
+unfoldable pub UnmovedFixpoint : Type 0
+UnmovedFixpoint =
     (budget n m : ℕ) (A : Rows) (B : List ℤ) → 0 < n → NonEmpty n B → 2 ≤ budget → let r = propagate budget n m A B in
     T (not (isNone (r .ending))) → r .box ≡ B → Fixpoint n m A B
 

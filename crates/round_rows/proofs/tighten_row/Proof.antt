@@ -1,5 +1,5 @@
 -- `round_rows::tighten_row`: the invariant says that the calls so far were made and that `most` is Lmax of the row as it is. A variable that
--- is not free is passed over, and the call for a coefficient that fails the test would change nothing (`quiet-turn`). Assumes nothing.
+-- is not free is passed over, and the call for a coefficient that fails the test would change nothing (`untightened-turn`). Assumes nothing.
 use Prim.Native.Nat.{_*_, _+_, _-_, ℕ}
 use lib.ListN.{replicate}
 use mathlib.Core.Bool.{_&&_}
@@ -22,7 +22,7 @@ use Rattle.probe_step.proofs.AcceptedLaws.{ran-tighten}
 use Rattle.model.specs.State.{stateOf}
 use Rattle.rounds.specs.Round.{tightenCall, tightenRow}
 use Rattle.rounds.proofs.RoundLaws.{AnyTurns, accepts-tightening, all-turns, any-lengths, any-valid, any-within, call-turn, flag-kept, flag-raised, leads-valid, no-turn, one-call, turn, turns-valid}
-use Rattle.round_rows.proofs.TightenLaws.{looked-at, quiet-turn, row-ready}
+use Rattle.round_rows.proofs.TightenLaws.{looked-at, untightened-turn, row-ready}
 use Rattle.round_rows.proofs.tighten_row.Statement.{statement}
 use Rattle.round_rows.proofs.tighten_row.Tie as tie
 
@@ -127,7 +127,7 @@ loop-again c =
       toZ-ofZ {w = w64} (record { sfits = w .10 .ok }) ∙ w .10 .ensures,
     ))
     (λ w. rw (w .1, w .2, w .3) (
-      record { beside = λ u v. turn n f (l .inv .0 .beside u v) h (quiet-turn (stateOf n m B A u) r (l .k) h (l .inv .1) (known ∙ w .0 .left)) (flag-kept (l .changed) refl (w .4)) },
+      record { beside = λ u v. turn n f (l .inv .0 .beside u v) h (untightened-turn (stateOf n m B A u) r (l .k) h (l .inv .1) (known ∙ w .0 .left)) (flag-kept (l .changed) refl (w .4)) },
       l .inv .1,
     ))
     (c .if1 .came)

@@ -1,4 +1,4 @@
--- `page_call::calls::count_fault`: the checks are passed in their order. Assumes nothing.
+-- `page_call::open::count_fault`: the checks are passed in their order. Assumes nothing.
 use borrow.Author.Needs.{needs}
 use Prim.Native.Nat.{ℕ}
 use Rattle.integer.proofs.Tests.{told-false, told-true}
@@ -7,8 +7,8 @@ use Rattle.model.specs.Checks.{Check, first, sizeChecks, tableByteChecks, table
 use Rattle.pages.specs.PageChecks.{countChecks, lentChecks}
 use mathlib.Core.List.{List, _++_}
 use mathlib.Core.Path.{_≡_}
-use Rattle.page_call.proofs.calls.count_fault.Statement.{statement}
-use Rattle.page_call.proofs.calls.count_fault.Tie as tie
+use Rattle.page_call.proofs.open.count_fault.Statement.{statement}
+use Rattle.page_call.proofs.open.count_fault.Tie as tie
 
 lent-fault-requires : tie.Need-lent-fault-requires
 lent-fault-requires c κs = search needs

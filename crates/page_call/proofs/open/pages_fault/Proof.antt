@@ -1,4 +1,4 @@
--- `page_call::calls::pages_fault`: the checks are passed in their order; the room is compared once the table has its length. Assumes
+-- `page_call::open::pages_fault`: the checks are passed in their order; the room is compared once the table has its length. Assumes
 -- nothing.
 use borrow.Author.Needs.{needs}
 use Prim.Native.Nat.{_*_, ℕ}
@@ -13,8 +13,8 @@ use lib.Dec.{eqb}
 use lib.ListN.{length}
 use mathlib.Core.List.{List, _++_, _∷_}
 use mathlib.Core.Path.{_∙_, _≡_, sym}
-use Rattle.page_call.proofs.calls.pages_fault.Statement.{statement}
-use Rattle.page_call.proofs.calls.pages_fault.Tie as tie
+use Rattle.page_call.proofs.open.pages_fault.Statement.{statement}
+use Rattle.page_call.proofs.open.pages_fault.Tie as tie
 
 lent-fault-requires : tie.Need-lent-fault-requires
 lent-fault-requires c κs = search needs

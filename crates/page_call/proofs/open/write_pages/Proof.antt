@@ -1,4 +1,4 @@
--- `page_call::calls::write_pages`: refused by the first check that fails, and nothing is written; else the pages. Assumes nothing.
+-- `page_call::open::write_pages`: refused by the first check that fails, and nothing is written; else the pages. Assumes nothing.
 use borrow.Author.Needs.{needs}
 use Rattle.model.specs.Checks.{first}
 use Rattle.page_call.proofs.AnswerLaws.{accepted-by, all-printed, left-alone, refused-by}
@@ -7,8 +7,8 @@ use Rattle.page_call.specs.Answers.{pagesAnswer, pagesCall}
 use Rattle.pages.specs.PageChecks.{pageChecks}
 use lib.ListN.{length}
 use mathlib.Core.Path.{_∙_, _≡_, sym}
-use Rattle.page_call.proofs.calls.write_pages.Statement.{statement}
-use Rattle.page_call.proofs.calls.write_pages.Tie as tie
+use Rattle.page_call.proofs.open.write_pages.Statement.{statement}
+use Rattle.page_call.proofs.open.write_pages.Tie as tie
 
 pages-fault-requires : tie.Need-pages-fault-requires
 pages-fault-requires c κs = search needs

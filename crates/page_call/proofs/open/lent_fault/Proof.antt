@@ -1,4 +1,4 @@
--- `page_call::calls::lent_fault`: the checks are passed in their order; 4n · n is 4n². Assumes nothing.
+-- `page_call::open::lent_fault`: the checks are passed in their order; 4n · n is 4n². Assumes nothing.
 use borrow.Author.Needs.{needs}
 use Prim.Native.Nat.{_*_, ℕ}
 use Rattle.integer.proofs.Tests.{told-false, told-true}
@@ -9,8 +9,8 @@ use Rattle.pages.specs.PageChecks.{lentChecks}
 use mathlib.Core.List.{List, _++_}
 use mathlib.Core.Path.{_∙_, _≡_, sym}
 use native.Mathlib.Omega.{arith}
-use Rattle.page_call.proofs.calls.lent_fault.Statement.{statement}
-use Rattle.page_call.proofs.calls.lent_fault.Tie as tie
+use Rattle.page_call.proofs.open.lent_fault.Statement.{statement}
+use Rattle.page_call.proofs.open.lent_fault.Tie as tie
 
 size-fault-requires : tie.Need-size-fault-requires
 size-fault-requires c κs = search needs

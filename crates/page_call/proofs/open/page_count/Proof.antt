@@ -1,4 +1,4 @@
--- `page_call::calls::page_count`: refused by the first check that fails, and else the number of pages. Assumes nothing.
+-- `page_call::open::page_count`: refused by the first check that fails, and else the number of pages. Assumes nothing.
 use borrow.Author.Needs.{needs}
 use Rattle.model.specs.Checks.{first}
 use Rattle.page_call.proofs.AnswerLaws.{accepted-by, refused-by}
@@ -6,8 +6,8 @@ use Rattle.page_call.proofs.CheckedLaws.{count-passed}
 use Rattle.page_call.specs.Answers.{countAnswer, countCall}
 use Rattle.pages.specs.PageChecks.{countChecks}
 use mathlib.Core.Path.{_∙_, _≡_, sym}
-use Rattle.page_call.proofs.calls.page_count.Statement.{statement}
-use Rattle.page_call.proofs.calls.page_count.Tie as tie
+use Rattle.page_call.proofs.open.page_count.Statement.{statement}
+use Rattle.page_call.proofs.open.page_count.Tie as tie
 
 count-fault-requires : tie.Need-count-fault-requires
 count-fault-requires c κs = search needs
