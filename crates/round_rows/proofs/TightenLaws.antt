@@ -13,7 +13,7 @@ use Rattle.integer.proofs.Tests.{cond-ind, T→false, decide}
 use Rattle.model.specs.Box.{isEmpty, at, isFree}
 use Rattle.semantics.specs.Perform.{act, perform}
 use Rattle.model.specs.Valid.{ValidModel}
-use Rattle.semantics.specs.Run.{classOf, run, isRefused}
+use Rattle.semantics.specs.Run.{classOf, isRefused, run}
 use Rattle.model.specs.Model.{Model}
 use Rattle.model.specs.Rows.{rowAt, rowOf}
 use Rattle.row.specs.Activity.{maxActivity}
@@ -25,13 +25,13 @@ use Rattle.row.specs.ValidRow.{ValidCoefs}
 use Rattle.row.proofs.RowLoops.{coefs-small, max-activity-small}
 use Rattle.row.proofs.KindChangeLaws.{tighten-kinded-ind, tighten-kinded-unchanged}
 use Rattle.row.proofs.TighteningLaws.{tighten-fails}
-use Rattle.semantics.specs.CallChecks.{callFault}
 use Rattle.semantics.specs.Call.{callOf, kindOf}
+use Rattle.semantics.specs.CallChecks.{callFault}
 use Rattle.model.specs.State.{State}
-use Rattle.semantics.proofs.CallLaws.{step-ind}
+use Rattle.call_laws.proofs.CallLaws.{step-ind}
 use Rattle.rounds.specs.Round.{anyChange, isChange, tightenCall}
-use Rattle.semantics.proofs.ClassLaws.{classBy, tighten-class}
-use Rattle.semantics.proofs.RowChange.{row-valid, withRow-same}
+use Rattle.call_laws.proofs.ClassLaws.{classBy, tighten-class}
+use Rattle.call_laws.proofs.RowChange.{row-valid, withRow-same}
 use Rattle.model.proofs.RowsLaws.{at-rowOf}
 use Rattle.matrix_view.proofs.RowInLaws.{row-fits}
 use Rattle.round_rows.specs.TightenedAt.{TightenedAt}

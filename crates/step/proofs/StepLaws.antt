@@ -7,15 +7,15 @@ use mathlib.Core.List.{List}
 use mathlib.Core.Logic.{_⊎_, ⊎-elim}
 use mathlib.Core.Path.{_∙_, _≡_, ap, refl, sym}
 use Rattle.model.specs.Rows.{Rows}
+use Rattle.semantics.specs.Call.{Call, callOf, hasBudget, hasRow, hasVariable, isRetired, isUnknown, kindOf, unknown}
 use Rattle.semantics.specs.CallChecks.{callChecks, callFault, givenModel, isLent, listedChecks, listedFault, recordChecks}
 use Rattle.semantics.specs.Perform.{Performed, act, perform}
 use Rattle.semantics.specs.Run.{CallClass, classListed, classOf, refusedCall, step, stepListed}
-use Rattle.semantics.specs.Call.{Call, callOf, hasBudget, hasRow, hasVariable, isRetired, isUnknown, kindOf, unknown}
 use Rattle.model.specs.State.{State, stateOf}
 use Rattle.model.specs.Checks.{first, modelChecks}
 use Rattle.model.specs.Valid.{ValidState}
-use Rattle.semantics.proofs.Accepted.{fault-listed-own}
-use Rattle.semantics.proofs.ListedLaws.{class-direct, class-listed-refused, listed-fault, step-direct}
+use Rattle.call_laws.proofs.Accepted.{fault-listed-own}
+use Rattle.demands.proofs.ListedLaws.{class-direct, class-listed-refused, listed-fault, step-direct}
 use Rattle.call.specs.FieldChecks.{budgetChecks, probeChecks, rowChecks, variableChecks}
 use Rattle.probe_step.proofs.AcceptedLaws.{Ran}
 

@@ -4,12 +4,12 @@ use borrow.Author.Needs.{needs}
 use mathlib.Core.Path.{_∙_, _≡_, sym}
 use Rattle.model.specs.Valid.{ValidModel}
 use Rattle.model.proofs.CheckLaws.{table-fault-none}
-use Rattle.semantics.specs.CallChecks.{lentTable}
 use Rattle.semantics.specs.Call.{hasTable, kindOf}
+use Rattle.semantics.specs.CallChecks.{lentTable}
 use Rattle.model.specs.Rows.{rowsOf}
 use Rattle.model.specs.State.{State, stateOf}
 use Rattle.model.specs.Model.{modelOf}
-use Rattle.semantics.proofs.Accepted.{modelFaultOf}
+use Rattle.call_laws.proofs.Accepted.{modelFaultOf}
 use Rattle.call.proofs.FieldLaws.{own-probe}
 use Rattle.open_checks.proofs.RefusalLaws.{model-refuses, own-fault}
 use Rattle.open_checks.proofs.probe_fault.Statement.{statement}

@@ -4,11 +4,11 @@ use borrow.Author.Needs.{needs}
 use lib.IntN.{ℤ}
 use mathlib.Core.List.{List}
 use mathlib.Core.Path.{_∙_, _≡_, ap, sym}
-use Rattle.semantics.specs.CallChecks.{callFault}
 use Rattle.semantics.specs.Call.{Call, callOf, hasTable, hasVariable, kindOf}
+use Rattle.semantics.specs.CallChecks.{callFault}
 use Rattle.model.specs.Rows.{rowsOf}
 use Rattle.model.specs.State.{State, stateOf}
-use Rattle.semantics.proofs.Accepted.{accepted}
+use Rattle.call_laws.proofs.Accepted.{accepted}
 use Rattle.reducer.specs.OpenCalls.{performed, probeAnswer}
 use Rattle.reducer.proofs.OpenCallLaws.{perform-refused, probing-performed, promised-ends}
 use Rattle.probe_call.proofs.probe.Statement.{statement}
