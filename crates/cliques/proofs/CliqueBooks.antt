@@ -31,10 +31,10 @@ use Rattle.row.specs.Tightening.{tightenAt, tightenCoefficient}
 use Rattle.semantics.specs.Books.{AllHold, boxed, callOn, fresh, freshKinds, kept, probeCall as probeCall, propagateCall, propagateRowCall, removeCall, rowed, tightenCall}
 use Rattle.semantics.specs.Call.{hasBudget, hasRow, hasTable, hasVariable, isUnknown, kindOf, lengthsOf}
 use Rattle.semantics.specs.CallChecks.{callChecks, callFault, givenModel, isLent, lentTable, recordChecks}
+use Rattle.semantics.specs.Probe.{byteOf, fix, hull, implies, isFixed, joinSides, literal, ones, probe, put, recordSide, recordTo, sideOf}
 use Rattle.semantics.specs.FixpointTest.{firstMoving, isFixpoint}
 use Rattle.semantics.specs.Lowest.{lowest}
 use Rattle.semantics.specs.Perform.{act, perform}
-use Rattle.semantics.specs.Probe.{byteOf, fix, hull, implies, isFixed, joinSides, literal, ones, probe, put, recordSide, recordTo, sideOf}
 use Rattle.semantics.specs.Propagate.{isNone, isSpent, lastLook, passRow, passTo, propagate, propagateFrom}
 use Rattle.semantics.specs.RestTest.{isProbingFixpoint, sidesSpan}
 use Rattle.semantics.specs.Run.{run, step}

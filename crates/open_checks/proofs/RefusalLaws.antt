@@ -10,8 +10,8 @@ use Rattle.model.specs.Checks.{modelFault, none}
 use Rattle.model.specs.Model.{modelOf}
 use Rattle.model.specs.Rows.{Rows}
 use Rattle.model.specs.State.{State, stateOf}
-use Rattle.semantics.specs.Call.{callOf, hasTable, kindOf}
 use Rattle.semantics.specs.CallChecks.{callFault, lentTable}
+use Rattle.semantics.specs.Call.{callOf, hasTable, kindOf}
 use Rattle.call_laws.proofs.Accepted.{fault-of-own, modelFaultOf}
 use Rattle.call.proofs.FieldLaws.{ownFault}
 

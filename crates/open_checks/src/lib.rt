@@ -6,8 +6,8 @@ use call::checks::row_fault;
 use call::checks::tightening_fields_fault;
 ghost use mathlib.Core.List.{[]};
 ghost use mathlib.Core.Path.{_≡_};
-ghost use Rattle.semantics.specs.Call.{callOf};
 ghost use Rattle.semantics.specs.CallChecks.{callFault};
+ghost use Rattle.semantics.specs.Call.{callOf};
 ghost use Rattle.model.specs.Rows.{rowsOf};
 ghost use Rattle.model.specs.State.{stateOf};
 

@@ -15,16 +15,16 @@ use Rattle.row.specs.KindChanges.{ChangedRow, removeRowOf, tightenRowOf}
 use Rattle.row.specs.Kinds.{propagateRowOf}
 use Rattle.row.specs.declared.propagation.RowPropagation.{RowPropagation}
 use Rattle.row.specs.declared.propagation.RowPropagation.the-variants as visits
-use Rattle.semantics.specs.Call.{Call, callOf, kindOf, probing, propagation, removal, rowPropagation, tightening}
 use Rattle.semantics.specs.CallChecks.{callFault}
 use Rattle.semantics.specs.Perform.{Performed, act, perform}
 use Rattle.semantics.specs.Probe.{Probed, probe}
 use Rattle.semantics.specs.Propagate.{isNone, propagate}
 use Rattle.semantics.specs.Run.{CallClass, classOf, probeInfeasible, step}
+use Rattle.semantics.specs.Call.{Call, callOf, kindOf, probing, propagation, removal, rowPropagation, tightening}
 use Rattle.demands.specs.Unmoved.{sideSpent}
 use Rattle.model.specs.State.{State, stateOf, withBox, withRow}
 use Rattle.call_laws.proofs.CallLaws.{perform-accepted, step-accepted}
-use Rattle.call_laws.proofs.ClassLaws.{addsNone, classBy, probe-class, propagate-class, propagate-row-class, remove-class, tighten-class}
+use Rattle.call_laws.proofs.ClassLaws.{addsNone, classBy, probe-class, remove-class, propagate-class, tighten-class, propagate-row-class}
 use Rattle.call.specs.Classes.{outcomeClass, propagationClass}
 use Rattle.propagation.specs.Results.{propagationOf}
 use Rattle.marked_row.proofs.MarkedRowLaws.{left-by}

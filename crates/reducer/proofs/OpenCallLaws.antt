@@ -15,13 +15,13 @@ use Rattle.row.specs.Outcome.{Outcome}
 use Rattle.row.specs.KindChanges.{ChangedRow}
 use Rattle.row.specs.Kinds.{propagateRowOf}
 use Rattle.row.specs.Propagation.{PropagatedRow}
-use Rattle.semantics.specs.Call.{Call, callOf, hasRow, kindOf}
 use Rattle.semantics.specs.CallChecks.{callFault}
 use Rattle.semantics.specs.Perform.{Answer, Performed, act, perform, probed, propagated, propagatedRow, refused}
 use Rattle.semantics.specs.Probe.{Probed, probe}
 use Rattle.semantics.specs.Propagate.{Propagated, propagate}
 use Rattle.semantics.specs.RestTest.{Rest, atRest, byRow, byVariable, restFault, restOf}
 use Rattle.semantics.specs.Run.{answersNone, isRefused, step}
+use Rattle.semantics.specs.Call.{Call, callOf, hasRow, kindOf}
 use Rattle.call_laws.specs.Convergence.{ProbeMoves, RestAnswered, RestMeans}
 use Rattle.call_laws.specs.Points.{AtRest}
 use Rattle.demands.specs.Demand2.{CallMeans, Demand2, EndsAs, EndsGreatest}

@@ -16,12 +16,12 @@ use Rattle.row.specs.Outcome.{isChanged, isInfeasible}
 use Rattle.row.specs.Propagation.{impliedBox, newLower, newUpper, propagateRow, stays}
 use Rattle.row.specs.Redundancy.{removeRedundantRow, zeroRow}
 use Rattle.row.specs.Tightening.{tightenAt, tightenCoefficient}
-use Rattle.semantics.specs.Call.{callOf, hasBudget, hasRow, hasTable, hasVariable, isUnknown, kindOf, lengthsOf}
 use Rattle.semantics.specs.CallChecks.{callChecks, callFault, givenModel, isLent, lentTable, recordChecks}
 use Rattle.semantics.specs.Perform.{act, perform}
 use Rattle.semantics.specs.Probe.{byteOf, fix, hull, implies, isFixed, joinSides, literal, probe, put, recordSide, recordTo, sideOf}
 use Rattle.semantics.specs.Propagate.{isNone, isSpent, passRow, passTo, propagate, propagateFrom}
 use Rattle.semantics.specs.Run.{answersNone, classOf, isRefused, probeInfeasible, run, sameBytes, sameState, step}
+use Rattle.semantics.specs.Call.{callOf, hasBudget, hasRow, hasTable, hasVariable, isUnknown, kindOf, lengthsOf}
 use Rattle.model.specs.State.{stateOf, withBox, withRow}
 use Rattle.book.specs.Book.{bookLength, boundsOf, coefsOf, decode, kindsOf, modelIn, rhsOf, rowPlace, trailerOf}
 use Rattle.book.specs.BookChecks.{bookChecks, bookFault, givenLengthChecks, headChecks, layoutChecks, offsetChecks}

@@ -13,9 +13,9 @@ use Rattle.rounds.specs.Rounds as rounds
 use Rattle.row.specs.Outcome.{Outcome, changed, infeasible, unchanged}
 use Rattle.semantics.specs.CallList.{ListAnswer, ran, refusedList}
 use Rattle.semantics.specs.Perform.{Answer, probed, propagated, propagatedRow, refused, removed, tightened}
+use Rattle.semantics.specs.RestTest.{atRest, byRow, byVariable}
 use Rattle.semantics.specs.Probe as probe
 use Rattle.semantics.specs.Propagate as propagate
-use Rattle.semantics.specs.RestTest.{atRest, byRow, byVariable}
 use Rattle.ties.specs.TieCall as ties
 use Rattle.replies.specs.declared.reply.Reply as code
 use Rattle.replies.specs.declared.reply.Reply.the-variants as codes

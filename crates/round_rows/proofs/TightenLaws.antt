@@ -13,7 +13,7 @@ use Rattle.integer.proofs.Tests.{cond-ind, T→false, decide}
 use Rattle.model.specs.Box.{isEmpty, at, isFree}
 use Rattle.semantics.specs.Perform.{act, perform}
 use Rattle.model.specs.Valid.{ValidModel}
-use Rattle.semantics.specs.Run.{classOf, isRefused, run}
+use Rattle.semantics.specs.Run.{classOf, run, isRefused}
 use Rattle.model.specs.Model.{Model}
 use Rattle.model.specs.Rows.{rowAt, rowOf}
 use Rattle.row.specs.Activity.{maxActivity}
@@ -25,8 +25,8 @@ use Rattle.row.specs.ValidRow.{ValidCoefs}
 use Rattle.row.proofs.RowLoops.{coefs-small, max-activity-small}
 use Rattle.row.proofs.KindChangeLaws.{tighten-kinded-ind, tighten-kinded-unchanged}
 use Rattle.row.proofs.TighteningLaws.{tighten-fails}
-use Rattle.semantics.specs.Call.{callOf, kindOf}
 use Rattle.semantics.specs.CallChecks.{callFault}
+use Rattle.semantics.specs.Call.{callOf, kindOf}
 use Rattle.model.specs.State.{State}
 use Rattle.call_laws.proofs.CallLaws.{step-ind}
 use Rattle.rounds.specs.Round.{anyChange, isChange, tightenCall}

@@ -10,8 +10,8 @@ use native.Mathlib.Numerals.{add-one}
 use native.Mathlib.Omega.{arith}
 use Rattle.integer.proofs.Tests.{cond-ind, or-cases, true→T}
 use Rattle.model.specs.Box.{isEmpty}
-use Rattle.semantics.specs.Call.{Call}
 use Rattle.semantics.specs.Run.{CallClass, changedCall, classOf, infeasibleCall, refusedCall, run, step, unchangedCall}
+use Rattle.semantics.specs.Call.{Call}
 use Rattle.demands.specs.Measure.{CallsLower, MeasureLimit, maxMeasure, measure}
 use Rattle.model.specs.State.{State}
 use Rattle.call_laws.proofs.Accepted.{accepted-valid}

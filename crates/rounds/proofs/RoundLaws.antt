@@ -14,8 +14,8 @@ use Rattle.model.specs.Valid.{ValidModel, ValidState, ValidTable}
 use Rattle.semantics.specs.Run.{CallClass, classOf, run, step}
 use Rattle.model.specs.Model.{modelOf}
 use Rattle.model.specs.Rows.{Rows}
-use Rattle.semantics.specs.Call.{Call, callOf, hasBudget, hasRow, hasTable, hasVariable, isUnknown, kindOf}
 use Rattle.semantics.specs.CallChecks.{callFault}
+use Rattle.semantics.specs.Call.{Call, callOf, hasBudget, hasRow, hasTable, hasVariable, isUnknown, kindOf}
 use Rattle.model.specs.State.{State, stateOf}
 use Rattle.call_laws.proofs.Accepted.{accepts, lent-own}
 use Rattle.call_laws.proofs.Preserved.{Preserves, run-preserves}

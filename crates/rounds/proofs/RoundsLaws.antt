@@ -14,8 +14,8 @@ use Rattle.model.specs.Box.{isEmpty, at}
 use Rattle.model.proofs.BoxLaws.{isEmpty-test}
 use Rattle.call_laws.specs.Points.{PointOf, TableHolds}
 use Rattle.model.specs.Valid.{ValidState}
-use Rattle.semantics.specs.Call.{Call}
 use Rattle.semantics.specs.Run.{run}
+use Rattle.semantics.specs.Call.{Call}
 use Rattle.model.specs.State.{State}
 use Rattle.call_laws.proofs.Accepted.{accepted-valid}
 use Rattle.call_laws.proofs.ImplicationLaws.{zeros-hold}

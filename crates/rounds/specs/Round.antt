@@ -4,8 +4,8 @@ use Prim.Native.Nat.{suc, zero, ℕ}
 use mathlib.Core.Bool.{Bool, _||_, cond, false, true}
 use mathlib.Core.List.{List, [], _++_, _∷_}
 use Rattle.model.specs.Box.{isEmpty, isFree}
-use Rattle.semantics.specs.Call.{Call, callOf}
 use Rattle.semantics.specs.Run.{CallClass, changedCall, classOf, infeasibleCall, refusedCall, run, step, unchangedCall}
+use Rattle.semantics.specs.Call.{Call, callOf}
 use Rattle.model.specs.State.{State}
 
 -- ---- the calls of a round, each on the state that the calls before it left

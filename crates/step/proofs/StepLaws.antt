@@ -7,10 +7,10 @@ use mathlib.Core.List.{List}
 use mathlib.Core.Logic.{_⊎_, ⊎-elim}
 use mathlib.Core.Path.{_∙_, _≡_, ap, refl, sym}
 use Rattle.model.specs.Rows.{Rows}
-use Rattle.semantics.specs.Call.{Call, callOf, hasBudget, hasRow, hasVariable, isRetired, isUnknown, kindOf, unknown}
 use Rattle.semantics.specs.CallChecks.{callChecks, callFault, givenModel, isLent, listedChecks, listedFault, recordChecks}
 use Rattle.semantics.specs.Perform.{Performed, act, perform}
 use Rattle.semantics.specs.Run.{CallClass, classListed, classOf, refusedCall, step, stepListed}
+use Rattle.semantics.specs.Call.{Call, callOf, hasBudget, hasRow, hasVariable, isRetired, isUnknown, kindOf, unknown}
 use Rattle.model.specs.State.{State, stateOf}
 use Rattle.model.specs.Checks.{first, modelChecks}
 use Rattle.model.specs.Valid.{ValidState}

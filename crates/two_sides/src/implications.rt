@@ -3,7 +3,7 @@ use boxes::is_free;
 ghost use mathlib.Core.Path.{_≡_};
 ghost use Prim.Native.Nat.{_+_, _*_, _<_};
 ghost use lib.ListN.{length};
-ghost use Rattle.semantics.specs.Probe.{implies, put as puts, recordSide, recordTo};
+ghost use Rattle.semantics.specs.Probe.{put as puts, implies, recordSide, recordTo};
 ghost use Rattle.two_sides.specs.Results.{tableOf, Recordable};
 
 // Makes byte i 1, and answers 1 where it was 0.

@@ -9,9 +9,9 @@ use Rattle.model.specs.Rows.{Rows, rowAt, rowsOf}
 use Rattle.model.specs.Valid.{ValidModel}
 use Rattle.row.specs.Answers.{removalOutcome}
 use Rattle.row.specs.KindChanges.{removeRowOf}
-use Rattle.semantics.specs.Call.{Call, callOf, hasRow, kindOf}
 use Rattle.semantics.specs.CallChecks.{callFault}
 use Rattle.semantics.specs.Perform.{Answer, act, perform, removed}
+use Rattle.semantics.specs.Call.{Call, callOf, hasRow, kindOf}
 use Rattle.model.specs.State.{State, stateOf}
 use Rattle.model.specs.Model.{modelOf}
 use Rattle.reducer.specs.OpenCalls.{performed, removeAnswer}

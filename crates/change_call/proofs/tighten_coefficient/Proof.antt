@@ -9,9 +9,9 @@ use Rattle.model.specs.Rows.{Rows, rowAt, rowsOf}
 use Rattle.model.specs.Valid.{ValidModel}
 use Rattle.row.specs.Answers.{tighteningOutcome}
 use Rattle.row.specs.KindChanges.{tightenRowOf}
-use Rattle.semantics.specs.Call.{Call, callOf, hasRow, hasVariable, kindOf}
 use Rattle.semantics.specs.CallChecks.{callFault}
 use Rattle.semantics.specs.Perform.{Answer, act, perform, tightened}
+use Rattle.semantics.specs.Call.{Call, callOf, hasRow, hasVariable, kindOf}
 use Rattle.model.specs.State.{State, stateOf}
 use Rattle.model.specs.Model.{modelOf}
 use Rattle.call_laws.proofs.Accepted.{accepted}

@@ -4,8 +4,8 @@ use borrow.Author.Needs.{needs}
 use mathlib.Core.Path.{_∙_, _≡_, sym}
 use Rattle.model.specs.Valid.{ValidModel}
 use Rattle.model.proofs.CheckLaws.{table-fault-none}
-use Rattle.semantics.specs.Call.{hasTable, kindOf}
 use Rattle.semantics.specs.CallChecks.{lentTable}
+use Rattle.semantics.specs.Call.{hasTable, kindOf}
 use Rattle.model.specs.Rows.{rowsOf}
 use Rattle.model.specs.State.{State, stateOf}
 use Rattle.model.specs.Model.{modelOf}

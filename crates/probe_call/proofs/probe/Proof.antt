@@ -4,8 +4,8 @@ use borrow.Author.Needs.{needs}
 use lib.IntN.{ℤ}
 use mathlib.Core.List.{List}
 use mathlib.Core.Path.{_∙_, _≡_, ap, sym}
-use Rattle.semantics.specs.Call.{Call, callOf, hasTable, hasVariable, kindOf}
 use Rattle.semantics.specs.CallChecks.{callFault}
+use Rattle.semantics.specs.Call.{Call, callOf, hasTable, hasVariable, kindOf}
 use Rattle.model.specs.Rows.{rowsOf}
 use Rattle.model.specs.State.{State, stateOf}
 use Rattle.call_laws.proofs.Accepted.{accepted}

@@ -10,9 +10,9 @@ use mathlib.Core.List.{List}
 use mathlib.Core.Path.{_∙_, _≡_, ap, refl, sym}
 use Rattle.integer.proofs.Tests.{eqb-test, test-false}
 use Rattle.model.specs.Box.{sameList}
-use Rattle.semantics.specs.Call.{callOf, hasVariable, kindOf}
 use Rattle.semantics.specs.Perform.{perform}
 use Rattle.semantics.specs.Run.{CallClass, changedCall, infeasibleCall, probeInfeasible, unchangedCall}
+use Rattle.semantics.specs.Call.{callOf, hasVariable, kindOf}
 use Rattle.demands.specs.Unmoved.{sideSpent}
 use Rattle.model.specs.Rows.{rowsOf}
 use Rattle.model.specs.State.{stateOf}

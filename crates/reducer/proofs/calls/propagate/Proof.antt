@@ -4,9 +4,9 @@ use borrow.Author.Needs.{needs}
 use lib.IntN.{ℤ}
 use mathlib.Core.List.{List, []}
 use mathlib.Core.Path.{_∙_, _≡_, ap, sym}
-use Rattle.semantics.specs.Call.{Call, callOf}
 use Rattle.semantics.specs.CallChecks.{callFault}
 use Rattle.semantics.specs.Perform.{perform, propagated}
+use Rattle.semantics.specs.Call.{Call, callOf}
 use Rattle.model.specs.Rows.{rowsOf}
 use Rattle.model.specs.State.{State, stateOf}
 use Rattle.call_laws.proofs.Accepted.{accepted}

@@ -8,9 +8,9 @@ use mathlib.Core.Path.{_∙_, _≡_, ap, sym}
 use Rattle.model.specs.Valid.{ValidModel}
 use Rattle.row.specs.Answers.{propagatedRowOf}
 use Rattle.row.specs.declared.propagation.RowPropagation.{RowPropagation}
-use Rattle.semantics.specs.Call.{Call, callOf, hasRow, kindOf}
 use Rattle.semantics.specs.CallChecks.{callFault}
 use Rattle.semantics.specs.Perform.{perform, propagatedRow}
+use Rattle.semantics.specs.Call.{Call, callOf, hasRow, kindOf}
 use Rattle.model.specs.Rows.{Rows, rowsOf}
 use Rattle.model.specs.State.{State, stateOf}
 use Rattle.model.specs.Model.{modelOf}
