@@ -92,7 +92,7 @@ isRetired tightening = true
 isRetired removal = true
 isRetired unknown = false
 
--- a visit, a settle or a probe
+-- which kinds only narrow the box and add to the table: a visit, a settle, a probe
 unfoldable pub narrows : Kind → Bool
 narrows rowPropagation = true
 narrows propagation = true
