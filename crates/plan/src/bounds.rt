@@ -12,7 +12,7 @@ ghost use Rattle.integer.specs.Range.{Within};
 ghost use Rattle.model.specs.Box.{NonEmpty, width as boxWidth};
 ghost use Rattle.model.specs.Checks.{first};
 ghost use Rattle.model.specs.Valid.{ValidBox};
-ghost use Rattle.semantics.specs.Passes.{totalWidth};
+ghost use Rattle.demands.specs.Passes.{totalWidth};
 ghost use Rattle.plan.specs.Answers.{widthAnswer, widthCall, widthIs};
 ghost use Rattle.plan.specs.Meaning.{EnoughFor};
 ghost use Rattle.plan.specs.PlanChecks.{boundsChecks};

@@ -10,13 +10,13 @@ use mathlib.Core.Path.{_∙_, _≡_, ap, refl, subst, sym}
 use Rattle.model.specs.Rows.{Rows}
 use Rattle.model.specs.State.{State, stateOf, withBox}
 use Rattle.reducer.specs.OpenCalls.{performed}
-use Rattle.semantics.specs.Call.{Call, callOf, hasTable, kindOf}
+use Rattle.semantics.specs.Call.{Call, callOf, hasTable, kindOf, narrows}
 use Rattle.semantics.specs.CallChecks.{callFault, lentTable, recordChecks}
 use Rattle.semantics.specs.Perform.{Answer, Performed, act, perform}
 use Rattle.semantics.specs.Run.{run, step}
-use Rattle.semantics.specs.TwoRuns.{Demand3, Narrows, narrows}
-use Rattle.semantics.proofs.Accepted.{fault-of-own}
-use Rattle.semantics.proofs.Demand3.{demand-3}
+use Rattle.call_laws.proofs.Accepted.{fault-of-own}
+use Rattle.demands.specs.TwoRuns.{Demand3, Narrows}
+use Rattle.demands.proofs.Demand3.{demand-3}
 use Rattle.prepared_call.specs.MixedRuns.{Demand3Mixed, Made, Mixed, PropagateIsMade, ProbeIsMade, lastOf}
 
 -- ---- the table of a settle

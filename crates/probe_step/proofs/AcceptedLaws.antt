@@ -21,10 +21,10 @@ use Rattle.semantics.specs.Probe.{Probed, probe}
 use Rattle.semantics.specs.Propagate.{isNone, propagate}
 use Rattle.semantics.specs.Run.{CallClass, classOf, probeInfeasible, step}
 use Rattle.semantics.specs.Call.{Call, callOf, kindOf, probing, propagation, removal, rowPropagation, tightening}
-use Rattle.semantics.specs.Unmoved.{sideSpent}
+use Rattle.demands.specs.Unmoved.{sideSpent}
 use Rattle.model.specs.State.{State, stateOf, withBox, withRow}
-use Rattle.semantics.proofs.CallLaws.{perform-accepted, step-accepted}
-use Rattle.semantics.proofs.ClassLaws.{addsNone, classBy, probe-class, remove-class, propagate-class, tighten-class, propagate-row-class}
+use Rattle.call_laws.proofs.CallLaws.{perform-accepted, step-accepted}
+use Rattle.call_laws.proofs.ClassLaws.{addsNone, classBy, probe-class, remove-class, propagate-class, tighten-class, propagate-row-class}
 use Rattle.call.specs.Classes.{outcomeClass, propagationClass}
 use Rattle.propagation.specs.Results.{propagationOf}
 use Rattle.marked_row.proofs.MarkedRowLaws.{left-by}

@@ -26,8 +26,8 @@ use Rattle.model.specs.Rows.{Rows, rowsOf}
 use Rattle.model.specs.Valid.{ValidState}
 use Rattle.rounds.specs.Rounds.{runRounds}
 use Rattle.semantics.specs.Run.{run}
-use Rattle.semantics.proofs.Accepted.{handed-in-valid}
-use Rattle.semantics.proofs.Preserved.{run-preserves}
+use Rattle.call_laws.proofs.Preserved.{run-preserves}
+use Rattle.demands.proofs.Demand3.{handed-in-valid}
 use Rattle.reduction.specs.Answers.{Leaves, Ready, Sized}
 use Rattle.reduction.specs.Output.{outputAs, roundsText, stateRead, zeros}
 use Rattle.reduction.specs.declared.Form.{Form}

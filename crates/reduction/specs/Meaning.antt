@@ -6,9 +6,9 @@ use mathlib.Core.Logic.{_↔_, _⊎_}
 use mathlib.Core.Path.{_≡_}
 use Rattle.book.specs.BookChecks.{bookFault}
 use Rattle.report.specs.Report.{implicationAt, implicationLine, noneLine, refusedLine}
-use Rattle.semantics.specs.Points.{FractionalPointOf, ImplicationHolds, PointOf}
+use Rattle.call_laws.specs.Points.{FractionalPointOf, ImplicationHolds, PointOf}
 use Rattle.model.specs.State.{State}
-use Rattle.semantics.specs.TwoRuns.{HandedIn}
+use Rattle.demands.specs.TwoRuns.{HandedIn}
 use Rattle.reduction.specs.Output.{leftText, outputAs, stateRead}
 use Rattle.reduction.specs.declared.Form.{Form}
 

@@ -28,10 +28,10 @@ use Rattle.row.proofs.TighteningLaws.{tighten-fails}
 use Rattle.semantics.specs.CallChecks.{callFault}
 use Rattle.semantics.specs.Call.{callOf, kindOf}
 use Rattle.model.specs.State.{State}
-use Rattle.semantics.proofs.CallLaws.{step-ind}
+use Rattle.call_laws.proofs.CallLaws.{step-ind}
 use Rattle.rounds.specs.Round.{anyChange, isChange, tightenCall}
-use Rattle.semantics.proofs.ClassLaws.{classBy, tighten-class}
-use Rattle.semantics.proofs.RowChange.{row-valid, withRow-same}
+use Rattle.call_laws.proofs.ClassLaws.{classBy, tighten-class}
+use Rattle.call_laws.proofs.RowChange.{row-valid, withRow-same}
 use Rattle.model.proofs.RowsLaws.{at-rowOf}
 use Rattle.matrix_view.proofs.RowInLaws.{row-fits}
 use Rattle.round_rows.specs.TightenedAt.{TightenedAt}

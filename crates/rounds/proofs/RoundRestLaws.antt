@@ -15,12 +15,12 @@ use Rattle.model.specs.Valid.{ValidState}
 use Rattle.model.proofs.BoxLaws.{isEmpty-test}
 use Rattle.row.proofs.ImpliedBoxLaws.{valid-nonEmpty}
 use Rattle.semantics.specs.Call.{Call, callOf, kindOf}
-use Rattle.semantics.specs.Fixpoint.{Fixpoint, ProbingFixpoint, SidesSpan}
 use Rattle.semantics.specs.Perform.{act, perform}
 use Rattle.semantics.specs.Run.{CallClass, answersNone, changedCall, classOf, run, step}
-use Rattle.semantics.specs.Unmoved.{UnmovedFixpoint, UnmovedSpans, anySpent, sideSpent}
-use Rattle.semantics.proofs.CallLaws.{perform-accepted, step-accepted}
-use Rattle.semantics.proofs.Unmoved.{run-empty, still-step, unmoved-fixpoint, unmoved-spans}
+use Rattle.call_laws.specs.Fixpoint.{Fixpoint, ProbingFixpoint, SidesSpan}
+use Rattle.call_laws.proofs.CallLaws.{perform-accepted, step-accepted}
+use Rattle.demands.specs.Unmoved.{UnmovedFixpoint, UnmovedSpans, anySpent, sideSpent}
+use Rattle.demands.proofs.Unmoved.{run-empty, still-step, unmoved-fixpoint, unmoved-spans}
 use Rattle.rounds.specs.RoundRest.{RoundRests}
 use Rattle.rounds.specs.Round.{andThen, anyChange, isChange, probeCall, probes, propagateCall, removals, round, roundBudget, tightenings, upwards}
 use Rattle.rounds.proofs.RoundLaws.{accepts-probe, accepts-propagation, change-append, run-append}

@@ -14,7 +14,7 @@ use Rattle.model.proofs.RowsLaws.{length-rowOf}
 use Rattle.row.proofs.RowLoops.{coefs-small}
 use Rattle.row_index.proofs.IndexLoops.{line-end}
 use Rattle.matrix_view.specs.RowIn.{RowIn, StepsIn}
-use Rattle.semantics.proofs.RowChange.{row-valid}
+use Rattle.call_laws.proofs.RowChange.{row-valid}
 use Rattle.sweep.specs.Steps.{Steps}
 use Rattle.proposals.specs.Call.{allocationFault}
 use Rattle.proposals.proofs.CallLaws.{accepted}

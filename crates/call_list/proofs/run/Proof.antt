@@ -51,9 +51,9 @@ use denote.Exit.{yes}
 use borrow.Author.Tests.{ltb-true, ltb-false}
 use Rattle.semantics.specs.CallList.{ListRun, runList}
 use Rattle.model.specs.State.{State}
-use Rattle.semantics.specs.TwoLists.{ListMeans}
-use Rattle.semantics.proofs.CallLists.{counts-add-up, demand-3-lists, list-means}
-use Rattle.semantics.proofs.Demand3.{handed-in}
+use Rattle.demands.specs.TwoLists.{ListMeans}
+use Rattle.demands.proofs.CallLists.{counts-add-up, demand-3-lists, list-means}
+use Rattle.demands.proofs.Demand3.{handed-in}
 use Rattle.flat_list.specs.ListAnswers.{listRun}
 use Rattle.flat_list.specs.declared.RunAnswer.{RunAnswer}
 use Rattle.flat_list.proofs.RunAnswer as S

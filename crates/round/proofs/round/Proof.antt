@@ -5,7 +5,7 @@ use mathlib.Core.Logic.{⊎-elim}
 use mathlib.Core.Path.{_≡_, refl}
 use borrow.Author.Needs.{needs}
 use Rattle.semantics.specs.Call.{callOf, kindOf}
-use Rattle.semantics.specs.Unmoved.{anySpent}
+use Rattle.demands.specs.Unmoved.{anySpent}
 use Rattle.probe_step.proofs.AcceptedLaws.{ran-propagation}
 use Rattle.model.specs.Rows.{rowsOf}
 use Rattle.model.specs.State.{State, stateOf}

@@ -17,7 +17,7 @@ use Rattle.row.specs.Activity.{maxActivity}
 use Rattle.row.specs.Tightening.{mayTighten}
 use Rattle.semantics.specs.Call.{callOf, kindOf}
 use Rattle.matrix_view.proofs.RowInLaws.{row-in, valid-row}
-use Rattle.semantics.proofs.Demand3.{zeros-valid}
+use Rattle.demands.proofs.Demand3.{zeros-valid}
 use Rattle.probe_step.proofs.AcceptedLaws.{ran-tighten}
 use Rattle.model.specs.State.{stateOf}
 use Rattle.rounds.specs.Round.{tightenCall, tightenRow}

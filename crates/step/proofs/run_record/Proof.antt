@@ -14,7 +14,7 @@ use Rattle.semantics.specs.CallChecks.{callFault}
 use Rattle.model.specs.Rows.{Rows, rowsOf}
 use Rattle.model.specs.State.{stateOf}
 use Rattle.model.specs.Model.{modelOf}
-use Rattle.semantics.proofs.Accepted.{accepted}
+use Rattle.call_laws.proofs.Accepted.{accepted}
 use Rattle.call.specs.Classes.{classIs}
 use Rattle.call.proofs.KindLaws.{kind-other}
 use Rattle.matrix_view.proofs.RowInLaws.{row-in, valid-row}
