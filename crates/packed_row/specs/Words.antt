@@ -26,7 +26,7 @@ rhsOf w = cond (leb (w / 2) 2_000_000_000) (pos (w / 2) -ℤ pos 1_000_000_000) 
 
 -- the row that words and the word of its right side say
 unfoldable pub rowOfWords : List ℕ → ℕ → Row
-rowOfWords ws side = record { coefs = coefsFrom ws 0; rhs = rhsOf side; kind = side % 2 }
+rowOfWords ws rhsWord = record { coefs = coefsFrom ws 0; rhs = rhsOf rhsWord; kind = rhsWord % 2 }
 
 -- words for a row of a box that passed the checks
 pub record Readable (ws : List ℕ) (B : List ℤ) : Type 0 where

@@ -6,6 +6,7 @@ ghost use mathlib.Core.List.{[]};
 ghost use mathlib.Core.Path.{_≡_};
 ghost use Prim.Native.Nat.{_+_, _*_, _<_, _≤_};
 ghost use lib.ListN.{length};
+ghost use Rattle.model.specs.Limits.{maxRows, maxVariables};
 ghost use Rattle.bytes.specs.Pieces.{joined, overwrite};
 ghost use Rattle.model.specs.Box.{at as nth};
 ghost use Rattle.model.specs.Model.{modelOf};
@@ -28,7 +29,7 @@ pub fn nonzeros(xs: &[i32]) -> usize
 
 // The length of the sparse book of n variables, m rows and these coefficients; the other numbers have no part in it.
 pub fn sparse_length(n: usize, m: usize, coefs: &[i32]) -> usize
-    requires { ⌜ (n ≤ 128) × (m ≤ 120) × (length (now coefs) ≡ m * n) ⌝ }
+    requires { ⌜ (n ≤ maxVariables) × (m ≤ maxRows) × (length (now coefs) ≡ m * n) ⌝ }
     ensures { λ r. ⌜ r ≡ sparseLength (modelOf n m [] (rowsOf (now (coefs .entry)) [] [])) ⌝ }
 {
     8 * n + (7 * m + 6 * nonzeros(coefs)) + 16
@@ -51,7 +52,7 @@ fn write_entry(book: &mut [u8], place: usize, column: usize, x: i32) -> usize
 // Writes an entry for each coefficient of a row that is not 0, one after the other from `place` on.
 fn write_entries(book: &mut [u8], place: usize, row: &[i32])
     requires { ⌜ (place + howMany (length (now row)) (nth (now row)) * 6 ≤ length (now book))
-        × (length (now row) ≤ 128) ⌝ }
+        × (length (now row) ≤ maxVariables) ⌝ }
     ensures { λ r.
         let R = now (row .entry) in
         ⌜ now (book .exit) ≡ overwrite place (joined (length R) (entryBytes (nth R))) (now (book .entry)) ⌝ }
@@ -67,7 +68,7 @@ fn write_entries(book: &mut [u8], place: usize, row: &[i32])
 // Writes a row from `place` on, and answers where it ends.
 fn write_row(book: &mut [u8], place: usize, row: &[i32], rhs: i32, kind: u8) -> usize
     requires { ⌜ (place + (7 + 6 * howMany (length (now row)) (nth (now row))) ≤ length (now book))
-        × (length (now row) ≤ 128) ⌝ }
+        × (length (now row) ≤ maxVariables) ⌝ }
     ensures end { λ r. ⌜ r ≡ place + (7 + 6 * howMany (length (now (row .entry))) (nth (now (row .entry)))) ⌝ }
     ensures written { λ r.
         let R = now (row .entry) in
@@ -83,7 +84,7 @@ fn write_row(book: &mut [u8], place: usize, row: &[i32], rhs: i32, kind: u8) -> 
 
 // Writes the rows one after the other from 8n on.
 pub fn write_rows(n: usize, coefs: &[i32], rhs: &[i32], kinds: &[u8], book: &mut [u8])
-    requires { ⌜ (n ≤ 128) × (length (now kinds) ≡ length (now rhs)) × (length (now coefs) ≡ length (now rhs) * n)
+    requires { ⌜ (n ≤ maxVariables) × (length (now kinds) ≡ length (now rhs)) × (length (now coefs) ≡ length (now rhs) * n)
         × (8 * n + rowsLength n (rowsOf (now coefs) (now rhs) (now kinds)) (length (now rhs)) ≤ length (now book)) ⌝ }
     ensures { λ r.
         let A = rowsOf (now (coefs .entry)) (now (rhs .entry)) (now (kinds .entry)) in

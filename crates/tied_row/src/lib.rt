@@ -12,6 +12,7 @@ ghost use lib.IntN.{_-ℤ_};
 ghost use lib.ListN.{length, set};
 ghost use Rattle.integer.specs.Range.{Within};
 ghost use Rattle.model.specs.Box.{at};
+ghost use Rattle.model.specs.Limits.{coefSize, rhsSize};
 ghost use Rattle.model.specs.Model.{modelOf};
 ghost use Rattle.model.specs.Rows.{rowOf, rowsOf, splice};
 ghost use Rattle.ties.specs.TiedRow.{rowFits, rowsFit, tiedCoef, tiedCoefs, tiedRhs, tieCoefsTo, tieRhsTo};
@@ -19,7 +20,7 @@ ghost use Rattle.tied_row.specs.SmallRow.{SmallRow, SmallRows};
 
 // The coefficient of k: a_k + a_j, or a_k − a_j.
 fn tied_coef(w: u32, ak: i32, aj: i32) -> i32
-    requires { ⌜ Within 1000000 ak × Within 1000000 aj ⌝ }
+    requires { ⌜ Within coefSize ak × Within coefSize aj ⌝ }
     ensures { λ r. ⌜ r ≡ tiedCoef w ak aj ⌝ }
 {
     if w == 0 {
@@ -30,7 +31,7 @@ fn tied_coef(w: u32, ak: i32, aj: i32) -> i32
 
 // The right side: b, or b − a_j.
 fn tied_rhs(w: u32, aj: i32, b: i32) -> i32
-    requires { ⌜ Within 1000000 aj × Within 1000000000 b ⌝ }
+    requires { ⌜ Within coefSize aj × Within rhsSize b ⌝ }
     ensures { λ r. ⌜ r ≡ cond (eqb w 0) b (b -ℤ aj) ⌝ }
 {
     if w == 0 {

@@ -9,6 +9,7 @@ use row_index::know_steps;
 ghost use mathlib.Core.Path.{_≡_};
 ghost use Prim.Native.Nat.{ℕ, _*_, _+_, _<_, _≤_};
 ghost use lib.ListN.{getD, length};
+ghost use Rattle.model.specs.Limits.{maxRows, maxVariables};
 ghost use Rattle.model.specs.Model.{modelOf};
 ghost use Rattle.model.specs.Rows.{rowAt, rowOf, rowWith, rowsOf};
 ghost use Rattle.row_index.specs.Index.{RowSteps};
@@ -36,7 +37,7 @@ fn tell(verdicts: &mut [u32], c: usize, case: u32, number: u32)
 
 // Holds proposal c, whose numbers are x, against the box.
 fn hold_box(n: usize, bounds: &[i32], x: &[i32], c: usize, verdicts: &mut [u32])
-    requires { ⌜ (n ≤ 128) × (length (now bounds) ≡ 2 * n) × (length (now x) ≡ n) ⌝ }
+    requires { ⌜ (n ≤ maxVariables) × (length (now bounds) ≡ 2 * n) × (length (now x) ≡ n) ⌝ }
     requires { ⌜ 2 * c + 1 < length (now verdicts) ⌝ }
     ensures { λ _.
         let v = boxVerdict n (now (bounds .entry)) (now (x .entry)) in
@@ -131,7 +132,7 @@ fn hold_row_at(
     verdicts: &mut [u32],
 )
     requires { let A = rowsOf (now coefs) (now rhs) (now kinds) in
-        ⌜ (i ≤ 120) × RowIn n A i × StepsIn n (now coefs) (now across) i ⌝ }
+        ⌜ (i ≤ maxRows) × RowIn n A i × StepsIn n (now coefs) (now across) i ⌝ }
     requires { ⌜ Pending n count (rowOf n (now coefs) i) (now proposals) (now verdicts) ⌝ }
     ensures { λ _.
         let r = rowAt n (rowsOf (now (coefs .entry)) (now (rhs .entry)) (now (kinds .entry))) i in
