@@ -10,7 +10,8 @@ ghost use lib.ListN.{length, replicate};
 ghost use Rattle.integer.specs.Range.{Within};
 ghost use Rattle.model.specs.Limits.{boundSize, maxLiterals, maxVariables};
 ghost use Rattle.text.specs.Text.{Wrote};
-ghost use Rattle.pages.specs.Page.{Paper, emptyLine, furtherCount, pageCount, pageSize, pages as pagesOf, variableLines};
+ghost use Rattle.pages.specs.Page.{Paper, emptyLine, furtherCount, pageCount, pageSize, variableLines};
+ghost use Rattle.pages.specs.Page.{pages as pagesOf};
 ghost use Rattle.pages.specs.Writing.{filled, onesFrom, sheet, start};
 
 // The lines of variable k, from content line `line` on. The answer is the line after them.

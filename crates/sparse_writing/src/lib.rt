@@ -84,7 +84,8 @@ fn write_row(book: &mut [u8], place: usize, row: &[i32], rhs: i32, kind: u8) -> 
 
 // Writes the rows one after the other from 8n on.
 pub fn write_rows(n: usize, coefs: &[i32], rhs: &[i32], kinds: &[u8], book: &mut [u8])
-    requires { ⌜ (n ≤ maxVariables) × (length (now kinds) ≡ length (now rhs)) × (length (now coefs) ≡ length (now rhs) * n)
+    requires { ⌜ (n ≤ maxVariables) × (length (now kinds) ≡ length (now rhs))
+        × (length (now coefs) ≡ length (now rhs) * n)
         × (8 * n + rowsLength n (rowsOf (now coefs) (now rhs) (now kinds)) (length (now rhs)) ≤ length (now book)) ⌝ }
     ensures { λ r.
         let A = rowsOf (now (coefs .entry)) (now (rhs .entry)) (now (kinds .entry)) in

@@ -114,7 +114,16 @@ fn hold_row(
 {
     let mut c = 0;
     while c < count {
-        hold_one(coefs, steps, b, kind, i, proposal_at(n, proposals, c), c, verdicts);
+        hold_one(
+            coefs,
+            steps,
+            b,
+            kind,
+            i,
+            proposal_at(n, proposals, c),
+            c,
+            verdicts,
+        );
         c += 1;
     }
 }
