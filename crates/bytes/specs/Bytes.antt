@@ -12,6 +12,10 @@ use Rattle.bytes.specs.Pieces.{joined, listOf, part}
 abbrev pub byteCount : ℕ
 byteCount = 256
 
+-- and two bytes are one of so many
+abbrev pub pairCount : ℕ
+pairCount = 65_536
+
 -- the w bytes of x, the lowest first
 unfoldable pub bytesOf : ℕ → ℕ → List ℕ
 bytesOf zero x = []

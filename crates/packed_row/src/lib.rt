@@ -26,12 +26,17 @@ ghost use Rattle.row.specs.Propagation.{impliedBox, propagateRow, rowMoves};
 ghost use Rattle.row.specs.ValidRow.{IsSign, ImpliesBox, ValidCoefs, ValidRow};
 ghost use Rattle.packed_row.specs.Words.{Readable, coefOf, coefsFrom, rhsOf, rowOfWords};
 
+// The greatest coefficient and the greatest right side, raised so that the least is 0.
+const RAISED_COEF: u32 = 2 * (MAX_COEF as u32);
+
+const RAISED_RHS: u32 = 2 * (MAX_RHS as u32);
+
 // The coefficient in a word; one that is out of range is 0.
 fn coef(word: u32) -> i32
     ensures { λ r. ⌜ r ≡ coefOf word ⌝ }
 {
     let c = word / 128;
-    if 2_000_000 < c {
+    if RAISED_COEF < c {
         return 0;
     }
     (c as i32) - MAX_COEF
@@ -178,7 +183,7 @@ fn right_side(rhs_word: u32) -> i32
     ensures { λ r. ⌜ r ≡ rhsOf «rhs_word» ⌝ }
 {
     let b = rhs_word / 2;
-    if 2_000_000_000 < b {
+    if RAISED_RHS < b {
         return 0;
     }
     (b as i32) - MAX_RHS

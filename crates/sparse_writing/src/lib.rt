@@ -7,6 +7,7 @@ ghost use mathlib.Core.Path.{_≡_};
 ghost use Prim.Native.Nat.{_+_, _*_, _<_, _≤_};
 ghost use lib.ListN.{length};
 ghost use Rattle.model.specs.Limits.{maxRows, maxVariables};
+ghost use Rattle.bytes.specs.Bytes.{pairCount};
 ghost use Rattle.bytes.specs.Pieces.{joined, overwrite};
 ghost use Rattle.model.specs.Box.{at as nth};
 ghost use Rattle.model.specs.Model.{modelOf};
@@ -37,7 +38,7 @@ pub fn sparse_length(n: usize, m: usize, coefs: &[i32]) -> usize
 
 // Writes the entry of a column at `place`, if its coefficient is not 0, and answers where it ends.
 fn write_entry(book: &mut [u8], place: usize, column: usize, x: i32) -> usize
-    requires { ⌜ (place + length (entryOf column x) ≤ length (now book)) × (column < 65_536) ⌝ }
+    requires { ⌜ (place + length (entryOf column x) ≤ length (now book)) × (column < pairCount) ⌝ }
     ensures end { λ r. ⌜ r ≡ place + length (entryOf column x) ⌝ }
     ensures written { λ r. ⌜ now (book .exit) ≡ overwrite place (entryOf column x) (now (book .entry)) ⌝ }
 {
