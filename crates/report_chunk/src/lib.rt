@@ -6,6 +6,7 @@ ghost use lib.ListN.{length};
 ghost use Rattle.model.specs.Limits.{maxRows, maxVariables};
 ghost use Rattle.report.specs.Report.{Printable, implicationAt, lineAt, lineCount, maxLine, maxShortLine, rowAt};
 ghost use Rattle.text.specs.Text.{Wrote, chunk};
+use matrix::coefficients;
 use report::is_zero_row;
 use report::next_line;
 use report_line::write_implication;
@@ -32,9 +33,7 @@ fn write_row_at(n: usize, coefs: &[i32], rhs: &[i32], r: usize, buf: &mut [u8], 
     ensures { λ r'.
         ⌜ Wrote (now (buf .entry)) at (rowAt n (now (coefs .entry)) (now (rhs .entry)) r) r' (now (buf .exit)) ⌝ }
 {
-    let start = r * n;
-    let stop = start + n;
-    let row = &coefs[start..stop];
+    let row = coefficients(n, coefs, r);
     let b = rhs[r];
     if is_zero_row(b, row) {
         return at;

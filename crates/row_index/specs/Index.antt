@@ -1,4 +1,4 @@
--- What is known of the rows from earlier visits: where each row's next nonzero coefficient is, and each column's signs. Both are made
+-- What is known of the rows that were propagated before: where each row's next nonzero coefficient is, and each column's signs. Both are made
 -- where they are first needed: a 0 in front of a row's steps, or of a column's signs, says that they are not known yet.
 use Prim.Native.Nat.{_*_, _+_, _<_, _≤_, ℕ}
 use lib.IntN.{pos, ℤ}

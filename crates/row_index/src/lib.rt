@@ -1,7 +1,7 @@
-// What is kept of the rows for later visits: the steps from each coefficient to the next that is not 0, row by row, and
-// the signs of the coefficients, column by column. Each row's steps and each column's signs are made where they are
-// first needed, so that a call that ends after its first pass pays for none. Both arrays are 0 at first; a step and a
-// sign never are.
+// What is kept of the rows until they are propagated again: the steps from each coefficient to the next that is not
+// 0, row by row, and the signs of the coefficients, column by column. Each row's steps and each column's signs are
+// made where they are first needed, so that a call that ends after its first pass pays for none. Both arrays are 0
+// at first; a step and a sign never are.
 ghost use mathlib.Core.Path.{_≡_};
 ghost use mathlib.Core.Logic.{_⊎_};
 ghost use Prim.Native.Nat.{ℕ, _*_, _+_, _<_, _≤_};

@@ -1,5 +1,5 @@
 -- Which rows a pass may pass over: a row is clean, its mark 1, only if propagating it moves nothing. Its mark is 2 where it is dirty, and
--- 0 until it was visited first.
+-- 0 until it was propagated first.
 use Prim.Native.Nat.{_*_, _+_, _<_, _≤_, ℕ}
 use lib.Dec.{eqb}
 use lib.IntN.{ℤ}
