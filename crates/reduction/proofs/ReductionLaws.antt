@@ -5,7 +5,7 @@ use borrow.Author.Tests.{eq-eqb, ne-eqb}
 use lib.IntN.{ℤ}
 use lib.ListN.{length, length-replicate, replicate, replicate-append-replicate, take}
 use lib.Seq.{length-take-le, take-at}
-use mathlib.Core.List.{List, _++_}
+use mathlib.Core.List.{List, [], _++_}
 use mathlib.Core.Path.{_∙_, _≡_, ap, refl, sym}
 use native.Mathlib.Decide.{ℕ-discrete}
 use native.Mathlib.Nat.{mul-le-mul-right}
@@ -20,6 +20,7 @@ use Rattle.book.proofs.AcceptLaws.{head-numbered}
 use Rattle.book.proofs.AnswerLaws.{accepted-by, becomes, refused-by}
 use Rattle.intake.proofs.CheckLaws.{accepted}
 use Rattle.report.specs.Report.{refusedLine}
+use Rattle.report.proofs.ReportLaws.{report-kindless}
 use Rattle.model.specs.State.{State, stateOf}
 use Rattle.model.specs.Model.{modelOf}
 use Rattle.model.specs.Rows.{Rows, rowsOf}
@@ -29,8 +30,9 @@ use Rattle.semantics.specs.Run.{run}
 use Rattle.semantics.proofs.Accepted.{handed-in-valid}
 use Rattle.semantics.proofs.Preserved.{run-preserves}
 use Rattle.reduction.specs.Answers.{Leaves, Ready, Sized}
-use Rattle.reduction.specs.Output.{outputAs, roundsText, stateRead, zeros}
+use Rattle.reduction.specs.Output.{leftText, outputAs, roundsText, stateRead, zeros}
 use Rattle.reduction.specs.declared.Form.{Form}
+use Rattle.reduction.specs.declared.Form.the-variants as forms
 use Rattle.reduction.specs.declared.Answer.{Answer}
 use Rattle.reduction.specs.declared.Answer.the-variants as answers
 use Rattle.reduction.proofs.OutputLaws.{book-handed-in}
@@ -111,6 +113,13 @@ pub leaves-valid : (a : Answer) {s : State} → ValidState s → Leaves a s
 leaves-valid (answers.Refused number) v = tt
 leaves-valid answers.Infeasible v = tt
 leaves-valid (answers.Reduced rounds) v = v
+
+-- no kind is printed, in either form: what is left without its kinds has the same text
+pub left-kindless : (form : Form) (rounds n m : ℕ) (B : List ℤ) (A : Rows) (t : List ℕ)
+    → leftText form rounds (stateOf n m B (rowsOf (A .coefs) (A .rhs) []) t) ≡ leftText form rounds (stateOf n m B A t)
+unfolding leftText stateOf
+left-kindless forms.Report rounds n m B A t = report-kindless rounds n m B A t
+left-kindless forms.Paper rounds n m B A t = refl
 
 -- ---- the buffers
 

@@ -1,14 +1,15 @@
 -- `report_chunk::write_row_at`: the part lent is row r, and the test is the definition's. Assumes nothing.
 use Prim.Native.Nat.{_*_, _+_, _-_}
 use borrow.Author.Needs.{needs}
+use mathlib.Core.List.{[]}
 use mathlib.Core.Path.{_∙_, _≡_, sym}
 use mir.Facts.{toZ-ofZ}
 use mir.Syntax.{w32}
 use mir.Val.{SFits}
 use native.Mathlib.Omega.{arith}
 use Rattle.model.specs.Box.{at}
-use Rattle.model.specs.Rows.{rowOf}
-use Rattle.report.specs.Report.{isZeroRow, rowAt}
+use Rattle.model.specs.Rows.{rowAt, rowOf, rowsOf}
+use Rattle.report.specs.Report.{isZeroRow, rowText}
 use Rattle.text.proofs.TextLaws.{wrote-none}
 use Rattle.report_chunk.proofs.write_row_at.Statement.{statement}
 use Rattle.report_chunk.proofs.write_row_at.Tie as tie
@@ -48,12 +49,12 @@ abbrev whole : (c : tie.After-is-zero-row) → c .before .before .before .before
 whole c = omega arith
 
 tested : (c : tie.After-is-zero-row)
-    → isZeroRow (at (c .before .before .before .before .args .rhs .now) (c .before .before .before .before .args .r)) (rowOf (c .before .before .before .before .args .n) (c .before .before .before .before .args .coefs .now) (c .before .before .before .before .args .r)) ≡ c .is-zero-row .result
+    → let a = c .before .before .before .before .args in isZeroRow (rowAt (a .n) (rowsOf (a .coefs .now) (a .rhs .now) []) (a .r)) ≡ c .is-zero-row .result
 unfolding rowOf
 tested c = sym (simp (toZ-ofZ, side-fits c, whole c) at (c .is-zero-row .ensures))
 
 returns : tie.Need-returns
-unfolding rowAt rowOf
+unfolding rowText rowOf
 returns c = rw (tested (c .before) ∙ c .if1 .taken) (wrote-none _ _ (omega arith))
 
 cast-write-row : tie.Need-cast-write-row
@@ -66,7 +67,7 @@ same-length : tie.Need-same-length
 same-length c = search needs
 
 returns-2 : tie.Need-returns-2
-unfolding rowAt rowOf
+unfolding rowText rowOf
 returns-2 c =
     let z = c .before .before .before .before .before in
     let w = c .before .before .write-row .ensures .0 in
