@@ -2,6 +2,7 @@
 use boxes::same_box;
 use clique_grow::Grown;
 use clique_grow::grow;
+use matrix::coefficients;
 ghost use mathlib.Core.Bool.{_&&_};
 ghost use mathlib.Core.Path.{_≡_};
 ghost use Prim.Native.Nat.{_*_, _+_, _<_, _≤_};
@@ -64,9 +65,7 @@ fn same_row(n: usize, coefs: &[i32], i: usize, k: usize) -> bool
     requires { ⌜ (i * n + n ≤ length (now coefs)) × (k * n + n ≤ length (now coefs)) ⌝ }
     ensures { λ r. ⌜ r ≡ sameList (rowOf n (now (coefs .entry)) i) (rowOf n (now (coefs .entry)) k) ⌝ }
 {
-    let one = i * n;
-    let two = k * n;
-    same_box(&coefs[one..one + n], &coefs[two..two + n])
+    same_box(coefficients(n, coefs, i), coefficients(n, coefs, k))
 }
 
 // Whether row k differs from each row before it.

@@ -1,5 +1,6 @@
 // The rows of a model, written into a workspace: of each row the words that `packed_row` reads, and its right side and
 // kind in one number.
+use matrix::coefficients;
 use model::MAX_COEF;
 use model::MAX_RHS;
 use workspace::RHS_AT;
@@ -51,7 +52,7 @@ pub fn pack_rows(n: usize, m: usize, coefs: &[i32], ws: &mut [u32])
 {
     let mut r = 0;
     while r < m {
-        pack_row(&coefs[r * n..r * n + n], ROWS_AT + r * n, ws);
+        pack_row(coefficients(n, coefs, r), ROWS_AT + r * n, ws);
         r += 1;
     }
 }

@@ -10,6 +10,7 @@ ghost use Rattle.model.specs.Rows.{rowAt, rowsOf};
 ghost use Rattle.model.specs.State.{stateOf};
 ghost use Rattle.report.specs.Report.{Printable, implicationAt, lineAt, lineCount, maxLine, maxShortLine, rowText};
 ghost use Rattle.text.specs.Text.{Wrote, chunk};
+use matrix::coefficients;
 use report::is_zero_row;
 use report::next_line;
 use report_line::write_implication;
@@ -37,9 +38,7 @@ fn write_row_at(n: usize, coefs: &[i32], rhs: &[i32], r: usize, buf: &mut [u8], 
         let row = rowAt n (rowsOf (now (coefs .entry)) (now (rhs .entry)) []) r in
         ⌜ Wrote (now (buf .entry)) at (rowText r row) r' (now (buf .exit)) ⌝ }
 {
-    let start = r * n;
-    let stop = start + n;
-    let row = &coefs[start..stop];
+    let row = coefficients(n, coefs, r);
     let b = rhs[r];
     if is_zero_row(b, row) {
         return at;

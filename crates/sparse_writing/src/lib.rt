@@ -1,6 +1,7 @@
 // The bytes of sparse rows: a row's right side, kind and count, and an entry for each coefficient that is not 0.
 use bytes::write_i32;
 use bytes::write_u16;
+use matrix::coefficients;
 ghost use mathlib.Core.List.{[]};
 ghost use mathlib.Core.Path.{_≡_};
 ghost use Prim.Native.Nat.{_+_, _*_, _<_, _≤_};
@@ -92,11 +93,9 @@ pub fn write_rows(n: usize, coefs: &[i32], rhs: &[i32], kinds: &[u8], book: &mut
     let mut p = 8 * n;
     let mut i = 0;
     while i < rhs.len() {
-        let start = i * n;
-        let end = start + n;
         let b = rhs[i];
         let kind = kinds[i];
-        p = write_row(book, p, &coefs[start..end], b, kind);
+        p = write_row(book, p, coefficients(n, coefs, i), b, kind);
         i += 1;
     }
 }

@@ -18,7 +18,7 @@ use Rattle.model.specs.Rows.{Rows, rowOf, rowsOf, setRow, splice}
 use Rattle.model.specs.Valid.{ValidModel}
 use Rattle.model.proofs.RowsLaws.{at-rowOf, length-rowOf}
 use Rattle.row.proofs.RowLoops.{rhs-within, within-between}
-use Rattle.row_view.proofs.PartLaws.{row-changed-kept}
+use Rattle.matrix.proofs.PartLaws.{row-changed-kept}
 use Rattle.ties.specs.TiedRow.{tieCoefsTo, tieRhsTo, tieRowsTo}
 use Rattle.ties.proofs.TiedRowsLaws.{coefs-still, rhs-still, tieRows-lengths}
 use Rattle.tied_row.specs.SmallRow.{SmallRow, SmallRows}

@@ -1,5 +1,6 @@
 // Rows with j put as k (w = 0) or as 1 − k (w = 1), in place: one row, and all rows of a model that passed the checks
 // (02, C-19: "puts that into every row, zeroes j's column").
+use matrix::coefficients;
 use model::MAX_COEF;
 use model::MAX_RHS;
 ghost use mathlib.Core.Bool.{cond};
@@ -68,9 +69,7 @@ fn row_fits_at(n: usize, coefs: &[i32], rhs: &[i32], i: usize, k: usize, j: usiz
     requires { ⌜ SmallRow (rowOf n (now coefs) i) (at (now rhs) i) k j ⌝ }
     ensures { λ r. ⌜ r ≡ rowFits k j w (rowOf n (now (coefs .entry)) i) (at (now (rhs .entry)) i) ⌝ }
 {
-    let start = i * n;
-    let end = start + n;
-    row_fits(&coefs[start..end], rhs[i], k, j, w)
+    row_fits(coefficients(n, coefs, i), rhs[i], k, j, w)
 }
 
 // Whether every row's numbers stay within their limits. Nothing is written.

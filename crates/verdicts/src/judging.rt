@@ -1,8 +1,10 @@
 // All proposals: against the box, and then against one row after the other. A verdict is told in two numbers, and is
 // open as long as the first is 0.
+use matrix::coefficients;
+use matrix::row_bytes;
 use one_proposal::first_outside;
-use one_proposal::line;
 use one_proposal::meets_row;
+use one_proposal::proposal_at;
 use row_index::know_steps;
 ghost use mathlib.Core.Path.{_≡_};
 ghost use Prim.Native.Nat.{ℕ, _*_, _+_, _<_, _≤_};
@@ -57,7 +59,7 @@ fn hold_boxes(n: usize, bounds: &[i32], count: usize, proposals: &[i32], verdict
 {
     let mut c = 0;
     while c < count {
-        hold_box(n, bounds, line(n, proposals, c), c, verdicts);
+        hold_box(n, bounds, proposal_at(n, proposals, c), c, verdicts);
         c += 1;
     }
 }
@@ -111,7 +113,7 @@ fn hold_row(
 {
     let mut c = 0;
     while c < count {
-        hold_one(coefs, steps, b, kind, i, line(n, proposals, c), c, verdicts);
+        hold_one(coefs, steps, b, kind, i, proposal_at(n, proposals, c), c, verdicts);
         c += 1;
     }
 }
@@ -137,12 +139,10 @@ fn hold_row_at(
         ⌜ ((f : ℕ → Verdict) → Tells count f (now (verdicts .entry)) →
         Tells count (λ c. held i (meets n r (proposal n P c)) (f c)) (now (verdicts .exit))) ⌝ }
 {
-    let start = i * n;
-    let end = start + n;
     hold_row(
         n,
-        line(n, coefs, i),
-        &across[start..end],
+        coefficients(n, coefs, i),
+        row_bytes(n, across, i),
         rhs[i],
         kinds[i],
         i as u32,

@@ -1,8 +1,8 @@
--- The part of a matrix that is lent as row r: what it holds, and the rows after it came back. Assumes nothing.
-use Prim.Native.Nat.{_*_, _+_, _-_, ℕ}
+-- The part of a matrix that is lent as row r: what it holds, how long it is, and the rows after it came back. Assumes nothing.
+use Prim.Native.Nat.{_*_, _+_, _-_, _≤_, ℕ}
 use lib.IntN.{ℤ}
-use lib.ListN.{drop, getD, length, set, take}
-use lib.Seq.{drop-drop, set-getD}
+use lib.ListN.{drop, getD, length, length-drop, set, take}
+use lib.Seq.{drop-drop, length-take-le, set-getD}
 use mathlib.Core.List.{List, _++_}
 use mathlib.Core.Path.{_∙_, _≡_, ap, sym}
 use native.Mathlib.Omega.{arith}
@@ -11,6 +11,11 @@ use Rattle.model.specs.Rows.{Row, rowOf, rowWith, rowsOf, setRow, splice}
 pub part-is : (r n : ℕ) (C : List ℤ) → take (r * n + n - r * n) (drop (r * n) C) ≡ rowOf n C r
 unfolding rowOf
 part-is r n C = let d : r * n + n - r * n ≡ n = omega arith in rw d
+
+-- a row that lies in the matrix has n coefficients
+pub part-length : (r n : ℕ) (C : List ℤ) → r * n + n ≤ length C → length (rowOf n C r) ≡ n
+unfolding rowOf
+part-length r n C h = length-take-le n (drop (r * n) C) (omega (arith, length-drop (r * n) C))
 
 -- the matrix with the numbers A in the part that was lent of row r
 abbrev withPart : List ℤ → ℕ → ℕ → List ℤ → List ℤ

@@ -1,10 +1,10 @@
--- `matrix_row::steps_at` is the part of the steps that is row r's. Assumes nothing.
+-- `matrix::row_bytes` is the part of the table that is row r's. Assumes nothing.
 use borrow.Author.Needs.{needs}
 use Prim.Native.Nat.{_*_, _+_, _-_}
 use mathlib.Core.Path.{_≡_}
 use native.Mathlib.Omega.{arith}
-use Rattle.matrix_row.proofs.steps_at.Statement.{statement}
-use Rattle.matrix_row.proofs.steps_at.Tie as tie
+use Rattle.matrix.proofs.row_bytes.Statement.{statement}
+use Rattle.matrix.proofs.row_bytes.Tie as tie
 
 mul-start : tie.Need-mul-start
 mul-start c = search needs
@@ -24,6 +24,6 @@ part-result-end c = search needs
 returns : tie.Need-returns
 returns c = let s = c .before .args in let d : s .r * s .n + s .n - s .r * s .n ≡ s .n = omega arith in rw d
 
-pub steps-at-spec : {M : Type 1} → statement M
-steps-at-spec =
+pub row-bytes-spec : {M : Type 1} → statement M
+row-bytes-spec =
     tie.close (tie.spec mul-start add-stop sub-result part-result-start part-result-end returns)

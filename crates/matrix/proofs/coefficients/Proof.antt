@@ -1,11 +1,8 @@
--- `matrix_view::coefficients` is row r of the matrix. Assumes nothing.
-use Prim.Native.Nat.{_*_, _+_, _-_}
-use mathlib.Core.Path.{_≡_}
-use native.Mathlib.Omega.{arith}
+-- `matrix::coefficients` is row r of the matrix. Assumes nothing.
 use borrow.Author.Needs.{needs}
-use Rattle.model.specs.Rows.{rowOf}
-use Rattle.matrix_view.proofs.coefficients.Statement.{statement}
-use Rattle.matrix_view.proofs.coefficients.Tie as tie
+use Rattle.matrix.proofs.PartLaws.{part-is}
+use Rattle.matrix.proofs.coefficients.Statement.{statement}
+use Rattle.matrix.proofs.coefficients.Tie as tie
 
 mul-start : tie.Need-mul-start
 mul-start c = search needs
@@ -26,8 +23,7 @@ part-result-end : tie.Need-part-result-end
 part-result-end c = search needs
 
 returns : tie.Need-returns
-unfolding rowOf
-returns c = let s = c .before .args in let d : s .r * s .n + s .n - s .r * s .n ≡ s .n = omega arith in rw d
+returns c = let s = c .before .args in part-is (s .r) (s .n) (s .coefs .now)
 
 pub coefficients-spec : {M : Type 1} → statement M
 coefficients-spec =
