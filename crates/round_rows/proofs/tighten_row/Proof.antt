@@ -1,6 +1,6 @@
 -- `round_rows::tighten_row`: the invariant says that the calls so far were made and that `most` is Lmax of the row as it is. A variable that
 -- is not free is passed over, and the call for a coefficient that fails the test would change nothing (`quiet-turn`). Assumes nothing.
-use Prim.Native.Nat.{_*_, _+_, _-_, ℕ}
+use Prim.Native.Nat.{_*_, _-_, ℕ}
 use lib.ListN.{replicate}
 use mathlib.Core.Bool.{_&&_}
 use mathlib.Core.List.{List}
