@@ -1,6 +1,6 @@
 // What is left of a book's model, or `none`, on standard output, in few writes: as a report, or as pages. `printed`
-// counts the bytes that were written: so a contract can say that an answer's text is printed once, and whole. No kind is
-// printed (`left-kindless`), so none is lent: the states here have rows without kinds.
+// counts the bytes that were written: so a contract can say that an answer's text is printed once, and whole. No kind
+// is printed (`left-kindless`), so none is lent: the states here have rows without kinds.
 use page_call::PAGE;
 use page_call::pages_needed;
 use page_call::write_all;
