@@ -26,7 +26,7 @@ pub record Implied (s left : State) (i : ℕ) : Type 0 where
 pub record Reported (form : Form) (s : State) (text : List ℕ) : Type 0 where
   pub left : State
   pub rounds : ℕ
-  pub printed : text ≡ leftText form (left .model .n) (left .model .m) rounds (left .model .box) (left .model .rows .coefs) (left .model .rows .rhs) (left .table)
+  pub printed : text ≡ leftText form rounds left
   pub points : (x : List ℤ) → PointOf left x ↔ PointOf s x
   pub fractional : (x : List ℤ) (d : ℕ) → FractionalPointOf left x d → FractionalPointOf s x d
   pub implications : (i : ℕ) → i < 4 * (left .model .n * left .model .n) → (implicationAt (left .model .n) (left .table) i ≡ []) ⊎ Implied s left i

@@ -114,7 +114,7 @@ fn can_tie(
     j: usize,
     w: u32,
 ) -> bool
-    requires { ⌜ SmallRows n m (now coefs) (now rhs) × ((k < n) × (j < n)) ⌝ }
+    requires { ⌜ SmallRows n m (rowsOf (now coefs) (now rhs) []) × ((k < n) × (j < n)) ⌝ }
     requires { ⌜ (length (now bounds) ≡ 2 * n) × (length (now ties) ≡ n) ⌝ }
     ensures { λ r.
         let A = rowsOf (now (coefs .entry)) (now (rhs .entry)) [] in

@@ -75,7 +75,7 @@ fn row_fits_at(n: usize, coefs: &[i32], rhs: &[i32], i: usize, k: usize, j: usiz
 
 // Whether every row's numbers stay within their limits. Nothing is written.
 pub fn rows_fit(n: usize, m: usize, coefs: &[i32], rhs: &[i32], k: usize, j: usize, w: u32) -> bool
-    requires { ⌜ SmallRows n m (now coefs) (now rhs) × ((k < n) × (j < n)) ⌝ }
+    requires { ⌜ SmallRows n m (rowsOf (now coefs) (now rhs) []) × ((k < n) × (j < n)) ⌝ }
     ensures { λ r. ⌜ r ≡ rowsFit k j w (modelOf n m [] (rowsOf (now (coefs .entry)) (now (rhs .entry)) [])) ⌝ }
 {
     let mut i = 0;
@@ -106,7 +106,7 @@ fn tie_row_at(n: usize, coefs: &mut [i32], rhs: &mut [i32], i: usize, k: usize, 
 
 // Puts it into every row.
 pub fn tie_rows(n: usize, m: usize, coefs: &mut [i32], rhs: &mut [i32], k: usize, j: usize, w: u32)
-    requires { ⌜ SmallRows n m (now coefs) (now rhs) × ((k < n) × (j < n)) ⌝ }
+    requires { ⌜ SmallRows n m (rowsOf (now coefs) (now rhs) []) × ((k < n) × (j < n)) ⌝ }
     ensures rows { λ r. ⌜ now (coefs .exit) ≡ tieCoefsTo m n k j w (now (coefs .entry)) ⌝ }
     ensures sides { λ r. ⌜ now (rhs .exit) ≡ tieRhsTo m n j w (now (coefs .entry)) (now (rhs .entry)) ⌝ }
 {

@@ -1,15 +1,16 @@
 -- `report_chunk::write_row_at`: what is lent is row r (`coefficients`), and the test is the definition's. Assumes nothing.
 use borrow.Author.Needs.{needs}
 use lib.ListN.{length}
+use mathlib.Core.List.{[]}
 use mathlib.Core.Path.{_∙_, _≡_, ap, sym}
 use mir.Facts.{toZ-ofZ}
 use mir.Syntax.{w32}
 use mir.Val.{SFits}
 use native.Mathlib.Omega.{arith}
 use Rattle.model.specs.Box.{at}
-use Rattle.model.specs.Rows.{rowOf}
+use Rattle.model.specs.Rows.{rowAt, rowsOf}
 use Rattle.matrix.proofs.PartLaws.{part-length}
-use Rattle.report.specs.Report.{isZeroRow, rowAt}
+use Rattle.report.specs.Report.{isZeroRow, rowText}
 use Rattle.text.proofs.TextLaws.{wrote-none}
 use Rattle.report_chunk.proofs.write_row_at.Statement.{statement}
 use Rattle.report_chunk.proofs.write_row_at.Tie as tie
@@ -31,11 +32,11 @@ abbrev side-fits : (c : tie.After-is-zero-row) → SFits w32 (at (c .before .bef
 side-fits c = record { sfits = c .before .b .given }
 
 tested : (c : tie.After-is-zero-row)
-    → isZeroRow (at (c .before .before .before .before .args .rhs .now) (c .before .before .before .before .args .r)) (rowOf (c .before .before .before .before .args .n) (c .before .before .before .before .args .coefs .now) (c .before .before .before .before .args .r)) ≡ c .is-zero-row .result
+    → let a = c .before .before .before .before .args in isZeroRow (rowAt (a .n) (rowsOf (a .coefs .now) (a .rhs .now) []) (a .r)) ≡ c .is-zero-row .result
 tested c = sym (simp (toZ-ofZ, side-fits c, c .before .before .coefficients .ensures) at (c .is-zero-row .ensures))
 
 returns : tie.Need-returns
-unfolding rowAt
+unfolding rowText
 returns c = rw (tested (c .before) ∙ c .if1 .taken) (wrote-none _ _ (omega arith))
 
 cast-write-row : tie.Need-cast-write-row
@@ -52,7 +53,7 @@ same-length : tie.Need-same-length
 same-length c = search needs
 
 returns-2 : tie.Need-returns-2
-unfolding rowAt
+unfolding rowText
 returns-2 c =
     let z = c .before .before .before .before .before in
     let w = c .before .before .write-row .ensures .0 in
