@@ -1,9 +1,6 @@
 // One call on a model, and whether the points agree with those of before.
-use crate::grid;
 use crate::lies::spoil;
 use crate::lies::spoil_before;
-use crate::models::boxes;
-use crate::models::put_model;
 use crate::moved;
 use crate::rooms::bounds_part;
 use crate::rooms::coefs_part;
@@ -11,16 +8,65 @@ use crate::rooms::kinds_part;
 use crate::rooms::rhs_part;
 use crate::rooms::row_count;
 use crate::rooms::table_part;
+use call::Call;
+use call::REMOVE_ROW;
 use rounds::RoundsAnswer;
-use test_support::made::DROP;
-use test_support::made::is_none;
-use test_support::made::make;
-use test_support::parts::bytes_part_mut;
+use test_one_call::made::is_none;
+use test_one_call::made::make;
+use test_points::grid;
+use test_points::models::boxes;
+use test_points::models::put_model;
+use test_text::parts::bytes_part_mut;
 
 // What a call said: whether it answered None, and whether the number of bounds that it moved is right.
 struct Said {
     none: bool,
     moved: bool,
+}
+
+// Makes a call on model `code`.
+fn say_call(
+    n: usize,
+    code: usize,
+    bounds: &mut [i32],
+    coefs: &mut [i32],
+    rhs: &mut [i32],
+    kinds: &mut [u8],
+    table: &mut [u8],
+    call: Call,
+    lie: u32,
+) -> Said {
+    let made = make(n, row_count(n), bounds, coefs, rhs, kinds, table, call);
+    let mut room = [0i32; 8];
+    let before = bounds_part(&mut room, n);
+    boxes(before, code);
+    spoil_before(lie, before);
+    Said {
+        none: is_none(made),
+        moved: moved::agrees(made, before, bounds),
+    }
+}
+
+// Makes the rounds of `reduce`.
+fn say_rounds(
+    n: usize,
+    bounds: &mut [i32],
+    coefs: &mut [i32],
+    rhs: &mut [i32],
+    kinds: &mut [u8],
+    table: &mut [u8],
+) -> Said {
+    let answer = rounds_call::run(n, row_count(n), bounds, coefs, rhs, kinds, table, 8);
+    let RoundsAnswer::Infeasible(_, _) = answer else {
+        return Said {
+            none: false,
+            moved: true,
+        };
+    };
+    Said {
+        none: true,
+        moved: true,
+    }
 }
 
 // Makes a call on model `code`, or for a kind beyond them the rounds of `reduce`.
@@ -32,39 +78,13 @@ fn say(
     rhs: &mut [i32],
     kinds: &mut [u8],
     table: &mut [u8],
-    call: [u32; 4],
+    call: Call,
     lie: u32,
 ) -> Said {
-    if call[0] <= DROP {
-        let made = make(n, row_count(n), bounds, coefs, rhs, kinds, table, call);
-        let mut room = [0i32; 8];
-        let before = bounds_part(&mut room, n);
-        boxes(before, code);
-        spoil_before(lie, before);
-        return Said {
-            none: is_none(made),
-            moved: moved::agrees(made, before, bounds),
-        };
+    if call.kind <= REMOVE_ROW {
+        return say_call(n, code, bounds, coefs, rhs, kinds, table, call, lie);
     }
-    let RoundsAnswer::Infeasible(_, _) = rounds_call::run(
-        n,
-        row_count(n),
-        bounds,
-        coefs,
-        rhs,
-        kinds,
-        table,
-        8,
-    ) else {
-        return Said {
-            none: false,
-            moved: true,
-        };
-    };
-    Said {
-        none: true,
-        moved: true,
-    }
+    say_rounds(n, bounds, coefs, rhs, kinds, table)
 }
 
 // Whether the points are those that were marked before, None is said of none, and each recorded implication holds.
@@ -94,7 +114,7 @@ pub fn agrees(
 }
 
 // One call on a fresh model, with a mistake put in: whether the points and the bounds moved agree.
-pub fn attempt(n: usize, code: usize, call: [u32; 4], marks: &[u8], lie: u32) -> bool {
+pub fn attempt(n: usize, code: usize, call: Call, marks: &[u8], lie: u32) -> bool {
     let mut box_room = [0i32; 8];
     let mut coef_room = [0i32; 12];
     let mut side_room = [0i32; 3];
