@@ -6,19 +6,10 @@ use Rattle.test_one_call.proofs.copies.all.Statement.{statement}
 use Rattle.test_one_call.proofs.copies.all.Tie as tie
 
 abbrev Inv-loop : tie.InvT-loop
-Inv-loop n m bounds coefs rhs kinds table row variable budget kind₀ kind = kind ≤ 7
+Inv-loop n m bounds coefs rhs kinds table each₀ kind₀ each kind = kind ≤ 7
 
 abbrev μ-loop : tie.MeasureT-loop
-μ-loop n m bounds coefs rhs kinds table row variable budget kind₀ kind = 7 - kind
-
-array-read-row : tie.Need-array-read-row Inv-loop μ-loop
-array-read-row c = search needs
-
-array-read-variable : tie.Need-array-read-variable Inv-loop μ-loop
-array-read-variable c = search needs
-
-array-read-budget : tie.Need-array-read-budget Inv-loop μ-loop
-array-read-budget c = search needs
+μ-loop n m bounds coefs rhs kinds table each₀ kind₀ each kind = 7 - kind
 
 loop-holds : tie.Need-loop-holds Inv-loop μ-loop
 loop-holds c = omega arith
@@ -41,15 +32,4 @@ returns c = search needs
 pub all-spec : {M : Type 1} → statement M
 all-spec =
     tie.close
-    (tie.spec
-    Inv-loop
-    μ-loop
-    array-read-row
-    array-read-variable
-    array-read-budget
-    loop-holds
-    one-requires
-    add-kind
-    loop-less
-    loop-again
-    returns)
+    (tie.spec Inv-loop μ-loop loop-holds one-requires add-kind loop-less loop-again returns)
