@@ -24,51 +24,6 @@ struct Said {
     moved: bool,
 }
 
-// Makes a call on model `code`.
-fn say_call(
-    n: usize,
-    code: usize,
-    bounds: &mut [i32],
-    coefs: &mut [i32],
-    rhs: &mut [i32],
-    kinds: &mut [u8],
-    table: &mut [u8],
-    call: Call,
-    lie: u32,
-) -> Said {
-    let made = make(n, row_count(n), bounds, coefs, rhs, kinds, table, call);
-    let mut room = [0i32; 8];
-    let before = bounds_part(&mut room, n);
-    boxes(before, code);
-    spoil_before(lie, before);
-    Said {
-        none: is_none(made),
-        moved: moved::agrees(made, before, bounds),
-    }
-}
-
-// Makes the rounds of `reduce`.
-fn say_rounds(
-    n: usize,
-    bounds: &mut [i32],
-    coefs: &mut [i32],
-    rhs: &mut [i32],
-    kinds: &mut [u8],
-    table: &mut [u8],
-) -> Said {
-    let answer = rounds_call::run(n, row_count(n), bounds, coefs, rhs, kinds, table, 8);
-    let RoundsAnswer::Infeasible(_, _) = answer else {
-        return Said {
-            none: false,
-            moved: true,
-        };
-    };
-    Said {
-        none: true,
-        moved: true,
-    }
-}
-
 // Makes a call on model `code`, or for a kind beyond them the rounds of `reduce`.
 fn say(
     n: usize,
@@ -82,9 +37,35 @@ fn say(
     lie: u32,
 ) -> Said {
     if call.kind <= REMOVE_ROW {
-        return say_call(n, code, bounds, coefs, rhs, kinds, table, call, lie);
+        let made = make(n, row_count(n), bounds, coefs, rhs, kinds, table, call);
+        let mut room = [0i32; 8];
+        let before = bounds_part(&mut room, n);
+        boxes(before, code);
+        spoil_before(lie, before);
+        return Said {
+            none: is_none(made),
+            moved: moved::agrees(made, before, bounds),
+        };
     }
-    say_rounds(n, bounds, coefs, rhs, kinds, table)
+    let RoundsAnswer::Infeasible(_, _) = rounds_call::run(
+        n,
+        row_count(n),
+        bounds,
+        coefs,
+        rhs,
+        kinds,
+        table,
+        8,
+    ) else {
+        return Said {
+            none: false,
+            moved: true,
+        };
+    };
+    Said {
+        none: true,
+        moved: true,
+    }
 }
 
 // Whether the points are those that were marked before, None is said of none, and each recorded implication holds.

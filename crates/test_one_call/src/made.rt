@@ -28,7 +28,30 @@ pub enum Made {
     Rest(RestAnswer),
 }
 
-// Makes a call. Every kind that is none of a record is the rest call here.
+// Makes a call that leaves the rows. Every kind that is none of a record is the rest call here.
+fn make_on_box(
+    n: usize,
+    m: usize,
+    bounds: &mut [i32],
+    coefs: &[i32],
+    rhs: &[i32],
+    kinds: &[u8],
+    table: &mut [u8],
+    call: Call,
+) -> Made {
+    let row = call.row;
+    let variable = call.variable;
+    let budget = call.budget;
+    let kind = call.kind;
+    match kind {
+        PROPAGATE_ROW => Made::PropagatedRow(propagate_row(n, m, bounds, coefs, rhs, kinds, row)),
+        PROPAGATE => Made::Propagated(propagate(n, m, bounds, coefs, rhs, kinds, budget)),
+        PROBE => Made::Probed(probe(n, m, bounds, coefs, rhs, kinds, table, variable, budget)),
+        _ => Made::Rest(is_probing_fixpoint(n, m, bounds, coefs, rhs, kinds)),
+    }
+}
+
+// Makes a call.
 pub fn make(
     n: usize,
     m: usize,
@@ -41,12 +64,8 @@ pub fn make(
 ) -> Made {
     let row = call.row;
     let variable = call.variable;
-    let budget = call.budget;
     let kind = call.kind;
     match kind {
-        PROPAGATE_ROW => Made::PropagatedRow(propagate_row(n, m, bounds, coefs, rhs, kinds, row)),
-        PROPAGATE => Made::Propagated(propagate(n, m, bounds, coefs, rhs, kinds, budget)),
-        PROBE => Made::Probed(probe(n, m, bounds, coefs, rhs, kinds, table, variable, budget)),
         TIGHTEN_COEFFICIENT => Made::Tightened(tighten_coefficient(
             n,
             m,
@@ -58,7 +77,7 @@ pub fn make(
             variable,
         )),
         REMOVE_ROW => Made::Removed(remove_redundant_row(n, m, bounds, coefs, rhs, kinds, row)),
-        _ => Made::Rest(is_probing_fixpoint(n, m, bounds, coefs, rhs, kinds)),
+        _ => make_on_box(n, m, bounds, coefs, rhs, kinds, table, call),
     }
 }
 
