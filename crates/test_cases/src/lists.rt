@@ -19,7 +19,7 @@ use test_text::words::first;
 use test_text::words::natural;
 use test_text::words::number;
 
-// The four counts: refused, None, changed, unchanged.
+// The four counts: refused, infeasible, changed, unchanged.
 fn ran(a: RunAnswer) {
     match a {
         RunAnswer::Refused(number) => refused(number),

@@ -11,16 +11,16 @@ use crate::rooms::table_part;
 use call::Call;
 use call::REMOVE_ROW;
 use rounds::RoundsAnswer;
-use test_one_call::made::is_none;
+use test_one_call::made::is_infeasible;
 use test_one_call::made::make;
 use test_points::grid;
 use test_points::models::boxes;
 use test_points::models::put_model;
 use test_text::parts::bytes_part_mut;
 
-// What a call said: whether it answered None, and whether the number of bounds that it moved is right.
+// What a call said: whether the model is infeasible; and whether the number of bounds that it moved is right.
 struct Said {
-    none: bool,
+    infeasible: bool,
     moved: bool,
 }
 
@@ -43,7 +43,7 @@ fn say(
         boxes(before, code);
         spoil_before(lie, before);
         return Said {
-            none: is_none(made),
+            infeasible: is_infeasible(made),
             moved: moved::agrees(made, before, bounds),
         };
     }
@@ -58,17 +58,18 @@ fn say(
         8,
     ) else {
         return Said {
-            none: false,
+            infeasible: false,
             moved: true,
         };
     };
     Said {
-        none: true,
+        infeasible: true,
         moved: true,
     }
 }
 
-// Whether the points are those that were marked before, None is said of none, and each recorded implication holds.
+// Whether the points are those that were marked before, a model that is said to be infeasible has none, and each
+// recorded implication holds.
 pub fn agrees(
     n: usize,
     bounds: &[i32],
@@ -77,7 +78,7 @@ pub fn agrees(
     kinds: &[u8],
     table: &[u8],
     marks: &[u8],
-    none: bool,
+    infeasible: bool,
 ) -> bool {
     let mut room = [0u8; 1_296];
     let after = bytes_part_mut(&mut room, marks.len());
@@ -88,7 +89,7 @@ pub fn agrees(
     if grid::broken(bounds.len(), table, marks) != 0 {
         return false;
     }
-    if none {
+    if infeasible {
         return grid::marked(marks) == 0;
     }
     true
@@ -118,6 +119,6 @@ pub fn attempt(n: usize, code: usize, call: Call, marks: &[u8], lie: u32) -> boo
             kinds,
             table,
             marks,
-            said.none || lie == 5,
+            said.infeasible || lie == 5,
         )
 }

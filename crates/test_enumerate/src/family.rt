@@ -171,8 +171,8 @@ pub fn families() {
 }
 
 // The same comparison over calls that leave something wrong: a right side lowered with a negative coefficient, an upper
-// bound cut, an upper bound moved out, an implication invented, None said, a bound that moved not counted, an = row
-// made a ≤ row.
+// bound cut, an upper bound moved out, an implication invented, infeasible said, a bound that moved not counted, an =
+// row made a ≤ row.
 pub fn lies() {
     family(b"lie 1", 2, 20_000, 1, false);
     family(b"lie 2", 2, 2_000, 2, false);

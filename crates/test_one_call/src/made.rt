@@ -81,8 +81,8 @@ pub fn make(
     }
 }
 
-// Whether the answer is None.
-pub fn is_none(made: Made) -> bool {
+// Whether the answer is that the model is infeasible.
+pub fn is_infeasible(made: Made) -> bool {
     match made {
         Made::PropagatedRow(a) => {
             let PropagateRowAnswer::Infeasible = a else {
