@@ -8,6 +8,7 @@ use mathlib.Core.Bool.{cond}
 use mathlib.Core.List.{List}
 use mathlib.Core.Path.{_≡_}
 use Rattle.model.specs.Box.{at}
+use Rattle.model.specs.Limits.{maxVariables}
 
 -- 1 above 0, 2 below, 3 for 0
 unfoldable pub signOf : ℤ → ℕ
@@ -22,7 +23,7 @@ pub record GoodStep (n : ℕ) (C : List ℤ) (start : ℕ) (S : List ℕ) (j : �
 -- the steps, row by row: those of a row that are known are good
 pub record RowSteps (n m : ℕ) (C : List ℤ) (across : List ℕ) : Type 0 where
   pub some : 0 < n
-  pub few : n ≤ 128
+  pub few : n ≤ maxVariables
   pub matrix : m * n ≤ length C
   pub room : m * n ≤ length across
   pub right : (r : ℕ) → r < m → (getD across (r * n) 0 ≡ 0 → ⊥) → (j : ℕ) → j < n → GoodStep n C (r * n) across j

@@ -7,6 +7,7 @@ ghost use mathlib.Core.Logic.{_⊎_};
 ghost use Prim.Native.Nat.{ℕ, _*_, _+_, _<_, _≤_};
 ghost use lib.ListN.{length, getD};
 ghost use Rattle.model.specs.Box.{at};
+ghost use Rattle.model.specs.Limits.{maxVariables};
 ghost use Rattle.row_index.specs.Index.{ColumnSigns, GoodStep, RowSteps, signOf};
 
 // 1 above 0, 2 below, 3 for 0.
@@ -24,7 +25,7 @@ fn sign(a: i32) -> u8
 
 // Makes the steps of the row that starts at `start`, from its end.
 fn fill_steps(n: usize, coefs: &[i32], start: usize, across: &mut [u8])
-    requires { ⌜ (n ≤ 128) × (start + n ≤ length (now coefs)) × (start + n ≤ length (now across)) ⌝ }
+    requires { ⌜ (n ≤ maxVariables) × (start + n ≤ length (now coefs)) × (start + n ≤ length (now across)) ⌝ }
     ensures row { λ _. ⌜ ((j : ℕ) → j < n → GoodStep n (now (coefs .entry)) start (now (across .exit)) j) ⌝ }
     ensures others { λ _.
         ⌜ ((q : ℕ) → (q < start) ⊎ (start + n ≤ q) → getD (now (across .exit)) q 0 ≡ getD (now (across .entry)) q 0) ⌝ }
