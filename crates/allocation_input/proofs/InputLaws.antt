@@ -33,8 +33,8 @@ use Rattle.proposals.specs.Proposals.{maxProposals, numbers, proposal}
 use Rattle.proposals.specs.Verdict.{verdict}
 use Rattle.proposals.proofs.CallLaws.{count-in, count-out, left-accepted}
 use Rattle.semantics.specs.Lowest.{lowest}
-use Rattle.semantics.proofs.LowestLaws.{lowest-all, lowest-below, lowest-fails, lowest-is}
-use Rattle.allocation_input.specs.Answers.{Holdable, Judged, Room, Splits, verdictsOf}
+use Rattle.call_laws.proofs.LowestLaws.{lowest-all, lowest-below, lowest-fails, lowest-is}
+use Rattle.allocation_input.specs.Judging.{Holdable, Judged, Room, Splits, verdictsOf}
 use Rattle.allocation_input.specs.Input.{bookEnd, bookOf, countAt, firstEnd, inputChecks, inputFault, maxInput, modelOfInput, noBook, noSplit, proposalChecks, proposalsAt, wholeEnd}
 use Rattle.allocation_input.specs.Meaning.{BookFound}
 use Rattle.allocation_input.specs.Output.{inputVerdict}

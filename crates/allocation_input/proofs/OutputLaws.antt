@@ -10,7 +10,7 @@ use Rattle.report.specs.Report.{refusedLine}
 use Rattle.text.specs.Text.{Wrote, texts}
 use Rattle.proposals.specs.Proposals.{caseOf, numberOf}
 use Rattle.proposals.specs.Verdict.{Verdict, breaks, inside, outsideAt}
-use Rattle.allocation_input.specs.Answers.{Judged}
+use Rattle.allocation_input.specs.Judging.{Judged}
 use Rattle.allocation_input.specs.Input.{inputChecks, inputFault, maxInput}
 use Rattle.allocation_input.specs.Output.{inputVerdict, output, verdictLine}
 

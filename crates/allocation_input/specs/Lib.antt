@@ -1,4 +1,4 @@
 pub mod Input
 pub mod Output
 pub mod Meaning
-pub mod Answers
+pub mod Judging

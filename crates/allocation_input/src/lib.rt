@@ -10,6 +10,7 @@ ghost use Prim.Native.Nat.{_≤_};
 ghost use lib.ListN.{length};
 ghost use Rattle.model.specs.Checks.{first};
 ghost use Rattle.allocation_input.specs.Input.{bookEnd, countAt, firstEnd, maxInput, noSplit};
+ghost use Rattle.model.specs.Limits.{maxVariables};
 ghost use Rattle.allocation_input.specs.Input.{proposalChecks, wholeEnd};
 
 pub enum Answer {
@@ -37,7 +38,7 @@ pub fn count_behind(input: &[u8], end: usize) -> u32
 // Checks 22 and 5 of what stands behind a book of n variables that ends at `end`: the number of the first that fails,
 // else 0.
 pub fn proposals_fault(input: &[u8], end: usize, n: usize) -> u32
-    requires { ⌜ (length (now input) ≤ maxInput) × (end ≤ length (now input)) × (n ≤ 128) ⌝ }
+    requires { ⌜ (length (now input) ≤ maxInput) × (end ≤ length (now input)) × (n ≤ maxVariables) ⌝ }
     ensures { λ r. ⌜ r ≡ first (proposalChecks n end (now (input .entry))) ⌝ }
 {
     let count = count_behind(input, end);

@@ -18,7 +18,7 @@ use verdicts::check_allocations;
 ghost use mathlib.Core.Path.{_≡_};
 ghost use Prim.Native.Nat.{_≤_};
 ghost use lib.ListN.{length};
-ghost use Rattle.allocation_input.specs.Answers.{Answers, Holdable, Room, Splits, verdictsOf};
+ghost use Rattle.allocation_input.specs.Judging.{Answers, Holdable, Room, Splits, verdictsOf};
 ghost use Rattle.allocation_input.specs.Input.{maxInput};
 ghost use Rattle.book.specs.Book.{decode};
 ghost use Rattle.book.specs.BookChecks.{modelNumberChecks};

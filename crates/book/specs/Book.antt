@@ -8,6 +8,7 @@ use Rattle.model.specs.Model.{Model, modelOf}
 use Rattle.model.specs.Rows.{Row, Rows, rowAt, rowsOf}
 use Rattle.bytes.specs.Bytes.{bytesOf, integerAt, integerBytes, integersAt, numberAt}
 use Rattle.bytes.specs.Pieces.{joined, listOf}
+use Rattle.model.specs.Limits.{maxRows, maxVariables}
 
 -- "length of the book, 32 bits, 8n + m(4 + 4n) + 16"
 unfoldable pub bookLength : ℕ → ℕ → ℕ
@@ -19,8 +20,8 @@ rowPlace n i = 8 * n + i * (4 + 4 * n)
 
 -- bytes that the bounds and the rows of n variables and m rows lie within
 pub record HoldsModel (n m : ℕ) (bs : List ℕ) : Type 0 where
-  pub few : n ≤ 128
-  pub fewRows : m ≤ 120
+  pub few : n ≤ maxVariables
+  pub fewRows : m ≤ maxRows
   pub body : 8 * n + m * (4 + 4 * n) ≤ length bs
 
 -- ---- the bytes of a model

@@ -11,6 +11,7 @@ ghost use Rattle.model.specs.Checks.{first};
 ghost use Rattle.book.specs.Answers.{sizesAnswer, trailerCall};
 ghost use Rattle.book.specs.Book.{bookLength, rowPlace, trailerBytes, trailerOf, variables, rows};
 ghost use Rattle.bytes.specs.Bytes.{numberAt};
+ghost use Rattle.model.specs.Limits.{maxRows, maxVariables};
 ghost use Rattle.book.specs.BookChecks.{givenLengthChecks, headChecks, layoutChecks};
 
 pub const TRAILER: usize = 16;
@@ -51,7 +52,7 @@ pub fn trailer_u16(book: &[u8], at: usize) -> usize
 
 // The place of row i: its right side, and then its coefficients.
 pub fn row_place(n: usize, i: usize) -> usize
-    requires { ⌜ (n ≤ 128) × (i ≤ 120) ⌝ }
+    requires { ⌜ (n ≤ maxVariables) × (i ≤ maxRows) ⌝ }
     ensures { λ r. ⌜ r ≡ rowPlace n i ⌝ }
 {
     8 * n + i * (4 + 4 * n)
@@ -59,7 +60,7 @@ pub fn row_place(n: usize, i: usize) -> usize
 
 // The length of a book of n variables and m rows.
 pub fn book_length(n: usize, m: usize) -> usize
-    requires { ⌜ (n ≤ 128) × (m ≤ 120) ⌝ }
+    requires { ⌜ (n ≤ maxVariables) × (m ≤ maxRows) ⌝ }
     ensures { λ r. ⌜ r ≡ bookLength n m ⌝ }
 {
     row_place(n, m) + TRAILER
@@ -138,7 +139,7 @@ pub fn trailer(bytes: &[u8]) -> SizesAnswer
 
 // Writes the trailer of a book of n variables, m rows and len bytes.
 pub fn write_trailer(trailer: &mut [u8], n: usize, m: usize, len: usize)
-    requires { ⌜ (length (now trailer) ≡ 16) × (n ≤ 128) × (m ≤ 120) × (len < 4_294_967_296) ⌝ }
+    requires { ⌜ (length (now trailer) ≡ 16) × (n ≤ maxVariables) × (m ≤ maxRows) × (len < 4_294_967_296) ⌝ }
     ensures { λ r. ⌜ now (trailer .exit) ≡ trailerBytes n m len ⌝ }
 {
     write_u32(trailer, 0, 0);

@@ -14,7 +14,7 @@ ghost use mathlib.Core.Path.{_≡_};
 ghost use Prim.Native.Nat.{ℕ, _*_, _≤_};
 ghost use lib.ListN.{length};
 ghost use Rattle.model.specs.Checks.{boxChecks, first, inRange, numberChecks};
-ghost use Rattle.model.specs.Limits.{minCoef, maxCoef};
+ghost use Rattle.model.specs.Limits.{maxCoef, maxVariables, minCoef};
 ghost use Rattle.model.specs.Model.{modelOf};
 ghost use Rattle.model.specs.Rows.{rowsOf};
 ghost use Rattle.book.specs.Answers.{boundsRead, coefsRead, kindsRead, readCall, readFault, rhsRead};
@@ -23,7 +23,7 @@ ghost use Rattle.book.specs.Book.{HoldsModel, boundsOf, coefsOf, encode, kindsO
 
 // Checks 6, 7 and 23 over the book's bounds.
 pub fn bounds_fault(n: usize, book: &[u8]) -> u32
-    requires { ⌜ (n ≤ 128) × (8 * n ≤ length (now book)) ⌝ }
+    requires { ⌜ (n ≤ maxVariables) × (8 * n ≤ length (now book)) ⌝ }
     ensures { λ r. ⌜ r ≡ first (boxChecks n (boundsOf n (now (book .entry)))) ⌝ }
 {
     let mut bounds = [0i32; 2 * MAX_VARIABLES];

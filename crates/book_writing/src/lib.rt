@@ -6,6 +6,7 @@ use book::layout::write_trailer;
 use book::writing::WriteAnswer;
 use bytes::integers::write_integers;
 use bytes::write_i32;
+use matrix::coefficients;
 use model_checks::model_fault;
 use model_checks::size_fault;
 ghost use mathlib.Core.List.{[]};
@@ -89,10 +90,8 @@ fn write_rows(n: usize, coefs: &[i32], rhs: &[i32], book: &mut [u8])
     let mut i = 0;
     while i < rhs.len() {
         let row = row_place(n, i);
-        let start = i * n;
-        let end = start + n;
         write_i32(book, row, rhs[i]);
-        write_integers(book, row + 4, &coefs[start..end]);
+        write_integers(book, row + 4, coefficients(n, coefs, i));
         i += 1;
     }
 }

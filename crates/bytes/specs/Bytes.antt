@@ -8,19 +8,27 @@ use mathlib.Core.List.{List, [], _∷_}
 use Rattle.model.specs.Box.{at}
 use Rattle.bytes.specs.Pieces.{joined, listOf, part}
 
+-- a byte is one of so many numbers, from 0 on
+abbrev pub byteCount : ℕ
+byteCount = 256
+
+-- and two bytes are one of so many
+abbrev pub pairCount : ℕ
+pairCount = 65_536
+
 -- the w bytes of x, the lowest first
 unfoldable pub bytesOf : ℕ → ℕ → List ℕ
 bytesOf zero x = []
-bytesOf (suc w) x = x % 256 ∷ bytesOf w (x / 256)
+bytesOf (suc w) x = x % byteCount ∷ bytesOf w (x / byteCount)
 
 -- the number of a list of bytes, the lowest first
 unfoldable pub numberOf : List ℕ → ℕ
 numberOf [] = 0
-numberOf (b ∷ bs) = b + 256 * numberOf bs
+numberOf (b ∷ bs) = b + byteCount * numberOf bs
 
 -- every number of bs is a byte
 pub record Bytes (bs : List ℕ) : Type 0 where
-  pub below : (i : ℕ) → getD bs i 0 < 256
+  pub below : (i : ℕ) → getD bs i 0 < byteCount
 
 -- 32 bits as a signed number: from 2³¹ on, 2³² less
 unfoldable pub signedOf : ℕ → ℤ

@@ -7,6 +7,13 @@ ghost use Rattle.bytes.specs.Pieces.{overwrite};
 
 pub mod integers;
 
+// The numbers that a byte can be, and those that two bytes can.
+pub const BYTE: usize = 256;
+
+const BYTE_16: u16 = BYTE as u16;
+
+const TWO_BYTES: u32 = (BYTE * BYTE) as u32;
+
 const SIGN: u32 = 2_147_483_648;
 
 const TWO_TO_32: i64 = 4_294_967_296;
@@ -15,7 +22,7 @@ pub fn read_u16(bytes: &[u8], at: usize) -> u16
     requires { ⌜ at + 2 ≤ length (now bytes) ⌝ }
     ensures { λ r. ⌜ r ≡ numberAt 2 at (now (bytes .entry)) ⌝ }
 {
-    (bytes[at] as u16) + 256 * (bytes[at + 1] as u16)
+    (bytes[at] as u16) + BYTE_16 * (bytes[at + 1] as u16)
 }
 
 pub fn read_u32(bytes: &[u8], at: usize) -> u32
@@ -24,7 +31,7 @@ pub fn read_u32(bytes: &[u8], at: usize) -> u32
 {
     let low = read_u16(bytes, at);
     let high = read_u16(bytes, at + 2);
-    (low as u32) + 65_536 * (high as u32)
+    (low as u32) + TWO_BYTES * (high as u32)
 }
 
 pub fn read_i32(bytes: &[u8], at: usize) -> i32
@@ -42,16 +49,16 @@ pub fn write_u16(bytes: &mut [u8], at: usize, x: u16)
     requires { ⌜ at + 2 ≤ length (now bytes) ⌝ }
     ensures { λ r. ⌜ now (bytes .exit) ≡ overwrite at (bytesOf 2 x) (now (bytes .entry)) ⌝ }
 {
-    bytes[at] = (x % 256) as u8;
-    bytes[at + 1] = (x / 256) as u8;
+    bytes[at] = (x % BYTE_16) as u8;
+    bytes[at + 1] = (x / BYTE_16) as u8;
 }
 
 pub fn write_u32(bytes: &mut [u8], at: usize, x: u32)
     requires { ⌜ at + 4 ≤ length (now bytes) ⌝ }
     ensures { λ r. ⌜ now (bytes .exit) ≡ overwrite at (bytesOf 4 x) (now (bytes .entry)) ⌝ }
 {
-    write_u16(bytes, at, (x % 65_536) as u16);
-    write_u16(bytes, at + 2, (x / 65_536) as u16);
+    write_u16(bytes, at, (x % TWO_BYTES) as u16);
+    write_u16(bytes, at + 2, (x / TWO_BYTES) as u16);
 }
 
 // The 32 bits of x.

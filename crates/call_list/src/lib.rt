@@ -11,8 +11,8 @@ ghost use lib.ListN.{length, getD};
 ghost use Rattle.semantics.specs.CallList.{runList};
 ghost use Rattle.model.specs.Rows.{rowsOf};
 ghost use Rattle.model.specs.State.{stateOf};
-ghost use Rattle.semantics.specs.TwoLists.{CountsAddUp, Demand3Lists, ListMeans};
-ghost use Rattle.semantics.specs.TwoRuns.{EveryModelHandedIn};
+ghost use Rattle.demands.specs.TwoLists.{CountsAddUp, Demand3Lists, ListMeans};
+ghost use Rattle.demands.specs.TwoRuns.{EveryModelHandedIn};
 ghost use Rattle.flat_list.specs.ListAnswers.{listRun};
 ghost use Rattle.call_record.specs.Records.{noCall, numbersOf};
 

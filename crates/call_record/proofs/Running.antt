@@ -8,7 +8,7 @@ use Rattle.semantics.specs.CallList.{ListAnswer, ListRun, listChecks, listFault
 use Rattle.semantics.specs.Run.{runListed, tally}
 use Rattle.model.specs.State.{State}
 use Rattle.semantics.specs.Call.{callOf}
-use Rattle.semantics.proofs.CallLists.{Along, along-end, along-more, along-start, list-accepted, list-ind, list-refused}
+use Rattle.demands.proofs.CallLists.{Along, along-end, along-more, along-start, list-accepted, list-ind, list-refused}
 use Rattle.call_record.specs.Records.{Runs, RunsAt, nextOf, noCall, numbersOf, runNext}
 use Rattle.call.specs.Calls.{callOn}
 use Rattle.call.specs.declared.Call.{Call}

@@ -1,29 +1,20 @@
 // The calls on books.
-use crate::ANSWER;
-use book::trailer;
-use book_reading::read;
-use book_replies::books::read_fault;
-use book_replies::books::trailer_fault;
-use book_replies::books::write_number;
-use book_writing::write;
-use call_replies::sizes_reply;
-use replies::reply::put;
+use book_exports::read_said;
+use book_exports::trailer_said;
+use book_exports::write_said;
 ghost use mathlib.Core.Path.{_≡_};
 ghost use Rattle.book.specs.Answers.{bookWritten, boundsRead, coefsRead, kindsRead, rhsRead, writeCall};
 ghost use Rattle.model.specs.Model.{modelOf};
 ghost use Rattle.model.specs.Rows.{rowsOf};
 ghost use Rattle.replies.specs.Replies.{bookReply, returned};
-ghost use Rattle.capi.specs.Exports.{bookExported, lentTo, readExport, trailerExport};
+ghost use Rattle.exports.specs.Exports.{bookExported, lentTo, readExport, trailerExport};
 
 // n and m of the 16 trailer bytes alone: {n, m}. Refused by 1, 5, 3, 4, in this order.
 #[no_mangle]
 pub extern "C" fn astrolabe_book_trailer(bytes: &[u8], answer: &mut [u64]) -> u32
     ensures { λ r. ⌜ bookExported r (now (answer .exit)) ≡ trailerExport (now (answer .entry)) (now (bytes .entry)) ⌝ }
 {
-    if answer.len() != ANSWER {
-        return trailer_fault(bytes);
-    }
-    put(sizes_reply(trailer(bytes)), answer)
+    trailer_said(bytes, answer)
 }
 
 // Reads a book into lent buffers: {n, m}. The kinds become all 0. Refused by 1 to 7, 23, 8, 9.
@@ -57,10 +48,7 @@ pub extern "C" fn astrolabe_book_read(
         let new = kindsRead (now (book .entry)) (now (bounds .entry)) A in
         ⌜ now (kinds .exit) ≡ lentTo (now (answer .entry)) (now (kinds .entry)) new ⌝ }
 {
-    if answer.len() != ANSWER {
-        return read_fault(book);
-    }
-    put(sizes_reply(read(book, bounds, coefs, rhs, kinds)), answer)
+    read_said(book, bounds, coefs, rhs, kinds, answer)
 }
 
 // Writes a model as a book; the number says all. Refused by the model's checks, then by 17.
@@ -83,5 +71,5 @@ pub extern "C" fn astrolabe_book_write(
         let M = modelOf n m (now (bounds .entry)) A in
         ⌜ now (book .exit) ≡ bookWritten M (now (book .entry)) ⌝ }
 {
-    write_number(write(n, m, bounds, coefs, rhs, kinds, book))
+    write_said(n, m, bounds, coefs, rhs, kinds, book)
 }

@@ -1,11 +1,11 @@
 // The clique rows of a table (02, C-12).
-use crate::ANSWER;
 use clique_call::call::cliques;
 use replies::clique_rows::cliques_reply;
+use replies::reply::ANSWER;
 use replies::reply::answer_fault;
 use replies::reply::put;
 ghost use mathlib.Core.Path.{_≡_};
-ghost use Rattle.capi.specs.CliqueExports.{cliquesExport, cliquesExported};
+ghost use Rattle.exports.specs.CliqueExports.{cliquesExport, cliquesExported};
 
 // Writes the clique rows into a list of 2n rows, `coefs` and `rhs`, and zeros after them: {number}. Refused by 3, 5,
 // 10.

@@ -1,9 +1,9 @@
 // The calls on the pages for the floor.
-use crate::ANSWER;
 use page_call::page_count;
 use page_call::write_pages;
 use replies::pages::count_reply;
 use replies::pages::pages_number;
+use replies::reply::ANSWER;
 use replies::reply::answer_fault;
 use replies::reply::put;
 ghost use mathlib.Core.Path.{_≡_};
@@ -11,8 +11,8 @@ ghost use lib.ListN.{length};
 ghost use Rattle.page_call.specs.Answers.{pagesAfter, pagesCall};
 ghost use Rattle.replies.specs.PageReplies.{pageReply};
 ghost use Rattle.replies.specs.Replies.{returned};
-ghost use Rattle.capi.specs.Exports.{bookExported};
-ghost use Rattle.capi.specs.PageExports.{countExport};
+ghost use Rattle.exports.specs.Exports.{bookExported};
+ghost use Rattle.exports.specs.PageExports.{countExport};
 
 // The number of pages of a table: {pages}. Refused by 3, 5, 10.
 #[no_mangle]

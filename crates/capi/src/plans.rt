@@ -1,5 +1,4 @@
 // The calls that tell size and passes beforehand. They write nothing but the answer.
-use crate::ANSWER;
 use book_replies::books::trailer_fault;
 use plan::width;
 use plan_lengths::lengths;
@@ -7,10 +6,11 @@ use plan_passes::passes;
 use plan_replies::passes_reply;
 use plan_replies::put_plan;
 use plan_replies::width_reply;
+use replies::reply::ANSWER;
 use replies::reply::answer_fault;
 use replies::reply::put;
 ghost use mathlib.Core.Path.{_≡_};
-ghost use Rattle.capi.specs.Exports.{bookExported, lengthsExport, passesExport, widthExport};
+ghost use Rattle.exports.specs.Exports.{bookExported, lengthsExport, passesExport, widthExport};
 
 // The length of each buffer that the n and m of 16 trailer bytes fix: {n, m, bounds, coefs, rhs, kinds, table, ties,
 // clique_coefs, clique_rhs, book}. Refused by 1, 5, 3, 4, in this order.

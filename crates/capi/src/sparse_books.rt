@@ -1,9 +1,9 @@
 // The calls on sparse books, and from one edition to the other.
-use crate::ANSWER;
 use book_replies::books::write_number;
 use book_replies::sparse_books::length_reply;
 use book_replies::sparse_books::read_fault;
 use call_replies::sizes_reply;
+use replies::reply::ANSWER;
 use replies::reply::answer_fault;
 use replies::reply::put;
 use sparse::reading::read;
@@ -20,9 +20,9 @@ ghost use Rattle.replies.specs.Replies.{bookReply, returned};
 ghost use Rattle.sparse_calls.specs.SparseCalls.{sparseBoundsRead, sparseCoefsRead, sparseKindsRead};
 ghost use Rattle.sparse_calls.specs.SparseCalls.{sparseRhsRead, sparseWriteCall, sparseWritten, toFirstCall};
 ghost use Rattle.sparse_calls.specs.SparseCalls.{toFirstWritten, toSparseCall, toSparseWritten};
-ghost use Rattle.capi.specs.Exports.{bookExported, lentTo};
-ghost use Rattle.capi.specs.SparseExports.{sparseLengthExport, sparseReadExport};
-ghost use Rattle.capi.specs.SparseExports.{sparseTrailerExport, toSparseLengthExport};
+ghost use Rattle.exports.specs.Exports.{bookExported, lentTo};
+ghost use Rattle.exports.specs.SparseExports.{sparseLengthExport, sparseReadExport};
+ghost use Rattle.exports.specs.SparseExports.{sparseTrailerExport, toSparseLengthExport};
 
 // The length of a book's trailer.
 const TRAILER: usize = 16;

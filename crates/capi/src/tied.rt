@@ -1,5 +1,5 @@
 // The call that ties two variables. Of what it is lent it writes rows and the tie list.
-use crate::ANSWER;
+use replies::reply::ANSWER;
 use replies::reply::answer_fault;
 use replies::reply::put;
 use replies::tied::tie_reply;
@@ -8,7 +8,7 @@ ghost use mathlib.Core.Path.{_≡_};
 ghost use Rattle.model.specs.Rows.{rowsOf};
 ghost use Rattle.model.specs.State.{stateOf};
 ghost use Rattle.ties.specs.Ties.{tiedStateOf};
-ghost use Rattle.capi.specs.Exports.{exported, tieExport, tiesExport};
+ghost use Rattle.exports.specs.Exports.{exported, tieExport, tiesExport};
 
 // Ties j to k (02, C-19): {1 Tied | 2 Same}. Refused by the model's checks, then by 10, 21 and 13, of k before j.
 #[no_mangle]

@@ -27,7 +27,7 @@ use Rattle.model.proofs.BoxLaws.{sameList-refl, sameList→eq}
 use Rattle.model.proofs.RowsLaws.{setRow-length, setRow-other, setRow-row}
 use Rattle.row.specs.Redundancy.{zeroRow}
 use Rattle.row.proofs.RedundancyLaws.{at-zeroRow, length-zeroRow}
-use Rattle.row_view.proofs.PartLaws.{row-changed-kept}
+use Rattle.matrix.proofs.PartLaws.{row-changed-kept}
 use Rattle.cliques.specs.CliqueClaims.{SameRows}
 use Rattle.cliques.specs.Cliques.{CliqueRows, cliqueRhs, cliqueRow, cliquesTo, coefsOf, grow, isNew, meantAtZero, rowsFor, sameSet, seen, sidesOf}
 use Rattle.cliques.proofs.CliqueLaws.{length-cliqueRow}

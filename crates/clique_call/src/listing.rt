@@ -2,12 +2,15 @@
 use boxes::same_box;
 use clique_grow::Grown;
 use clique_grow::grow;
+use matrix::coefficients;
+use model::MAX_LITERALS;
 ghost use mathlib.Core.Bool.{_&&_};
 ghost use mathlib.Core.Path.{_≡_};
 ghost use Prim.Native.Nat.{_*_, _+_, _<_, _≤_};
 ghost use lib.Dec.{leb};
 ghost use lib.ListN.{length};
 ghost use Rattle.model.specs.Box.{sameList};
+ghost use Rattle.model.specs.Limits.{maxLiterals};
 ghost use Rattle.model.specs.Rows.{rowOf, splice};
 ghost use Rattle.row.specs.Redundancy.{zeroRow};
 ghost use Rattle.cliques.specs.Cliques.{cliqueRow, cliqueRows, cliquesTo, grow as grown, meantAtZero, rowsFor};
@@ -37,10 +40,10 @@ fn zero_at(n: usize, coefs: &mut [i32], k: usize)
 }
 
 // A flag for each literal: all are candidates.
-fn all_candidates() -> [u8; 256]
+fn all_candidates() -> [u8; MAX_LITERALS]
     ensures { λ r. ⌜ r ≡ allOnes ⌝ }
 {
-    [1; 256]
+    [1; MAX_LITERALS]
 }
 
 // Grows the clique of literal p in row k, which is all 0.
@@ -50,8 +53,8 @@ fn grow_at(n: usize, table: &[u8], p: usize, coefs: &mut [i32], k: usize) -> Gro
     ensures row { λ r.
         let c = grown n (now (table .entry)) p in
         ⌜ now (coefs .exit) ≡ splice (now (coefs .entry)) (cliqueRow n c) (k * n) ⌝ }
-    ensures size { λ r. ⌜ (r .size ≡ length (grown n (now (table .entry)) p)) × (r .size ≤ 257) ⌝ }
-    ensures zeros { λ r. ⌜ (r .zeros ≡ meantAtZero (grown n (now (table .entry)) p)) × (r .zeros ≤ 257) ⌝ }
+    ensures size { λ r. ⌜ (r .size ≡ length (grown n (now (table .entry)) p)) × (r .size ≤ maxLiterals + 1) ⌝ }
+    ensures zeros { λ r. ⌜ (r .zeros ≡ meantAtZero (grown n (now (table .entry)) p)) × (r .zeros ≤ maxLiterals + 1) ⌝ }
 {
     let mut flags = all_candidates();
     let start = k * n;
@@ -64,9 +67,7 @@ fn same_row(n: usize, coefs: &[i32], i: usize, k: usize) -> bool
     requires { ⌜ (i * n + n ≤ length (now coefs)) × (k * n + n ≤ length (now coefs)) ⌝ }
     ensures { λ r. ⌜ r ≡ sameList (rowOf n (now (coefs .entry)) i) (rowOf n (now (coefs .entry)) k) ⌝ }
 {
-    let one = i * n;
-    let two = k * n;
-    same_box(&coefs[one..one + n], &coefs[two..two + n])
+    same_box(coefficients(n, coefs, i), coefficients(n, coefs, k))
 }
 
 // Whether row k differs from each row before it.

@@ -5,16 +5,17 @@ use lib.ListN.{getD, length, replicate, set}
 use mathlib.Core.Bool.{Bool, cond}
 use mathlib.Core.List.{List}
 use mathlib.Core.Path.{_≡_}
+use Rattle.model.specs.Limits.{maxLiterals, maxVariables}
 use Rattle.cliques.specs.Cliques.{joined, joinedToAll}
 
 -- a table that passed 3 and 5
 pub record LentTable (n : ℕ) (t : List ℕ) : Type 0 where
-  pub most : n ≤ 128
+  pub most : n ≤ maxVariables
   pub len : length t ≡ 4 * (n * n)
 
 -- before the first literal is taken all are candidates
 unfoldable pub allOnes : List ℕ
-allOnes = replicate 256 1
+allOnes = replicate maxLiterals 1
 
 -- a flag stays 1 where the literal is joined to the one that is taken
 unfoldable pub still : ℕ → Bool → ℕ
@@ -27,5 +28,5 @@ keptTo (suc i) n t q F = let G = keptTo i n t q F in set G i (still (getD G i 0)
 
 -- flag q is 1 just where q is joined to all of c
 pub record Candidates (n : ℕ) (t c F : List ℕ) : Type 0 where
-  pub len : length F ≡ 256
+  pub len : length F ≡ maxLiterals
   pub flags : (q : ℕ) → q < 2 * n → getD F q 0 ≡ cond (joinedToAll n t q c) 1 0

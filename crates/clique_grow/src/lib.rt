@@ -2,8 +2,9 @@
 // were taken so far. So a literal's turn is one look at its flag, and the table is read when a literal is taken, of
 // the candidates only.
 ghost use mathlib.Core.Path.{_≡_};
-ghost use Prim.Native.Nat.{_*_, _<_, _≤_};
+ghost use Prim.Native.Nat.{_*_, _+_, _<_, _≤_};
 ghost use lib.ListN.{length, set};
+ghost use Rattle.model.specs.Limits.{maxLiterals};
 ghost use Rattle.cliques.specs.Cliques.{cliqueRow, coefOf, grow as grown, joined, meantAtZero, opposite as oppositeOf};
 ghost use Rattle.cliques.specs.Cliques.{variableOf};
 ghost use Rattle.row.specs.Redundancy.{zeroRow};
@@ -17,7 +18,7 @@ pub struct Grown {
 
 // "Variable k is 1 − v" of "variable k is v".
 fn opposite(q: usize) -> usize
-    requires { ⌜ q < 256 ⌝ }
+    requires { ⌜ q < maxLiterals ⌝ }
     ensures { λ r. ⌜ r ≡ oppositeOf q ⌝ }
 {
     2 * (q / 2) + (1 - q % 2)
@@ -54,7 +55,7 @@ fn still(n: usize, table: &[u8], flag: u8, r: usize, q: usize) -> u8
 
 // Candidates stay those that are joined to q.
 fn keep_joined(n: usize, table: &[u8], q: usize, flags: &mut [u8])
-    requires { ⌜ LentTable n (now table) × (length (now flags) ≡ 256) ⌝ }
+    requires { ⌜ LentTable n (now table) × (length (now flags) ≡ maxLiterals) ⌝ }
     requires { ⌜ q < 2 * n ⌝ }
     ensures { λ r. ⌜ now (flags .exit) ≡ keptTo (2 * n) n (now (table .entry)) q (now (flags .entry)) ⌝ }
 {
@@ -74,7 +75,7 @@ fn coefficient(q: usize) -> i32
 
 // Takes literal q: into the row, and out of the candidates go those that are not joined to it.
 fn take(n: usize, table: &[u8], q: usize, flags: &mut [u8], row: &mut [i32])
-    requires { ⌜ LentTable n (now table) × (length (now flags) ≡ 256) ⌝ }
+    requires { ⌜ LentTable n (now table) × (length (now flags) ≡ maxLiterals) ⌝ }
     requires { ⌜ (q < 2 * n) × (length (now row) ≡ n) ⌝ }
     ensures flags { λ r. ⌜ now (flags .exit) ≡ keptTo (2 * n) n (now (table .entry)) q (now (flags .entry)) ⌝ }
     ensures row { λ r. ⌜ now (row .exit) ≡ set (now (row .entry)) (variableOf q) (coefOf q) ⌝ }
@@ -88,8 +89,8 @@ pub fn grow(n: usize, table: &[u8], p: usize, flags: &mut [u8], row: &mut [i32])
     requires { ⌜ LentTable n (now table) × (now flags ≡ allOnes) ⌝ }
     requires { ⌜ (p < 2 * n) × (now row ≡ zeroRow n) ⌝ }
     ensures row { λ r. ⌜ now (row .exit) ≡ cliqueRow n (grown n (now (table .entry)) p) ⌝ }
-    ensures size { λ r. ⌜ (r .size ≡ length (grown n (now (table .entry)) p)) × (r .size ≤ 257) ⌝ }
-    ensures zeros { λ r. ⌜ (r .zeros ≡ meantAtZero (grown n (now (table .entry)) p)) × (r .zeros ≤ 257) ⌝ }
+    ensures size { λ r. ⌜ (r .size ≡ length (grown n (now (table .entry)) p)) × (r .size ≤ maxLiterals + 1) ⌝ }
+    ensures zeros { λ r. ⌜ (r .zeros ≡ meantAtZero (grown n (now (table .entry)) p)) × (r .zeros ≤ maxLiterals + 1) ⌝ }
 {
     take(n, table, p, flags, row);
     let mut size: usize = 1;

@@ -7,8 +7,8 @@ use native.Mathlib.Omega.{arith}
 use Rattle.integer.proofs.Parts.{zarith}
 use Rattle.model.specs.Box.{at}
 use Rattle.model.specs.Point.{dot}
-use Rattle.semantics.specs.Points.{ImplicationHolds, LiteralTrue}
 use Rattle.semantics.specs.WorkedBooks.{clique}
+use Rattle.call_laws.specs.Points.{ImplicationHolds, LiteralTrue}
 use Rattle.cliques.specs.CliqueBooks.{ForeignRowFails, cliqueBooks, foreignTable, joining, padded, refusedBy, sevens, threeOnes, twos, unjoined}
 use Rattle.cliques.specs.CliqueCall.{cliqueChecks, performCliques}
 use Rattle.cliques.specs.Cliques.{cliqueRhs, cliqueRow, cliqueRows, cliques, cliquesTo, coefOf, coefsOf, grow, growTo, isNew, joined, joinedToAll, meantAtZero, member, opposite, rowsFor, sameSet, says, seen, sidesOf, subset, valueOf, variableOf}
@@ -31,11 +31,10 @@ use Rattle.row.specs.Tightening.{tightenAt, tightenCoefficient}
 use Rattle.semantics.specs.Books.{AllHold, boxed, callOn, fresh, freshKinds, kept, probeCall as probeCall, propagateCall, propagateRowCall, removeCall, rowed, tightenCall}
 use Rattle.semantics.specs.Call.{hasBudget, hasRow, hasTable, hasVariable, isUnknown, kindOf, lengthsOf}
 use Rattle.semantics.specs.CallChecks.{callChecks, callFault, givenModel, isLent, lentTable, recordChecks}
-use Rattle.semantics.specs.Demand2.{ones}
+use Rattle.semantics.specs.Probe.{byteOf, fix, hull, implies, isFixed, joinSides, literal, ones, probe, put, recordSide, recordTo, sideOf}
 use Rattle.semantics.specs.FixpointTest.{firstMoving, isFixpoint}
 use Rattle.semantics.specs.Lowest.{lowest}
 use Rattle.semantics.specs.Perform.{act, perform}
-use Rattle.semantics.specs.Probe.{byteOf, fix, hull, implies, isFixed, joinSides, literal, probe, put, recordSide, recordTo, sideOf}
 use Rattle.semantics.specs.Propagate.{isNone, isSpent, lastLook, passRow, passTo, propagate, propagateFrom}
 use Rattle.semantics.specs.RestTest.{isProbingFixpoint, sidesSpan}
 use Rattle.semantics.specs.Run.{run, step}

@@ -17,8 +17,8 @@ use Rattle.integer.proofs.Tests.{T→true, and-i, and-l, and-r, cond-ind, decid
 use Rattle.model.specs.Box.{at}
 use Rattle.model.specs.Point.{RowHolds, dot}
 use Rattle.row.proofs.RedundancyLaws.{at-zeroRow, dot-zeroRow, length-zeroRow}
-use Rattle.semantics.specs.Points.{ImplicationHolds, LiteralTrue, Recorded, TableHolds}
 use Rattle.semantics.specs.Probe.{byteOf, literal}
+use Rattle.call_laws.specs.Points.{ImplicationHolds, LiteralTrue, Recorded, TableHolds}
 use Rattle.ties.proofs.TiedRowLaws.{dot-set}
 use Rattle.cliques.specs.CliqueClaims.{AllMet, CliquesMet, GrownCliques, TableBinary, ZeroOrOne}
 use Rattle.cliques.specs.Cliques.{cliqueRhs, cliqueRow, cliques, cliquesTo, coefOf, grow, growTo, isNew, joined, joinedToAll, meantAtZero, member, opposite, says, seen, valueOf, variableOf}

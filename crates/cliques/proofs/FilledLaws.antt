@@ -21,15 +21,15 @@ use Rattle.model.proofs.BoxLaws.{free-lower, free-upper}
 use Rattle.semantics.specs.Call.{Call, Kind, hasVariable, kindOf, probing, propagation, removal, rowPropagation, tightening, unknown}
 use Rattle.semantics.specs.CallList.{callsMade, runList}
 use Rattle.semantics.specs.Perform.{act}
-use Rattle.semantics.specs.Points.{PointOf, Recorded, TableHolds}
 use Rattle.semantics.specs.Probe.{Table, byteOf, implies, literal, probe, put, recordTo}
 use Rattle.semantics.specs.Run.{run, step}
-use Rattle.semantics.proofs.Accepted.{Accepted, accepted}
-use Rattle.semantics.proofs.CallLaws.{step-ind}
-use Rattle.semantics.proofs.CallLists.{list-made}
-use Rattle.semantics.proofs.ImplicationLaws.{byte-same, getD-zeros, recordSide-ind}
-use Rattle.semantics.proofs.Preserved.{step-preserves}
-use Rattle.semantics.proofs.ProbeLaws.{probe-ind}
+use Rattle.call_laws.specs.Points.{PointOf, Recorded, TableHolds}
+use Rattle.call_laws.proofs.Accepted.{Accepted, accepted}
+use Rattle.call_laws.proofs.CallLaws.{step-ind}
+use Rattle.call_laws.proofs.ImplicationLaws.{byte-same, getD-zeros, recordSide-ind}
+use Rattle.call_laws.proofs.Preserved.{step-preserves}
+use Rattle.call_laws.proofs.ProbeLaws.{probe-ind}
+use Rattle.demands.proofs.CallLists.{list-made}
 use Rattle.ties.specs.TieCall.{TieCall, TiePerformed, performTie, tie, tieFault, tieState}
 use Rattle.ties.specs.TiedRow.{tieTo}
 use Rattle.ties.specs.TiedRun.{HandedInTied, TiedCall, listed, other, runTied, stepTied, ties}

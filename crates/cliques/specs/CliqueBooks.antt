@@ -6,10 +6,10 @@ use mathlib.Core.List.{List, [], _++_, _∷_}
 use mathlib.Core.Path.{_≡_}
 use Rattle.model.specs.Point.{RowHolds}
 use Rattle.semantics.specs.Books.{Line, is, probeCall}
-use Rattle.semantics.specs.Points.{TableHolds}
 use Rattle.semantics.specs.Probe.{byteOf}
 use Rattle.semantics.specs.Run.{run}
 use Rattle.semantics.specs.WorkedBooks.{clique}
+use Rattle.call_laws.specs.Points.{TableHolds}
 use Rattle.cliques.specs.CliqueCall.{CliquesPerformed, performCliques, refused, written}
 use Rattle.cliques.specs.Cliques.{CliqueRows, cliqueRows, cliques, opposite}
 

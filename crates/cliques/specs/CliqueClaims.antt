@@ -11,7 +11,7 @@ use Rattle.model.specs.Box.{at}
 use Rattle.model.specs.Point.{RowHolds}
 use Rattle.model.specs.Rows.{rowOf}
 use Rattle.row.specs.Redundancy.{zeroRow}
-use Rattle.semantics.specs.Points.{Recorded, TableHolds}
+use Rattle.call_laws.specs.Points.{Recorded, TableHolds}
 use Rattle.ties.specs.TiedRun.{HandedInTied, TiedCall, runTied}
 use Rattle.ties.specs.Ties.{TiedPoint, TiedState}
 use Rattle.cliques.specs.Cliques.{CliqueRows, cliqueRhs, cliqueRow, cliqueRows, cliques, grow, joined, joinedToAll, member, sameSet, seen, variableOf}

@@ -8,12 +8,12 @@ use Rattle.flat_list.specs.ListAnswers.{listAnswer}
 use Rattle.flat_list.specs.declared.RunAnswer.the-variants as runs
 use Rattle.flat_list.specs.declared.RunAnswer.{RunAnswer}
 use Rattle.model.specs.State.{State}
-use Rattle.semantics.proofs.CallLists.{counts-add-up, demand-3-lists, list-means}
-use Rattle.semantics.proofs.Demand3.{handed-in}
 use Rattle.semantics.specs.CallList.{ListRun, runList}
 use Rattle.semantics.specs.Run as lists
-use Rattle.semantics.specs.TwoLists.{CountsAddUp, Demand3Lists, ListMeans}
-use Rattle.semantics.specs.TwoRuns.{EveryModelHandedIn}
+use Rattle.demands.specs.TwoLists.{CountsAddUp, Demand3Lists, ListMeans}
+use Rattle.demands.specs.TwoRuns.{EveryModelHandedIn}
+use Rattle.demands.proofs.CallLists.{counts-add-up, demand-3-lists, list-means}
+use Rattle.demands.proofs.Demand3.{handed-in}
 
 -- all promises, from the first
 pub list-promised : (s : State) (xs : List ℕ) (w : ListRun) → w ≡ runList s xs

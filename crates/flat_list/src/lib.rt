@@ -10,8 +10,8 @@ ghost use Rattle.semantics.specs.CallList.{ran, runList};
 ghost use Rattle.model.specs.Rows.{rowsOf};
 ghost use Rattle.model.specs.State.{stateOf};
 ghost use Rattle.semantics.specs.Run as lists;
-ghost use Rattle.semantics.specs.TwoLists.{CountsAddUp, Demand3Lists, ListMeans};
-ghost use Rattle.semantics.specs.TwoRuns.{EveryModelHandedIn};
+ghost use Rattle.demands.specs.TwoLists.{CountsAddUp, Demand3Lists, ListMeans};
+ghost use Rattle.demands.specs.TwoRuns.{EveryModelHandedIn};
 ghost use Rattle.flat_record.specs.Classes.{ClassesCounted, runClasses};
 ghost use Rattle.flat_list.specs.ListAnswers.{classesRun, listAnswer, listRun};
 

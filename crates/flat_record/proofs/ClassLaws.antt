@@ -17,8 +17,8 @@ use Rattle.model.proofs.CheckLaws.{fits-table-fault-none}
 use Rattle.semantics.specs.Call.{Call}
 use Rattle.semantics.specs.CallList.{ListRun, listChecks, listFault, ran, recordAt, recordsFrom, recordsOf, refusedList, runList}
 use Rattle.semantics.specs.Run.{CallClass, Counts, changedCall, classListed, countCall, infeasibleCall, noCounts, refusedCall, stepListed, tally, unchangedCall}
-use Rattle.semantics.specs.TwoLists.{ListMeans}
-use Rattle.semantics.proofs.CallLists.{Along, along-more, along-start, list-accepted, list-means, list-refused, list-runs, same-record}
+use Rattle.demands.specs.TwoLists.{ListMeans}
+use Rattle.demands.proofs.CallLists.{Along, along-more, along-start, list-accepted, list-means, list-refused, list-runs, same-record}
 use Rattle.flat_record.specs.Classes.{ClassesCounted, ClassesRun, classByte, classesChecks, classesFault, classesFrom, classesOf, howMany, runClasses}
 
 -- a class for each record

@@ -12,6 +12,7 @@ ghost use Rattle.prepared_model.specs.Layout.{fallOf, riseOf, workspaceLen};
 ghost use Rattle.prepared_model.specs.SameBut.{SameBut};
 ghost use Rattle.row_set.specs.Bits.{bitAt};
 ghost use Rattle.row_set.specs.Readers.{hearsFall, hearsRise};
+ghost use Rattle.model.specs.Limits.{maxRows, maxVariables};
 ghost use Rattle.hearers.specs.Column.{Column};
 
 // Row r, with the coefficient a: a ≤ row hears rises where a is above 0 and falls where it is below, an = row hears
@@ -49,7 +50,7 @@ fn gather(
     rise: &mut [u32],
     fall: &mut [u32],
 )
-    requires { ⌜ (j < n) × (n ≤ 128) × (m ≤ 120) × (length (now coefs) ≡ m * n) × (length (now kinds) ≡ m)
+    requires { ⌜ (j < n) × (n ≤ maxVariables) × (m ≤ maxRows) × (length (now coefs) ≡ m * n) × (length (now kinds) ≡ m)
         × (length (now rise) ≡ 4) × (length (now fall) ≡ 4) ⌝ }
     ensures { λ _. ⌜ Column n m (now (coefs .entry)) (now (kinds .entry)) j (now (rise .exit)) (now (fall .exit)) ⌝ }
 {
@@ -62,7 +63,7 @@ fn gather(
 
 // Writes the sets of variable j.
 fn write_column(n: usize, m: usize, coefs: &[i32], kinds: &[u8], j: usize, ws: &mut [u32])
-    requires { ⌜ (j < n) × (n ≤ 128) × (m ≤ 120) × (length (now coefs) ≡ m * n) × (length (now kinds) ≡ m)
+    requires { ⌜ (j < n) × (n ≤ maxVariables) × (m ≤ maxRows) × (length (now coefs) ≡ m * n) × (length (now kinds) ≡ m)
         × (length (now ws) ≡ workspaceLen) ⌝ }
     ensures column { λ _.
         let W = now (ws .exit) in
@@ -78,7 +79,7 @@ fn write_column(n: usize, m: usize, coefs: &[i32], kinds: &[u8], j: usize, ws: &
 
 // Writes the sets of every variable.
 pub fn write_columns(n: usize, m: usize, coefs: &[i32], kinds: &[u8], ws: &mut [u32])
-    requires { ⌜ (n ≤ 128) × (m ≤ 120) × (length (now coefs) ≡ m * n) × (length (now kinds) ≡ m)
+    requires { ⌜ (n ≤ maxVariables) × (m ≤ maxRows) × (length (now coefs) ≡ m * n) × (length (now kinds) ≡ m)
         × (length (now ws) ≡ workspaceLen) ⌝ }
     ensures columns { λ _.
         let W = now (ws .exit) in

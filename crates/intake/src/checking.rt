@@ -1,6 +1,7 @@
 // Checks 1 to 4 of an input.
 use book::SizesAnswer;
 use book::trailer;
+use bytes::BYTE;
 ghost use mathlib.Core.Bool.{false, true};
 ghost use mathlib.Core.Path.{_≡_};
 ghost use mathlib.Core.List.{List};
@@ -8,6 +9,7 @@ ghost use Prim.Native.Nat.{ℕ, _<_};
 ghost use lib.ListN.{length};
 ghost use Rattle.book.specs.Answers.{sizesAnswer, sizesAre};
 ghost use Rattle.book.specs.Book.{lengthGiven};
+ghost use Rattle.bytes.specs.Bytes.{byteCount};
 ghost use Rattle.intake.specs.Intake.{lastBytes};
 ghost use Rattle.intake.specs.Checks.{SizedBook, TooLong, headCall, inputCall, tooLong};
 
@@ -17,7 +19,7 @@ const TRAILER: usize = 16;
 const TOO_LONG: usize = 4_294_967_296;
 
 fn wide(x: u8) -> usize
-    ensures { λ r. ⌜ (r ≡ x) × (r < 256) ⌝ }
+    ensures { λ r. ⌜ (r ≡ x) × (r < byteCount) ⌝ }
 {
     x as usize
 }
@@ -27,7 +29,7 @@ fn length_given(tail: &[u8]) -> usize
     requires { ⌜ length (now tail) ≡ 16 ⌝ }
     ensures { λ r. ⌜ r ≡ lengthGiven (now (tail .entry)) ⌝ }
 {
-    wide(tail[12]) + 256 * (wide(tail[13]) + 256 * (wide(tail[14]) + 256 * wide(tail[15])))
+    wide(tail[12]) + BYTE * (wide(tail[13]) + BYTE * (wide(tail[14]) + BYTE * wide(tail[15])))
 }
 
 // n and m of an input of `len` bytes that ends in `tail`. Refused by 1 to 4, and by 5 where `tail` has not 16 bytes.

@@ -33,7 +33,7 @@ use Rattle.matrix_view.specs.RowIn.{StepsIn}
 use Rattle.sweep.proofs.StableLaws.{kinded-after}
 use Rattle.row_index.specs.Index.{ColumnSigns, GoodStep}
 use Rattle.row_index.proofs.IndexLoops.{row-end}
-use Rattle.row_marks.specs.Marks.{Clean, Remarks, Unread, Visitable, Watched}
+use Rattle.row_marks.specs.Marks.{Clean, Remarks, Unread, Propagable, Watched}
 use Rattle.row_marks.proofs.MarkLaws.{at-row, clean-empty, clean-remarked, kind-one}
 
 -- ---- a row's part of the index
@@ -88,9 +88,9 @@ negated-zero : (r : Row) (k : ℕ) → at (r .coefs) k ≡ pos 0 → at (negated
 unfolding negated
 negated-zero r k e = rw (at-negated (r .coefs) k, e)
 
-pub visit-zero : (n : ℕ) (r : Row) (B : List ℤ) → T (not (isInfeasible (propagateRowOf n r B .outcome))) → (k : ℕ) → k < n → at (r .coefs) k ≡ pos 0
+pub zero-stays : (n : ℕ) (r : Row) (B : List ℤ) → T (not (isInfeasible (propagateRowOf n r B .outcome))) → (k : ℕ) → k < n → at (r .coefs) k ≡ pos 0
     → (lower (propagateRowOf n r B .box) k ≡ lower B k) × (upper (propagateRowOf n r B .box) k ≡ upper B k)
-visit-zero n r B f k h e = kinded-feasible-ind n r B (λ v. (lower (v .box) k ≡ lower B k) × (upper (v .box) k ≡ upper B k))
+zero-stays n r B f k h e = kinded-feasible-ind n r B (λ v. (lower (v .box) k ≡ lower B k) × (upper (v .box) k ≡ upper B k))
     (λ _ t. form-zero n (r .coefs) (r .rhs) B t k h e)
     (λ _ t u.
     let one = form-zero n (r .coefs) (r .rhs) B t k h e in
@@ -110,21 +110,21 @@ clean-set {n} {m} {A} {B} {marks} r v c e h = record { same = λ p i k f. go p i
     go p i k f (no d) = c .same p i k (sym (getD-set-other marks r i v 0 d) ∙ f)
 
 -- a row that was tested and moves nothing
-quiet : (o : Outcome) → not (isUnchanged o) ≡ false → T (not (isInfeasible o)) × T (not (isChanged o))
+unchanged-is : (o : Outcome) → not (isUnchanged o) ≡ false → T (not (isInfeasible o)) × T (not (isChanged o))
 unfolding isUnchanged isInfeasible isChanged
-quiet infeasible e = absurd (true≢false e)
-quiet changed e = absurd (true≢false e)
-quiet unchanged e = (tt, tt)
+unchanged-is infeasible e = absurd (true≢false e)
+unchanged-is changed e = absurd (true≢false e)
+unchanged-is unchanged e = (tt, tt)
 
 pub moves-none : (r : Row) {n : ℕ} {B : List ℤ} → 0 < n → rowMovesOf n r B ≡ false → NonEmpty n B
     → propagateRowOf n r B ≡ record { outcome = unchanged; moved = 0; box = B }
 unfolding rowMovesOf
 moves-none r {n} {B} h e p =
-    let q = quiet (propagateRowOf n r B .outcome) e in
+    let q = unchanged-is (propagateRowOf n r B .outcome) e in
     kinded-stays r h p (kinded-unchanged r p (q .0) (q .1))
 
 -- row r was propagated and left the box Q
-module _ {n m : ℕ} {B : List ℤ} {A : Rows} {across signs : List ℕ} {seen : List ℤ} {marks : List ℕ} (g : Visitable n m B A across signs seen marks)
+module _ {n m : ℕ} {B : List ℤ} {A : Rows} {across signs : List ℕ} {seen : List ℤ} {marks : List ℕ} (g : Propagable n m B A across signs seen marks)
     (r : ℕ) (h : r < m) {Q : List ℤ} (q : Q ≡ propagateRowOf n (rowAt n A r) B .box) where
   copied : seen ≡ B
   copied = g .watched .copied (g .nonEmpty)
@@ -137,28 +137,28 @@ module _ {n m : ℕ} {B : List ℤ} {A : Rows} {across signs : List ℕ} {seen :
     shrinks : Inside n Q B
     shrinks = rw q (kinded-shrinks n (rowAt n A r) B f)
 
-    pub visited-nonEmpty : NonEmpty n Q
-    visited-nonEmpty = rw q (kinded-nonEmpty (rowAt n A r) (g .nonEmpty) f)
+    pub propagated-nonEmpty : NonEmpty n Q
+    propagated-nonEmpty = rw q (kinded-nonEmpty (rowAt n A r) (g .nonEmpty) f)
 
     -- the boxes differ only where the row's steps lead, or anywhere
-    pub visited-remarks : ((j : ℕ) → j < n → GoodStep n (A .coefs) (r * n) across j) → Remarks n m (A .coefs) signs across (r * n) seen Q marks
-    visited-remarks s = rw copied (row-remarks r (row-end (g .watched .index .rows) r h .0) s (g .watched .index .columns) (g .nonEmpty .len) (visited-nonEmpty .len) (g .room)
-        (λ i l z. rw q (visit-zero n (rowAt n A r) B f i l z)))
+    pub propagated-remarks : ((j : ℕ) → j < n → GoodStep n (A .coefs) (r * n) across j) → Remarks n m (A .coefs) signs across (r * n) seen Q marks
+    propagated-remarks s = rw copied (row-remarks r (row-end (g .watched .index .rows) r h .0) s (g .watched .index .columns) (g .nonEmpty .len) (propagated-nonEmpty .len) (g .room)
+        (λ i l z. rw q (zero-stays n (rowAt n A r) B f i l z)))
 
     -- it moved a bound: it is clean only if it is a ≤ row
-    pub visited-moved : {signs′ : List ℕ} {seen′ : List ℤ} (marks′ : List ℕ) (v : ℕ) → ColumnSigns n m (A .coefs) signs′ → seen′ ≡ Q → length marks′ ≡ length marks
+    pub propagated-moved : {signs′ : List ℕ} {seen′ : List ℤ} (marks′ : List ℕ) (v : ℕ) → ColumnSigns n m (A .coefs) signs′ → seen′ ≡ Q → length marks′ ≡ length marks
         → ((i : ℕ) → i < m → getD marks′ i 0 ≡ 1 → (getD marks i 0 ≡ 1) × ((j : ℕ) → j < n → Unread n (A .coefs) (A .kinds) i seen Q j))
         → (v ≡ 1 → getD (A .kinds) r 0 ≡ 1 → ⊥)
         → Watched n m A Q across signs′ seen′ (set marks′ r v)
-    visited-moved marks′ v x e l t z = record {
+    propagated-moved marks′ v x e l t z = record {
       index = record { rows = g .watched .index .rows; columns = x };
       copied = λ _. e;
       clean = clean-set {marks = marks′} r v (clean-remarked (g .valid .some) (g .nonEmpty) shrinks (g .watched .clean) (rw copied at t))
           (λ o _. stays (not-T (isEquality (rowAt n A r)) (λ w. z o (kind-one (rowAt n A r) w)))) (omega (arith, g .room));
     }
 
-    pub visited-unmoved : T (not (isChanged (propagateRowOf n (rowAt n A r) B .outcome))) → Watched n m A Q across signs seen (set marks r 1)
-    visited-unmoved u =
+    pub propagated-unmoved : T (not (isChanged (propagateRowOf n (rowAt n A r) B .outcome))) → Watched n m A Q across signs seen (set marks r 1)
+    propagated-unmoved u =
         let k = kinded-unchanged (rowAt n A r) (g .nonEmpty) f u in
         let e : Q ≡ B = q ∙ k in
         record {
@@ -168,8 +168,8 @@ module _ {n m : ℕ} {B : List ℤ} {A : Rows} {across signs : List ℕ} {seen :
               (λ _ _. rw e (kinded-stays (rowAt n A r) (g .valid .some) (g .nonEmpty) k)) (omega (arith, g .room));
         }
 
-  pub visited-empty : T (isInfeasible (propagateRowOf n (rowAt n A r) B .outcome)) → Watched n m A Q across signs seen marks
-  visited-empty t =
+  pub propagated-empty : T (isInfeasible (propagateRowOf n (rowAt n A r) B .outcome)) → Watched n m A Q across signs seen marks
+  propagated-empty t =
       let e : Q ≡ emptyBox n = q ∙ kinded-infeasible-box n (rowAt n A r) B t in
       record {
         index = g .watched .index;
@@ -240,13 +240,13 @@ pub model-at : {n m : ℕ} {B : List ℤ} {A : Rows} {Q : List ℤ} → ValidMod
 model-at v q = record { some = v .some; few = v .few; fewRows = v .fewRows; box = q; coefsLen = v .coefsLen; coefs = v .coefs; rhsLen = v .rhsLen; rhs = v .rhs; kindsLen = v .kindsLen; kinds = v .kinds }
 
 -- one row more
-pub ready-visit : {n m : ℕ} {A : Rows} {B₀ : List ℤ} {across₀ signs₀ : List ℕ} {seen₀ : List ℤ} {marks₀ : List ℕ} {B : List ℤ} {across signs : List ℕ} {seen : List ℤ} {marks : List ℕ}
+pub ready-row : {n m : ℕ} {A : Rows} {B₀ : List ℤ} {across₀ signs₀ : List ℕ} {seen₀ : List ℤ} {marks₀ : List ℕ} {B : List ℤ} {across signs : List ℕ} {seen : List ℤ} {marks : List ℕ}
     {Q : List ℤ} {across′ signs′ : List ℕ} {seen′ : List ℤ} {marks′ : List ℕ} (row : Row)
     → Ready n m A B₀ across₀ signs₀ seen₀ marks₀ B across signs seen marks → Q ≡ propagateRowOf n row B .box → T (not (isInfeasible (propagateRowOf n row B .outcome)))
     → Watched n m A Q across′ signs′ seen′ marks′ → length Q ≡ length B → length across′ ≡ length across → length signs′ ≡ length signs
     → length seen′ ≡ length seen → length marks′ ≡ length marks
     → Ready n m A B₀ across₀ signs₀ seen₀ marks₀ Q across′ signs′ seen′ marks′
-ready-visit row i q f w l x y s k = record {
+ready-row row i q f w l x y s k = record {
   box = rw q (kinded-valid row (i .box));
   nonEmpty = rw q (kinded-nonEmpty row (i .nonEmpty) f);
   watched = w;

@@ -13,7 +13,7 @@ ghost use Rattle.model.specs.Rows.{rowAt, rowsOf};
 ghost use Rattle.row.specs.Answers.{propagatedRowOf};
 ghost use Rattle.row.specs.Kinds.{propagateRowOf};
 ghost use Rattle.row_index.specs.Index.{GoodStep};
-ghost use Rattle.row_marks.specs.Marks.{Visitable, Watched};
+ghost use Rattle.row_marks.specs.Marks.{Propagable, Watched};
 
 pub mod clean;
 
@@ -33,7 +33,7 @@ fn propagate_row_whole(
     marks: &mut [u8],
 ) -> RowPropagation
     requires { let A = rowsOf (now coefs) (now rhs) (now kinds) in
-        ⌜ Visitable n m (now bounds) A (now across) (now signs) (now seen) (now marks) ⌝ }
+        ⌜ Propagable n m (now bounds) A (now across) (now signs) (now seen) (now marks) ⌝ }
     requires { ⌜ r < m ⌝ }
     ensures propagated { λ s.
         let A = rowsOf (now (coefs .entry)) (now (rhs .entry)) (now (kinds .entry)) in
@@ -75,7 +75,7 @@ fn propagate_row_by_steps(
     marks: &mut [u8],
 ) -> RowPropagation
     requires { let A = rowsOf (now coefs) (now rhs) (now kinds) in
-        ⌜ Visitable n m (now bounds) A (now across) (now signs) (now seen) (now marks) ⌝ }
+        ⌜ Propagable n m (now bounds) A (now across) (now signs) (now seen) (now marks) ⌝ }
     requires { ⌜ r < m ⌝ }
     requires { ⌜ ((j : ℕ) → j < n → GoodStep n (now coefs) (r * n) (now across) j) ⌝ }
     ensures propagated { λ s.
@@ -129,7 +129,7 @@ pub fn propagate_row_marked(
     marks: &mut [u8],
 ) -> RowPropagation
     requires { let A = rowsOf (now coefs) (now rhs) (now kinds) in
-        ⌜ Visitable n m (now bounds) A (now across) (now signs) (now seen) (now marks) ⌝ }
+        ⌜ Propagable n m (now bounds) A (now across) (now signs) (now seen) (now marks) ⌝ }
     requires { ⌜ r < m ⌝ }
     ensures propagated { λ s.
         let A = rowsOf (now (coefs .entry)) (now (rhs .entry)) (now (kinds .entry)) in

@@ -1,5 +1,6 @@
 // Row r of a matrix that a call may change: the rule is lent its coefficients, right side and kind in place, and every
 // other row stays as it was.
+use matrix::coefficients;
 use row::redundancy::RowRemoval;
 use row::tightening::CoefficientTightening;
 use row_activity::maximum_activity;
@@ -21,9 +22,7 @@ pub fn maximum_activity_at(n: usize, coefs: &[i32], r: usize, bounds: &[i32]) ->
     requires { ⌜ ValidCoefs n (rowOf n (now coefs) r) (now bounds) ⌝ }
     ensures { λ most. ⌜ most ≡ maxActivity n (rowOf n (now (coefs .entry)) r) (now (bounds .entry)) ⌝ }
 {
-    let start = r * n;
-    let end = start + n;
-    maximum_activity(&coefs[start..end], bounds)
+    maximum_activity(coefficients(n, coefs, r), bounds)
 }
 
 // Tightens the coefficient of the free binary variable k in row r (01's sharpen).

@@ -1,13 +1,12 @@
 // Row r of a matrix, for callers with plain slices, which need no proof by hand: propagated, or tested whether that
 // would move anything, where it stands.
-use matrix_view::coefficients;
+use matrix::coefficients;
+use matrix::row_bytes;
 use matrix_view::row_at;
 use row::propagation::RowPropagation;
 use row_propagation::moves;
 use sweep::moves_by;
 ghost use mathlib.Core.Path.{_≡_};
-ghost use Prim.Native.Nat.{_*_, _+_, _≤_};
-ghost use lib.ListN.{drop, length, take};
 ghost use Rattle.model.specs.Rows.{rowAt, rowsOf};
 ghost use Rattle.row.specs.Answers.{propagatedRowOf};
 ghost use Rattle.row.specs.Kinds.{propagateRowOf, rowMovesOf};
@@ -53,16 +52,6 @@ fn propagate_row_with<'a, 'b, 'c, 'd, 'e>(
     row_at(n, coefs, rhs, kinds, r).propagate_by(steps, bounds)
 }
 
-// The steps of row r, which stand where its coefficients do.
-fn steps_at<'a>(n: usize, across: &'a [u8], r: usize) -> &'a [u8]
-    requires { ⌜ r * n + n ≤ length (now across) ⌝ }
-    ensures { λ steps. ⌜ now steps ≡ take n (drop (r * n) (now (across .entry))) ⌝ }
-{
-    let start = r * n;
-    let stop = start + n;
-    &across[start..stop]
-}
-
 // The same by the row's steps, which pass over its zeros.
 pub fn propagate_row_at_by(
     n: usize,
@@ -80,7 +69,7 @@ pub fn propagate_row_at_by(
         let A = rowsOf (now (coefs .entry)) (now (rhs .entry)) (now (kinds .entry)) in
         ⌜ propagatedRowOf a (now (bounds .exit)) ≡ propagateRowOf n (rowAt n A r) (now (bounds .entry)) ⌝ }
 {
-    propagate_row_with(n, coefs, rhs, kinds, r, steps_at(n, across, r), bounds)
+    propagate_row_with(n, coefs, rhs, kinds, r, row_bytes(n, across, r), bounds)
 }
 
 // Whether propagating row r would answer other than Unchanged; nothing is written.
@@ -120,7 +109,7 @@ pub fn row_moves_at_by(
 {
     moves_by(
         coefficients(n, coefs, r),
-        steps_at(n, across, r),
+        row_bytes(n, across, r),
         rhs[r],
         kinds[r],
         bounds,

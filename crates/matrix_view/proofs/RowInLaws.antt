@@ -1,8 +1,8 @@
 -- Row r of a model that passed the checks: it lies in the matrix and is a valid one.
 use Prim.Native.Nat.{_*_, _+_, _-_, _<_, _≤_, ℕ}
 use lib.IntN.{pos, ℤ}
-use lib.ListN.{drop, length, length-drop}
-use lib.Seq.{getD-drop, getD-take, length-take-le}
+use lib.ListN.{drop, length}
+use lib.Seq.{getD-drop, getD-take}
 use mathlib.Core.List.{List}
 use mathlib.Core.Path.{_≡_}
 use native.Mathlib.Nat.{mul-le-mul-right, suc-mul}
@@ -14,6 +14,7 @@ use Rattle.model.specs.Limits.{maxCoef, minCoef}
 use Rattle.model.specs.Rows.{Rows, rowAt, rowOf}
 use Rattle.model.specs.Valid.{Between, ValidBox, ValidModel}
 use Rattle.model.specs.Model.{modelOf}
+use Rattle.matrix.proofs.PartLaws.{part-length}
 use Rattle.row.specs.ValidRow.{ValidRow}
 use Rattle.matrix_view.specs.RowIn.{RowIn}
 
@@ -25,8 +26,7 @@ module _ {n m : ℕ} {B₀ : List ℤ} {A : Rows} (v : ValidModel (modelOf n m B
   row-fits = rw (v .coefsLen) (row-end r m n h)
 
   pub row-length : length (rowOf n (A .coefs) r) ≡ n
-  unfolding rowOf
-  row-length = length-take-le n (drop (r * n) (A .coefs)) (omega (arith, row-fits, length-drop (r * n) (A .coefs)))
+  row-length = part-length r n (A .coefs) row-fits
 
   row-range : (j : ℕ) → Between minCoef maxCoef (at (rowOf n (A .coefs) r) j)
   unfolding rowOf

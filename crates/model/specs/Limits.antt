@@ -9,6 +9,19 @@ maxVariables = 128
 abbrev pub maxRows : ℕ
 maxRows = 120
 
+-- so a box has at most 2n = 256 numbers, a matrix at most m · n coefficients, and a table a byte for each two of at most 2n literals
+abbrev pub maxBox : ℕ
+maxBox = 256
+
+abbrev pub maxMatrix : ℕ
+maxMatrix = 15_360
+
+abbrev pub maxLiterals : ℕ
+maxLiterals = 256
+
+abbrev pub maxTable : ℕ
+maxTable = 65_536
+
 -- bounds lie between −32,768 and 32,767
 abbrev pub minBound : ℤ
 minBound = negℤ (pos 32_768)
@@ -33,3 +46,17 @@ minRhs = negℤ (pos 1_000_000_000)
 
 abbrev pub maxRhs : ℤ
 maxRhs = pos 1_000_000_000
+
+-- the largest magnitude of a bound, of a coefficient and of a right side
+abbrev pub boundSize : ℕ
+boundSize = 32_768
+
+-- so many bounds there are
+abbrev pub boundCount : ℕ
+boundCount = 65_536
+
+abbrev pub coefSize : ℕ
+coefSize = 1_000_000
+
+abbrev pub rhsSize : ℕ
+rhsSize = 1_000_000_000

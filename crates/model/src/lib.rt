@@ -11,6 +11,11 @@ pub const MAX_BOX: usize = 256;
 
 pub const MAX_MATRIX: usize = 15_360;
 
+// The literals of the most variables, and the bytes of the largest table.
+pub const MAX_LITERALS: usize = 256;
+
+pub const MAX_TABLE: usize = 65_536;
+
 pub const MIN_BOUND: i32 = -32_768;
 
 pub const MAX_BOUND: i32 = 32_767;

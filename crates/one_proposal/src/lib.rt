@@ -1,22 +1,22 @@
 // One proposed allocation (02, C-21): against the box, against a row.
+use matrix::coefficients;
 ghost use mathlib.Core.Path.{_≡_};
 ghost use Prim.Native.Nat.{_*_, _+_, _≤_};
 ghost use lib.ListN.{length};
 ghost use Rattle.model.specs.Point.{dot};
-ghost use Rattle.model.specs.Rows.{rowOf, rowWith};
+ghost use Rattle.model.specs.Rows.{rowWith};
 ghost use Rattle.semantics.specs.Lowest.{lowest};
 ghost use Rattle.sweep.specs.Steps.{Steps};
 ghost use Rattle.proposals.specs.Holding.{Holdable};
+ghost use Rattle.proposals.specs.Proposals.{proposal};
 ghost use Rattle.proposals.specs.Verdict.{inBounds, meets};
 
-// Line c of lines of n numbers that stand one after the other: a proposal, or a row's coefficients.
-pub fn line<'a>(n: usize, numbers: &'a [i32], c: usize) -> &'a [i32]
-    requires { ⌜ c * n + n ≤ length (now numbers) ⌝ }
-    ensures { λ x. ⌜ now x ≡ rowOf n (now (numbers .entry)) c ⌝ }
+// The numbers of proposal c: the proposals stand one after the other, as rows do in a matrix.
+pub fn proposal_at<'a>(n: usize, proposals: &'a [i32], c: usize) -> &'a [i32]
+    requires { ⌜ c * n + n ≤ length (now proposals) ⌝ }
+    ensures { λ x. ⌜ now x ≡ proposal n (now (proposals .entry)) c ⌝ }
 {
-    let start = c * n;
-    let end = start + n;
-    &numbers[start..end]
+    coefficients(n, proposals, c)
 }
 
 // The lowest variable of x that is not between its bounds, n where there is none. The numbers are any.

@@ -12,7 +12,7 @@ use Rattle.model.specs.Rows.{Rows}
 use Rattle.model.specs.State.{State, stateOf}
 use Rattle.semantics.specs.CallChecks.{callFault, lentTable}
 use Rattle.semantics.specs.Call.{callOf, hasTable, kindOf}
-use Rattle.semantics.proofs.Accepted.{fault-of-own, modelFaultOf}
+use Rattle.call_laws.proofs.Accepted.{fault-of-own, modelFaultOf}
 use Rattle.call.proofs.FieldLaws.{ownFault}
 
 -- of a call on s that is lent all of it; f is what the checks of the model (and table) come to

@@ -93,16 +93,12 @@ module _ (X : List ℕ) (C : List ℤ) (place j w zeros : ℕ) (t : 0 < j) (l : 
       → coefsFrom (take (length C - (j - 1)) (drop (place + (j - 1)) (set X (place + (j - 1)) w))) (zeros + 1) ≡ drop (j - 1) C
   row-zero e = rw (rest, longer, e) (packed-zero X (place + (j - 1)) (length C - j) w zeros (drop j C) (omega arith) (rw next g))
 
--- the part of a matrix that is row r, and the place of its words
+-- row r of a matrix, and the place of its words
 module _ (n m r : ℕ) (C : List ℤ) (few : n ≤ 128) (fewRows : m ≤ 120) (len : length C ≡ m * n) (h : r < m) where
   pub row-room : (r * n + n ≤ length C) × (length C ≤ 15_360)
   row-room =
       let all : m * n ≤ 120 * 128 = mul-le-mul fewRows few in
       (omega (arith, mul-le-mul-right n h, suc-mul r n), omega arith)
-
-  pub part-row : take (r * n + n - r * n) (drop (r * n) C) ≡ rowOf n C r
-  unfolding rowOf
-  part-row = let d : r * n + n - r * n ≡ n = omega arith in rw d
 
   pub length-row : length (rowOf n C r) ≡ n
   length-row = length-rowOf n m C r len h

@@ -1,5 +1,6 @@
 // The rows of a model, written into a workspace: of each row the words that `packed_row` reads, and its right side and
 // kind in one number.
+use matrix::coefficients;
 use model::MAX_COEF;
 use model::MAX_RHS;
 use workspace::RHS_AT;
@@ -9,7 +10,7 @@ ghost use mathlib.Core.Path.{_≡_};
 ghost use Prim.Native.Nat.{ℕ, _*_, _+_, _%_, _<_, _≤_};
 ghost use lib.ListN.{drop, getD, length, take};
 ghost use Rattle.model.specs.Box.{at};
-ghost use Rattle.model.specs.Limits.{maxCoef, maxRhs, minCoef, minRhs};
+ghost use Rattle.model.specs.Limits.{maxCoef, maxRhs, maxRows, maxVariables, minCoef, minRhs};
 ghost use Rattle.model.specs.Rows.{rowOf};
 ghost use Rattle.model.specs.Valid.{Between};
 ghost use Rattle.packed_row.specs.Words.{coefsFrom, rhsOf};
@@ -19,7 +20,7 @@ ghost use Rattle.prepared_model.specs.SameBut.{SameBut};
 // Writes the words of a row from a place on: each coefficient with the number of zeros that follow it, from the row's
 // end.
 fn pack_row(coefs: &[i32], place: usize, ws: &mut [u32])
-    requires { ⌜ (length (now coefs) ≤ 128) × ((i : ℕ) → Between minCoef maxCoef (at (now coefs) i))
+    requires { ⌜ (length (now coefs) ≤ maxVariables) × ((i : ℕ) → Between minCoef maxCoef (at (now coefs) i))
         × (place + length (now coefs) ≤ workspaceLen) × (length (now ws) ≡ workspaceLen) ⌝ }
     ensures row { λ _.
         let C = now (coefs .entry) in
@@ -43,7 +44,7 @@ fn pack_row(coefs: &[i32], place: usize, ws: &mut [u32])
 
 // Writes the words of every row.
 pub fn pack_rows(n: usize, m: usize, coefs: &[i32], ws: &mut [u32])
-    requires { ⌜ (n ≤ 128) × (m ≤ 120) × (length (now coefs) ≡ m * n)
+    requires { ⌜ (n ≤ maxVariables) × (m ≤ maxRows) × (length (now coefs) ≡ m * n)
         × ((i : ℕ) → Between minCoef maxCoef (at (now coefs) i)) × (length (now ws) ≡ workspaceLen) ⌝ }
     ensures rows { λ _.
         ⌜ ((r : ℕ) → r < m → coefsFrom (rowWords n (now (ws .exit)) r) 0 ≡ rowOf n (now (coefs .entry)) r) ⌝ }
@@ -51,14 +52,14 @@ pub fn pack_rows(n: usize, m: usize, coefs: &[i32], ws: &mut [u32])
 {
     let mut r = 0;
     while r < m {
-        pack_row(&coefs[r * n..r * n + n], ROWS_AT + r * n, ws);
+        pack_row(coefficients(n, coefs, r), ROWS_AT + r * n, ws);
         r += 1;
     }
 }
 
 // Writes the right side and the kind of every row.
 pub fn pack_rhs(m: usize, rhs: &[i32], kinds: &[u8], ws: &mut [u32])
-    requires { ⌜ (m ≤ 120) × (length (now rhs) ≡ m) × ((i : ℕ) → Between minRhs maxRhs (at (now rhs) i))
+    requires { ⌜ (m ≤ maxRows) × (length (now rhs) ≡ m) × ((i : ℕ) → Between minRhs maxRhs (at (now rhs) i))
         × (length (now kinds) ≡ m) × ((i : ℕ) → getD (now kinds) i 0 < 2) × (length (now ws) ≡ workspaceLen) ⌝ }
     ensures sides { λ _.
         ⌜ ((r : ℕ) → r < m → (rhsOf (rhsWord (now (ws .exit)) r) ≡ at (now (rhs .entry)) r)

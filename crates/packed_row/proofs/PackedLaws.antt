@@ -68,8 +68,8 @@ coefs-in (w ∷ ws) (suc k) (suc j) = coefs-in ws k j
 pub packed-valid : {n : ℕ} (ws : List ℕ) {B : List ℤ} → 0 < n → n ≤ 128 → length ws ≡ n → ValidBox n B → ValidCoefs n (coefsFrom ws 0) B
 packed-valid ws some few len v = record { some = some; few = few; len = length-coefs ws 0 ∙ len; range = coefs-in ws 0; box = v }
 
-pub readable-row : (ws : List ℕ) {B : List ℤ} (side : ℕ) → Readable ws B → ValidRow (length ws) (coefsFrom ws 0) (rhsOf side) B
-readable-row ws side v = record { coefs = packed-valid ws (v .some) (v .few) refl (v .box); rhs = rhs-in side }
+pub readable-row : (ws : List ℕ) {B : List ℤ} (rhsWord : ℕ) → Readable ws B → ValidRow (length ws) (coefsFrom ws 0) (rhsOf rhsWord) B
+readable-row ws rhsWord v = record { coefs = packed-valid ws (v .some) (v .few) refl (v .box); rhs = rhs-in rhsWord }
 
 -- ---- the steps of a sweep
 

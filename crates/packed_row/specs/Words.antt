@@ -6,13 +6,20 @@ use lib.IntN.{_-ℤ_, pos, ℤ}
 use lib.ListN.{length}
 use mathlib.Core.Bool.{cond}
 use mathlib.Core.List.{List, [], _∷_}
-use Rattle.model.specs.Limits.{maxVariables}
+use Rattle.model.specs.Limits.{maxCoef, maxRhs, maxVariables}
 use Rattle.model.specs.Rows.{Row}
 use Rattle.model.specs.Valid.{ValidBox}
 
+-- the greatest coefficient and the greatest right side, raised so that the least is 0
+abbrev pub raisedCoef : ℕ
+raisedCoef = 2_000_000
+
+abbrev pub raisedRhs : ℕ
+raisedRhs = 2_000_000_000
+
 -- the coefficient in a word: (a + 1,000,000) × 128, and beside it the number of zeros that follow, at most 127
 unfoldable pub coefOf : ℕ → ℤ
-coefOf w = cond (leb (w / 128) 2_000_000) (pos (w / 128) -ℤ pos 1_000_000) (pos 0)
+coefOf w = cond (leb (w / 128) raisedCoef) (pos (w / 128) -ℤ maxCoef) (pos 0)
 
 -- the coefficients that words say, of which the first k are skipped
 unfoldable pub coefsFrom : List ℕ → (k : ℕ) → List ℤ
@@ -22,11 +29,11 @@ coefsFrom (w ∷ ws) (suc k) = pos 0 ∷ coefsFrom ws k
 
 -- the right side and the kind in one word: (b + 1,000,000,000) × 2 + kind
 unfoldable pub rhsOf : ℕ → ℤ
-rhsOf w = cond (leb (w / 2) 2_000_000_000) (pos (w / 2) -ℤ pos 1_000_000_000) (pos 0)
+rhsOf w = cond (leb (w / 2) raisedRhs) (pos (w / 2) -ℤ maxRhs) (pos 0)
 
 -- the row that words and the word of its right side say
 unfoldable pub rowOfWords : List ℕ → ℕ → Row
-rowOfWords ws side = record { coefs = coefsFrom ws 0; rhs = rhsOf side; kind = side % 2 }
+rowOfWords ws rhsWord = record { coefs = coefsFrom ws 0; rhs = rhsOf rhsWord; kind = rhsWord % 2 }
 
 -- words for a row of a box that passed the checks
 pub record Readable (ws : List ℕ) (B : List ℤ) : Type 0 where

@@ -16,6 +16,7 @@ ghost use lib.Signed.{ltZ};
 ghost use Rattle.integer.specs.Order.{maxZ};
 ghost use Rattle.integer.specs.Range.{Within};
 ghost use Rattle.model.specs.Box.{lower, upper};
+ghost use Rattle.model.specs.Limits.{boundSize, coefSize, maxVariables};
 ghost use Rattle.model.specs.Rows.{rowWith};
 ghost use Rattle.row.specs.Activity.{minActivity, minTerm, termWidth, widestTerm};
 ghost use Rattle.row.specs.Answers.{propagatedRowOf};
@@ -25,12 +26,17 @@ ghost use Rattle.row.specs.Propagation.{impliedBox, propagateRow, rowMoves};
 ghost use Rattle.row.specs.ValidRow.{IsSign, ImpliesBox, ValidCoefs, ValidRow};
 ghost use Rattle.packed_row.specs.Words.{Readable, coefOf, coefsFrom, rhsOf, rowOfWords};
 
+// The greatest coefficient and the greatest right side, raised so that the least is 0.
+const RAISED_COEF: u32 = 2 * (MAX_COEF as u32);
+
+const RAISED_RHS: u32 = 2 * (MAX_RHS as u32);
+
 // The coefficient in a word; one that is out of range is 0.
 fn coef(word: u32) -> i32
     ensures { λ r. ⌜ r ≡ coefOf word ⌝ }
 {
     let c = word / 128;
-    if 2_000_000 < c {
+    if RAISED_COEF < c {
         return 0;
     }
     (c as i32) - MAX_COEF
@@ -44,7 +50,7 @@ fn is_negative(a: i32) -> usize
 }
 
 fn product(a: i32, x: i32) -> i64
-    requires { ⌜ Within 1_000_000 a × Within 32_768 x ⌝ }
+    requires { ⌜ Within coefSize a × Within boundSize x ⌝ }
     ensures { λ r. ⌜ r ≡ a *ℤ x ⌝ }
 {
     (a as i64) * (x as i64)
@@ -54,8 +60,8 @@ fn product(a: i32, x: i32) -> i64
 // bound for a above 0, at the upper for a below 0, and the greatest at the other one: which place is read is counted,
 // so that no branch has to be foreseen.
 fn term_reach(a: i32, bounds: &[i32], j: usize) -> Reach
-    requires { ⌜ (j < 128) × (2 * j + 1 < length (now bounds)) × Within 1_000_000 a
-        × Within 32_768 (lower (now bounds) j) × Within 32_768 (upper (now bounds) j) ⌝ }
+    requires { ⌜ (j < maxVariables) × (2 * j + 1 < length (now bounds)) × Within coefSize a
+        × Within boundSize (lower (now bounds) j) × Within boundSize (upper (now bounds) j) ⌝ }
     ensures least { λ r.
         let B = now (bounds .entry) in
         ⌜ r .least ≡ minTerm a (lower B j) (upper B j) ⌝ }
@@ -173,25 +179,25 @@ fn propagate_forms(words: &[u32], b: i32, kind: u32, bounds: &mut [i32]) -> RowP
 }
 
 // The right side in a word beside its kind; one that is out of range is 0.
-fn right_side(side: u32) -> i32
-    ensures { λ r. ⌜ r ≡ rhsOf side ⌝ }
+fn right_side(rhs_word: u32) -> i32
+    ensures { λ r. ⌜ r ≡ rhsOf «rhs_word» ⌝ }
 {
-    let b = side / 2;
-    if 2_000_000_000 < b {
+    let b = rhs_word / 2;
+    if RAISED_RHS < b {
         return 0;
     }
     (b as i32) - MAX_RHS
 }
 
 // Propagates the row that the words and the word of its right side say.
-pub fn propagate_row_packed(words: &[u32], side: u32, bounds: &mut [i32]) -> RowPropagation
+pub fn propagate_row_packed(words: &[u32], rhs_word: u32, bounds: &mut [i32]) -> RowPropagation
     requires { ⌜ Readable (now words) (now bounds) ⌝ }
     ensures { λ r.
         let W = now (words .entry) in
         ⌜ propagatedRowOf r (now (bounds .exit))
-        ≡ propagateRowOf (length W) (rowOfWords W side) (now (bounds .entry)) ⌝ }
+        ≡ propagateRowOf (length W) (rowOfWords W «rhs_word») (now (bounds .entry)) ⌝ }
 {
-    propagate_forms(words, right_side(side), side % 2, bounds)
+    propagate_forms(words, right_side(rhs_word), rhs_word % 2, bounds)
 }
 
 // Whether propagating the form would answer other than Unchanged; nothing is written.
@@ -226,11 +232,11 @@ fn forms_move(words: &[u32], b: i32, kind: u32, bounds: &[i32]) -> bool
 }
 
 // The same of the row that the words and the word of its right side say.
-pub fn row_moves_packed(words: &[u32], side: u32, bounds: &[i32]) -> bool
+pub fn row_moves_packed(words: &[u32], rhs_word: u32, bounds: &[i32]) -> bool
     requires { ⌜ Readable (now words) (now bounds) ⌝ }
     ensures { λ r.
         let W = now (words .entry) in
-        ⌜ r ≡ rowMovesOf (length W) (rowOfWords W side) (now (bounds .entry)) ⌝ }
+        ⌜ r ≡ rowMovesOf (length W) (rowOfWords W «rhs_word») (now (bounds .entry)) ⌝ }
 {
-    forms_move(words, right_side(side), side % 2, bounds)
+    forms_move(words, right_side(rhs_word), rhs_word % 2, bounds)
 }

@@ -10,10 +10,10 @@ use Rattle.model.specs.Checks.{first}
 use Rattle.pages.specs.Page.{pages}
 use Rattle.pages.specs.PageChecks.{pageChecks}
 use Rattle.page_call.specs.Answers.{Answer, countAnswer, pagesAfter, pagesAnswer, refused, unless}
-use Rattle.page_call.specs.declared.calls.CountAnswer.{CountAnswer}
-use Rattle.page_call.specs.declared.calls.CountAnswer.the-variants as counts
-use Rattle.page_call.specs.declared.calls.PagesAnswer.{PagesAnswer}
-use Rattle.page_call.specs.declared.calls.PagesAnswer.the-variants as writes
+use Rattle.page_call.specs.declared.open.CountAnswer.{CountAnswer}
+use Rattle.page_call.specs.declared.open.CountAnswer.the-variants as counts
+use Rattle.page_call.specs.declared.open.PagesAnswer.{PagesAnswer}
+use Rattle.page_call.specs.declared.open.PagesAnswer.the-variants as writes
 
 pub refused-by : {r fault : ℕ} → r ≡ fault → (r ≡ 0 → ⊥) → (a : Answer) → refused r ≡ unless fault a
 unfolding unless

@@ -9,10 +9,10 @@ use mathlib.Core.List.{List}
 use Rattle.model.specs.Checks.{first}
 use Rattle.pages.specs.Page.{pageCount, pages}
 use Rattle.pages.specs.PageChecks.{countChecks, pageChecks}
-use Rattle.page_call.specs.declared.calls.CountAnswer.{CountAnswer}
-use Rattle.page_call.specs.declared.calls.CountAnswer.the-variants as counts
-use Rattle.page_call.specs.declared.calls.PagesAnswer.{PagesAnswer}
-use Rattle.page_call.specs.declared.calls.PagesAnswer.the-variants as writes
+use Rattle.page_call.specs.declared.open.CountAnswer.{CountAnswer}
+use Rattle.page_call.specs.declared.open.CountAnswer.the-variants as counts
+use Rattle.page_call.specs.declared.open.PagesAnswer.{PagesAnswer}
+use Rattle.page_call.specs.declared.open.PagesAnswer.the-variants as writes
 
 -- refused by a check's number; the number of pages; the pages are written
 pub data Answer : Type 0 where

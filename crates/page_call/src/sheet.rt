@@ -8,14 +8,16 @@ ghost use mathlib.Core.Path.{_≡_};
 ghost use Prim.Native.Nat.{_+_, _-_, _*_, _≤_, _<_};
 ghost use lib.ListN.{length, replicate};
 ghost use Rattle.integer.specs.Range.{Within};
+ghost use Rattle.model.specs.Limits.{boundSize, maxLiterals, maxVariables};
 ghost use Rattle.text.specs.Text.{Wrote};
-ghost use Rattle.pages.specs.Page.{Paper, emptyLine, furtherCount, pageCount, pages as pagesOf, variableLines};
+ghost use Rattle.pages.specs.Page.{Paper, emptyLine, furtherCount, pageCount, pageSize, variableLines};
+ghost use Rattle.pages.specs.Page.{pages as pagesOf};
 ghost use Rattle.pages.specs.Writing.{filled, onesFrom, sheet, start};
 
 // The lines of variable k, from content line `line` on. The answer is the line after them.
 fn write_variable(k: usize, l: i32, u: i32, part: &[u8], line: usize, buf: &mut [u8]) -> usize
-    requires { ⌜ (k < 128) × Within 32768 l × Within 32768 u ⌝ }
-    requires { ⌜ length (now part) ≤ 256 ⌝ }
+    requires { ⌜ (k < maxVariables) × Within boundSize l × Within boundSize u ⌝ }
+    requires { ⌜ length (now part) ≤ maxLiterals ⌝ }
     requires { ⌜ line + 1 + furtherCount (length (onesFrom (now part) 0)) ≤ 4130 ⌝ }
     requires { ⌜ start (line + 1 + furtherCount (length (onesFrom (now part) 0))) ≤ length (now buf) ⌝ }
     ensures text { λ r.
@@ -53,7 +55,7 @@ fn fill_page(line: usize, buf: &mut [u8])
 pub fn write_all(n: usize, bounds: &[i32], table: &[u8], buf: &mut [u8])
     requires { ⌜ Paper n (now bounds) ⌝ }
     requires { ⌜ length (now table) ≡ 4 * (n * n) ⌝ }
-    requires { ⌜ length (now buf) ≡ pageCount n (now table) * 4860 ⌝ }
+    requires { ⌜ length (now buf) ≡ pageCount n (now table) * pageSize ⌝ }
     ensures { λ r. ⌜ now (buf .exit) ≡ pagesOf n (now (bounds .entry)) (now (table .entry)) ⌝ }
 {
     let mut line = 0;

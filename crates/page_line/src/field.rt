@@ -7,6 +7,7 @@ ghost use mathlib.Core.Path.{_≡_};
 ghost use Prim.Native.Nat.{_%_, _+_, _≤_, _<_};
 ghost use lib.Dec.{eqb};
 ghost use lib.ListN.{length};
+ghost use Rattle.model.specs.Limits.{maxLiterals};
 ghost use Rattle.text.specs.Decimal.{signed};
 ghost use Rattle.text.specs.Text.{Wrote};
 ghost use Rattle.pages.specs.Page.{left, literalText, right, spaces};
@@ -55,7 +56,7 @@ fn sign(q: usize) -> u8
 
 // Literal q: its sign, the number of its variable, and spaces.
 pub fn write_literal(q: usize, buf: &mut [u8], at: usize) -> usize
-    requires { ⌜ q < 256 ⌝ }
+    requires { ⌜ q < maxLiterals ⌝ }
     requires { ⌜ at + 6 ≤ length (now buf) ⌝ }
     ensures { λ r. ⌜ Wrote (now (buf .entry)) at (left 6 (literalText q)) r (now (buf .exit)) ⌝ }
 {

@@ -9,6 +9,7 @@ ghost use Prim.Native.Nat.{_+_, _≤_, _<_};
 ghost use lib.IntN.{ℤ};
 ghost use lib.ListN.{drop, getD, length};
 ghost use Rattle.integer.specs.Range.{Within};
+ghost use Rattle.model.specs.Limits.{boundSize, maxLiterals, maxVariables};
 ghost use Rattle.text.specs.Text.{Wrote};
 ghost use Rattle.pages.specs.Page.{emptyLine, firstLine, furtherLine, literals, newline, slots};
 ghost use Rattle.pages.specs.Writing.{fields, heading, onesFrom, start};
@@ -36,7 +37,7 @@ fn begin_line(line: usize, buf: &mut [u8]) -> usize
 
 // Columns 1 to 23: the variable, l and u.
 fn write_fields(k: usize, l: i32, u: i32, buf: &mut [u8], at: usize) -> usize
-    requires { ⌜ (k < 128) × Within 32768 l × Within 32768 u ⌝ }
+    requires { ⌜ (k < maxVariables) × Within boundSize l × Within boundSize u ⌝ }
     requires { ⌜ at + 23 ≤ length (now buf) ⌝ }
     ensures { λ r. ⌜ Wrote (now (buf .entry)) at (fields k l u) r (now (buf .exit)) ⌝ }
 {
@@ -66,7 +67,7 @@ fn next_one(part: &[u8], q: usize) -> usize
 // The first literal from byte q of the variable's part of the table on, or six spaces where there is none. The answer
 // is where the next would be looked for.
 fn write_slot(part: &[u8], q: usize, buf: &mut [u8], at: usize) -> usize
-    requires { ⌜ (length (now part) ≤ 256) × (q ≤ length (now part)) ⌝ }
+    requires { ⌜ (length (now part) ≤ maxLiterals) × (q ≤ length (now part)) ⌝ }
     requires { ⌜ at + 6 ≤ length (now buf) ⌝ }
     ensures text { λ r.
         ⌜ Wrote (now (buf .entry)) at (slots 1 (onesFrom (now (part .entry)) q)) (at + 6) (now (buf .exit)) ⌝ }
@@ -84,7 +85,7 @@ fn write_slot(part: &[u8], q: usize, buf: &mut [u8], at: usize) -> usize
 
 // Eight of them.
 fn write_slots(part: &[u8], q: usize, buf: &mut [u8], at: usize) -> usize
-    requires { ⌜ (length (now part) ≤ 256) × (q ≤ length (now part)) ⌝ }
+    requires { ⌜ (length (now part) ≤ maxLiterals) × (q ≤ length (now part)) ⌝ }
     requires { ⌜ at + 48 ≤ length (now buf) ⌝ }
     ensures text { λ r.
         ⌜ Wrote (now (buf .entry)) at (slots 8 (onesFrom (now (part .entry)) q)) (at + 48) (now (buf .exit)) ⌝ }
@@ -102,7 +103,7 @@ fn write_slots(part: &[u8], q: usize, buf: &mut [u8], at: usize) -> usize
 
 // Columns 24 to 80, and the line feed.
 fn write_literals(part: &[u8], q: usize, buf: &mut [u8], at: usize) -> usize
-    requires { ⌜ (length (now part) ≤ 256) × (q ≤ length (now part)) ⌝ }
+    requires { ⌜ (length (now part) ≤ maxLiterals) × (q ≤ length (now part)) ⌝ }
     requires { ⌜ at + 58 ≤ length (now buf) ⌝ }
     ensures text { λ r.
         let text = literals (onesFrom (now (part .entry)) q) ++ newline in
@@ -118,8 +119,8 @@ fn write_literals(part: &[u8], q: usize, buf: &mut [u8], at: usize) -> usize
 
 // Content line `line`, the first of variable k. The answer is where its next literal would be looked for.
 pub fn write_first(k: usize, l: i32, u: i32, part: &[u8], line: usize, buf: &mut [u8]) -> usize
-    requires { ⌜ (k < 128) × Within 32768 l × Within 32768 u ⌝ }
-    requires { ⌜ length (now part) ≤ 256 ⌝ }
+    requires { ⌜ (k < maxVariables) × Within boundSize l × Within boundSize u ⌝ }
+    requires { ⌜ length (now part) ≤ maxLiterals ⌝ }
     requires { ⌜ (line < 4130) × (start (line + 1) ≤ length (now buf)) ⌝ }
     ensures text { λ r.
         let text = heading line ++ (firstLine k l u (onesFrom (now (part .entry)) 0) ++ newline) in
@@ -134,7 +135,7 @@ pub fn write_first(k: usize, l: i32, u: i32, part: &[u8], line: usize, buf: &mut
 
 // Content line `line`, a further one of a variable, with its literals from byte q on.
 pub fn write_further(part: &[u8], q: usize, line: usize, buf: &mut [u8]) -> usize
-    requires { ⌜ (length (now part) ≤ 256) × (q ≤ length (now part)) ⌝ }
+    requires { ⌜ (length (now part) ≤ maxLiterals) × (q ≤ length (now part)) ⌝ }
     requires { ⌜ (line < 4130) × (start (line + 1) ≤ length (now buf)) ⌝ }
     ensures text { λ r.
         let text = heading line ++ (furtherLine (onesFrom (now (part .entry)) q) ++ newline) in

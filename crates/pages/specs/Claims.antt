@@ -7,7 +7,7 @@ use mathlib.Core.Bool.{false}
 use mathlib.Core.List.{List, [], _∷_}
 use mathlib.Core.Path.{_≡_}
 use Rattle.semantics.specs.Probe.{byteOf, literal}
-use Rattle.pages.specs.Page.{Paper, joined, pageCount, pages}
+use Rattle.pages.specs.Page.{Paper, joined, pageCount, pageSize, pages}
 use Rattle.pages.specs.Reading.{boxIn, columns, entryOf, has, impliedIn, naturalIn, readPages}
 
 -- 80 columns of spaces, signs and digits, and a line feed
@@ -22,11 +22,11 @@ pub data Rising : ℕ → ℕ → List ℕ → Type 0 where
 
 pub record FloorPages (n : ℕ) (B : List ℤ) (t : List ℕ) : Type 0 where
   pub most : pageCount n t ≤ 70
-  pub whole : length (pages n B t) ≡ pageCount n t * 4_860
+  pub whole : length (pages n B t) ≡ pageCount n t * pageSize
   -- "Every line is exactly 80 columns"
-  pub lines : (p i : ℕ) → p < pageCount n t → i < 60 → IsLine (pages n B t) (4_860 * p + 81 * i)
+  pub lines : (p i : ℕ) → p < pageCount n t → i < 60 → IsLine (pages n B t) (pageSize * p + 81 * i)
   -- "Line 1 of each page is the page number, from 1, .. in columns 75 to 80."
-  pub numbers : (p : ℕ) → p < pageCount n t → naturalIn (columns 75 80 (take 80 (drop (4_860 * p) (pages n B t)))) ≡ p + 1
+  pub numbers : (p : ℕ) → p < pageCount n t → naturalIn (columns 75 80 (take 80 (drop (pageSize * p) (pages n B t)))) ≡ p + 1
   -- "the numbers on the pages give back the bounds and those implications": an entry for each variable, upwards
   pub entries : readPages (pages n B t) ≡ joined n (λ k. entryOf n B t k ∷ [])
   pub bounds : boxIn (readPages (pages n B t)) ≡ B

@@ -14,6 +14,10 @@ use Rattle.text.specs.Decimal.{decimal, signed}
 use Rattle.text.specs.Text.{texts}
 use Rattle.semantics.specs.Probe.{byteOf, literal}
 
+-- a page: 60 lines of 80 columns and a line feed each
+abbrev pub pageSize : ℕ
+pageSize = 4_860
+
 -- ---- fields
 
 abbrev pub spaces : ℕ → List ℕ

@@ -5,7 +5,7 @@ use lib.IntN.{ℤ}
 use lib.ListN.{length}
 use mathlib.Core.List.{List, _++_, _∷_}
 use Rattle.model.specs.Checks.{Check, boxChecks, must, sizeChecks, table, tableByteChecks, tableLengthChecks}
-use Rattle.pages.specs.Page.{pageCount}
+use Rattle.pages.specs.Page.{pageCount, pageSize}
 
 -- 3, and 5 of the table
 unfoldable pub lentChecks : ℕ → List ℕ → List Check
@@ -20,4 +20,4 @@ countChecks n t = lentChecks n t ++ tableByteChecks (table t)
 unfoldable pub pageChecks : ℕ → List ℤ → List ℕ → ℕ → List Check
 pageChecks n B t room =
     lentChecks n t
-    ++ (must (eqb (length B) (2 * n)) 5 ∷ must (eqb room (pageCount n t * 4_860)) 5 ∷ (boxChecks n B ++ tableByteChecks (table t)))
+    ++ (must (eqb (length B) (2 * n)) 5 ∷ must (eqb room (pageCount n t * pageSize)) 5 ∷ (boxChecks n B ++ tableByteChecks (table t)))

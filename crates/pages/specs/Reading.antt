@@ -7,7 +7,7 @@ use mathlib.Core.Bool.{Bool, _&&_, cond, false, true}
 use mathlib.Core.List.{List, [], _++_, _∷_}
 use Rattle.model.specs.Box.{lower, upper}
 use Rattle.text.specs.Decimal.{value}
-use Rattle.pages.specs.Page.{implied, joined}
+use Rattle.pages.specs.Page.{implied, joined, pageSize}
 
 -- ---- numbers in columns
 
@@ -89,10 +89,10 @@ entries (line ∷ lines) = cond (begins line) (entry line (pending lines) ∷ en
 
 -- content line c of the pages, without the page numbers' lines
 unfoldable pub lineIn : List ℕ → ℕ → List ℕ
-lineIn bytes c = take 80 (drop (4_860 * (c / 59) + 81 * suc (c % 59)) bytes)
+lineIn bytes c = take 80 (drop (pageSize * (c / 59) + 81 * suc (c % 59)) bytes)
 
 unfoldable pub linesIn : List ℕ → List (List ℕ)
-linesIn bytes = joined (59 * (length bytes / 4_860)) (λ c. lineIn bytes c ∷ [])
+linesIn bytes = joined (59 * (length bytes / pageSize)) (λ c. lineIn bytes c ∷ [])
 
 unfoldable pub readPages : List ℕ → List Entry
 readPages bytes = entries (linesIn bytes)

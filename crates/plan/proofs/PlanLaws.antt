@@ -27,9 +27,9 @@ use Rattle.book.specs.Book.{rows, variables}
 use Rattle.book.specs.BookChecks.{layoutChecks, offsetChecks, trailerChecks}
 use Rattle.semantics.specs.Call.{kindOf, removal, rowPropagation, tightening, unknown}
 use Rattle.semantics.specs.CallList.{callsMade}
-use Rattle.semantics.specs.Passes.{ListPassesWithin, NeverSpent, callLimit, enoughBudget, passLimit, passesMade, totalWidth}
 use Rattle.semantics.specs.Propagate.{isSpent, propagate}
-use Rattle.semantics.proofs.Passes.{enough-budget, list-passes-within, total-width-limit}
+use Rattle.demands.specs.Passes.{ListPassesWithin, NeverSpent, callLimit, enoughBudget, passLimit, passesMade, totalWidth}
+use Rattle.demands.proofs.Passes.{enough-budget, list-passes-within, total-width-limit}
 use Rattle.plan.specs.Answers.{Answer, lengthsAnswer, lengthsAre, lengthsCall, passesAnswer, passesAre, passesCall, refused, unless, widthAnswer, widthCall, widthIs}
 use Rattle.plan.specs.Lengths.{Lengths, lengthsFor, lengthsOf}
 use Rattle.plan.specs.Meaning.{EnoughFor, PassesAtMost}

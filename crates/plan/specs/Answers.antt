@@ -8,7 +8,7 @@ use mathlib.Core.List.{List}
 use Rattle.book.specs.Book.{rows, variables}
 use Rattle.book.specs.BookChecks.{trailerChecks}
 use Rattle.model.specs.Checks.{first}
-use Rattle.semantics.specs.Passes.{enoughBudget, passLimit, totalWidth}
+use Rattle.demands.specs.Passes.{enoughBudget, passLimit, totalWidth}
 use Rattle.plan.specs.Lengths.{Lengths, lengthsFor, lengthsOf}
 use Rattle.plan.specs.PlanChecks.{boundsChecks, listFits}
 use Rattle.plan.specs.declared.WidthAnswer.{WidthAnswer}

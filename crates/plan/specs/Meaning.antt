@@ -10,8 +10,8 @@ use Rattle.model.specs.State.{State}
 use Rattle.model.specs.Valid.{ValidModel}
 use Rattle.semantics.specs.CallChecks.{maxBudget}
 use Rattle.semantics.specs.CallList.{callsMade}
-use Rattle.semantics.specs.Passes.{passesMade}
 use Rattle.semantics.specs.Propagate.{isSpent, propagate}
+use Rattle.demands.specs.Passes.{passesMade}
 
 -- "a settle budget that is never spent": by no accepted model with these bounds; and check 15 does not refuse it
 pub record EnoughFor (n : ℕ) (B : List ℤ) (budget : ℕ) : Type 0 where

@@ -11,8 +11,9 @@ ghost use lib.Signed.{_≤ℤ_};
 ghost use Rattle.integer.specs.Range.{Within};
 ghost use Rattle.model.specs.Box.{NonEmpty, width as boxWidth};
 ghost use Rattle.model.specs.Checks.{first};
+ghost use Rattle.model.specs.Limits.{boundSize, maxVariables};
 ghost use Rattle.model.specs.Valid.{ValidBox};
-ghost use Rattle.semantics.specs.Passes.{totalWidth};
+ghost use Rattle.demands.specs.Passes.{totalWidth};
 ghost use Rattle.plan.specs.Answers.{widthAnswer, widthCall, widthIs};
 ghost use Rattle.plan.specs.Meaning.{EnoughFor};
 ghost use Rattle.plan.specs.PlanChecks.{boundsChecks};
@@ -37,8 +38,8 @@ pub fn bounds_fault(n: usize, bounds: &[i32], fits: bool) -> u32
 
 // u − l of bounds in range, l not above u.
 fn span(low: i32, high: i32) -> u32
-    requires { ⌜ Within 32768 low ⌝ }
-    requires { ⌜ Within 32768 high ⌝ }
+    requires { ⌜ Within boundSize low ⌝ }
+    requires { ⌜ Within boundSize high ⌝ }
     requires { ⌜ low ≤ℤ high ⌝ }
     ensures { λ r. ⌜ pos r ≡ high -ℤ low ⌝ }
 {
@@ -47,7 +48,7 @@ fn span(low: i32, high: i32) -> u32
 
 // The sum of u − l, each from 0 to 4,096.
 fn sum_of_spans(n: usize, bounds: &[i32]) -> u32
-    requires { ⌜ (n ≤ 128) × ValidBox n (now bounds) × NonEmpty n (now bounds) ⌝ }
+    requires { ⌜ (n ≤ maxVariables) × ValidBox n (now bounds) × NonEmpty n (now bounds) ⌝ }
     ensures { λ r. ⌜ pos r ≡ boxWidth n (now (bounds .entry)) ⌝ }
 {
     let mut sum: u32 = 0;
@@ -61,7 +62,7 @@ fn sum_of_spans(n: usize, bounds: &[i32]) -> u32
 
 // The total width of a box that passed the checks: 0 for the empty box.
 pub fn total_width(n: usize, bounds: &[i32]) -> u32
-    requires { ⌜ (0 < n) × (n ≤ 128) × ValidBox n (now bounds) ⌝ }
+    requires { ⌜ (0 < n) × (n ≤ maxVariables) × ValidBox n (now bounds) ⌝ }
     ensures { λ r. ⌜ (r ≡ totalWidth n (now (bounds .entry))) × (r ≤ 524288) ⌝ }
 {
     if is_empty(bounds) {

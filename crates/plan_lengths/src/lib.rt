@@ -7,12 +7,13 @@ ghost use mathlib.Core.Path.{_≡_};
 ghost use Prim.Native.Nat.{_≤_};
 ghost use Rattle.plan.specs.Answers.{lengthsAnswer, lengthsCall};
 ghost use Rattle.plan.specs.Lengths.{lengthsFor, lengthsOf};
+ghost use Rattle.model.specs.Limits.{maxRows, maxVariables};
 
 // The bytes of a book's trailer.
 const TRAILER: usize = 16;
 
 fn lengths_for(n: usize, m: usize) -> BufferLengths
-    requires { ⌜ (n ≤ 128) × (m ≤ 120) ⌝ }
+    requires { ⌜ (n ≤ maxVariables) × (m ≤ maxRows) ⌝ }
     ensures { λ r. ⌜ lengthsOf r ≡ lengthsFor n m ⌝ }
 {
     let coefs = m * n;

@@ -8,7 +8,7 @@ ghost use mathlib.Core.Path.{_≡_};
 ghost use Prim.Native.Nat.{ℕ, _≤_};
 ghost use lib.ListN.{length};
 ghost use Rattle.semantics.specs.Call.{kindOf};
-ghost use Rattle.semantics.specs.Passes.{callLimit, lesser as lesserOf, passLimit};
+ghost use Rattle.demands.specs.Passes.{callLimit, lesser as lesserOf, passLimit};
 ghost use Rattle.plan.specs.Answers.{passesAnswer, passesAre, passesCall};
 ghost use Rattle.plan.specs.Meaning.{EnoughFor, PassesAtMost};
 ghost use Rattle.plan.specs.PlanChecks.{listFits};

@@ -4,6 +4,7 @@ use Prim.Native.Nat.{_%_, _<_, _≤_, ℕ}
 use lib.ListN.{getD, length}
 use mathlib.Core.List.{List}
 use mathlib.Core.Path.{_≡_}
+use Rattle.model.specs.Limits.{boundSize}
 use Rattle.hearers.specs.Column.{Column}
 use Rattle.model.specs.Box.{at}
 use Rattle.model.specs.Rows.{Rows, rowOf}
@@ -17,7 +18,7 @@ pub record Written (n m : ℕ) (A : Rows) (W : List ℕ) : Type 0 where
   pub variables : variablesOf W ≡ n
   pub rowCount : rowsIn W ≡ m
   pub dirty : (i : ℕ) → 4 ≤ i → i < 8 → getD W i 0 ≡ 4_294_967_295
-  pub box : (i : ℕ) → 8 ≤ i → i < 264 → getD W i 0 ≡ 32_768
+  pub box : (i : ℕ) → 8 ≤ i → i < 264 → getD W i 0 ≡ boundSize
   pub sides : (r : ℕ) → r < m → (rhsOf (rhsWord W r) ≡ at (A .rhs) r) × (rhsWord W r % 2 ≡ getD (A .kinds) r 0)
   pub columns : (j : ℕ) → j < n → Column n m (A .coefs) (A .kinds) j (riseOf W j) (fallOf W j)
   pub rows : (r : ℕ) → r < m → coefsFrom (rowWords n W r) 0 ≡ rowOf n (A .coefs) r

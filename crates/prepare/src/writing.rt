@@ -4,12 +4,14 @@ use pack::pack_rhs;
 use pack::pack_rows;
 use workspace::BOX_AT;
 use workspace::OUR_MARK;
+use workspace::RAISE;
 use workspace::RHS_AT;
 use workspace::SET_AT;
 ghost use mathlib.Core.Path.{_≡_};
 ghost use Prim.Native.Nat.{ℕ, _*_, _<_, _≤_};
 ghost use lib.ListN.{getD, length, replicate};
 ghost use lib.IntN.{pos};
+ghost use Rattle.model.specs.Limits.{maxRows, maxVariables};
 ghost use Rattle.model.specs.Model.{modelOf};
 ghost use Rattle.model.specs.Rows.{rowsOf};
 ghost use Rattle.model.specs.Valid.{ValidModel};
@@ -17,9 +19,12 @@ ghost use Rattle.prepared_model.specs.Layout.{ourMark, rowsIn, variablesOf, wor
 ghost use Rattle.prepared_model.specs.SameBut.{SameBut};
 ghost use Rattle.prepare.specs.Written.{Written};
 
+// The bound 0, as it is kept.
+const RAISED_ZERO: u32 = RAISE as u32;
+
 // Writes our mark, n and m.
 fn write_head(n: usize, m: usize, ws: &mut [u32])
-    requires { ⌜ (n ≤ 128) × (m ≤ 120) × (length (now ws) ≡ workspaceLen) ⌝ }
+    requires { ⌜ (n ≤ maxVariables) × (m ≤ maxRows) × (length (now ws) ≡ workspaceLen) ⌝ }
     ensures head { λ _.
         let W = now (ws .exit) in
         ⌜ (getD W 0 0 ≡ ourMark) × (variablesOf W ≡ n) × (rowsIn W ≡ m) ⌝ }
@@ -54,7 +59,7 @@ pub fn write(n: usize, m: usize, coefs: &[i32], rhs: &[i32], kinds: &[u8], ws: &
 {
     write_head(n, m, ws);
     fill(SET_AT, BOX_AT, 4_294_967_295, ws);
-    fill(BOX_AT, RHS_AT, 32_768, ws);
+    fill(BOX_AT, RHS_AT, RAISED_ZERO, ws);
     pack_rhs(m, rhs, kinds, ws);
     write_columns(n, m, coefs, kinds, ws);
     pack_rows(n, m, coefs, ws);

@@ -6,6 +6,7 @@ use mathlib.Core.List.{List}
 use mathlib.Core.Logic.{_⊎_}
 use mathlib.Core.Path.{_≡_}
 use Rattle.model.specs.Box.{at}
+use Rattle.model.specs.Limits.{maxVariables}
 use Rattle.prepared_model.specs.Layout.{boxIn}
 use Rattle.prepared_notes.specs.Heard.{Missed}
 use Rattle.row_set.specs.Bits.{bitAt}
@@ -20,4 +21,4 @@ pub record Copied (p q : ℕ) (new before box : List ℤ) : Type 0 where
 -- before, and hears nothing of the variables from p on and below q.
 pub record NotedKept (W : List ℕ) (new : List ℤ) (D : List ℕ) (p q : ℕ) (D′ : List ℕ) : Type 0 where
   pub set : length D′ ≡ length D
-  pub heard : (r : ℕ) → r < 128 → bitAt D′ r ≡ 0 → (bitAt D r ≡ 0) × ((k : ℕ) → p ≤ k → k < q → Missed W r (boxIn 128 W) new k)
+  pub heard : (r : ℕ) → r < 128 → bitAt D′ r ≡ 0 → (bitAt D r ≡ 0) × ((k : ℕ) → p ≤ k → k < q → Missed W r (boxIn maxVariables W) new k)

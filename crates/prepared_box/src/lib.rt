@@ -9,6 +9,7 @@ ghost use mathlib.Core.Path.{_≡_};
 ghost use Prim.Native.Nat.{ℕ, _*_, _+_, _<_, _≤_};
 ghost use lib.ListN.{getD, length};
 ghost use Rattle.model.specs.Box.{at};
+ghost use Rattle.model.specs.Limits.{maxBox, maxVariables};
 ghost use Rattle.model.specs.Rows.{Rows};
 ghost use Rattle.prepared_model.specs.Layout.{boundOf, dirtyOf, rowsIn, variablesOf, workspaceLen};
 ghost use Rattle.prepared_model.specs.Prepared.{Prepared};
@@ -20,7 +21,7 @@ const BLOCK: usize = 32;
 
 // Copies the numbers from place `from` on and below `to`. Whether they are those that the workspace keeps.
 fn copy_same(ws: &[u32], from: usize, to: usize, seen: &mut [i32], new: &[i32]) -> bool
-    requires { ⌜ (length (now ws) ≡ workspaceLen) × (from ≤ to) × (to ≤ 256) × (to ≤ length (now seen))
+    requires { ⌜ (length (now ws) ≡ workspaceLen) × (from ≤ to) × (to ≤ maxBox) × (to ≤ length (now seen))
         × (to ≤ length (now new)) ⌝ }
     ensures copied { λ _.
         ⌜ Copied from to (now (new .entry)) (now (seen .entry)) (now (seen .exit)) ⌝ }
@@ -41,7 +42,7 @@ fn copy_same(ws: &[u32], from: usize, to: usize, seen: &mut [i32], new: &[i32]) 
 
 // The rows that hear of a bound of variable j that is not the one that the workspace keeps are to be looked at.
 fn note_kept(ws: &[u32], j: usize, new: &[i32], dirty: &mut [u32])
-    requires { ⌜ (length (now ws) ≡ workspaceLen) × (j < 128) × (2 * j + 1 < length (now new))
+    requires { ⌜ (length (now ws) ≡ workspaceLen) × (j < maxVariables) × (2 * j + 1 < length (now new))
         × (length (now dirty) ≡ 4) ⌝ }
     ensures { λ _.
         ⌜ NotedKept (now (ws .entry)) (now (new .entry)) (now (dirty .entry)) j (j + 1) (now (dirty .exit)) ⌝ }
@@ -52,7 +53,7 @@ fn note_kept(ws: &[u32], j: usize, new: &[i32], dirty: &mut [u32])
 
 // The same of the variables from `from` on and below `to`.
 fn note_block(ws: &[u32], from: usize, to: usize, new: &[i32], dirty: &mut [u32])
-    requires { ⌜ (length (now ws) ≡ workspaceLen) × (from ≤ to) × (to ≤ 128) × (length (now dirty) ≡ 4)
+    requires { ⌜ (length (now ws) ≡ workspaceLen) × (from ≤ to) × (to ≤ maxVariables) × (length (now dirty) ≡ 4)
         × (2 * to ≤ length (now new)) ⌝ }
     ensures { λ _.
         ⌜ NotedKept (now (ws .entry)) (now (new .entry)) (now (dirty .entry)) from to (now (dirty .exit)) ⌝ }
@@ -67,7 +68,7 @@ fn note_block(ws: &[u32], from: usize, to: usize, new: &[i32], dirty: &mut [u32]
 // All n variables get their new bounds, block by block from the last on; what is left of n is the first block. Only
 // that one's length is not known to the compiler, which unrolls the loop of the others.
 fn take_all(n: usize, ws: &[u32], seen: &mut [i32], new: &[i32], dirty: &mut [u32])
-    requires { ⌜ (length (now ws) ≡ workspaceLen) × (n ≤ 128) × (length (now dirty) ≡ 4)
+    requires { ⌜ (length (now ws) ≡ workspaceLen) × (n ≤ maxVariables) × (length (now dirty) ≡ 4)
         × (length (now seen) ≡ 2 * n) × (length (now new) ≡ 2 * n) ⌝ }
     ensures copied { λ _. ⌜ Copied 0 (2 * n) (now (new .entry)) (now (seen .entry)) (now (seen .exit)) ⌝ }
     ensures noted { λ _.
@@ -100,7 +101,7 @@ fn read_set(ws: &[u32], dirty: &mut [u32])
 
 // What is known of the lent box of n variables: `seen` becomes it, and `dirty` the rows to look at in it.
 pub fn take_box(n: usize, ws: &[u32], bounds: &[i32], seen: &mut [i32], dirty: &mut [u32])
-    requires { ⌜ (length (now ws) ≡ workspaceLen) × (n ≤ 128) × (length (now bounds) ≡ 2 * n)
+    requires { ⌜ (length (now ws) ≡ workspaceLen) × (n ≤ maxVariables) × (length (now bounds) ≡ 2 * n)
         × (length (now seen) ≡ 2 * n) × (length (now dirty) ≡ 4) ⌝ }
     ensures known { λ _. ⌜ now (seen .exit) ≡ now (bounds .entry) ⌝ }
     ensures calm { λ _.

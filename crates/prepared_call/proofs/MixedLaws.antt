@@ -10,13 +10,13 @@ use mathlib.Core.Path.{_∙_, _≡_, ap, refl, subst, sym}
 use Rattle.model.specs.Rows.{Rows}
 use Rattle.model.specs.State.{State, stateOf, withBox}
 use Rattle.reducer.specs.OpenCalls.{performed}
-use Rattle.semantics.specs.Call.{Call, callOf, hasTable, kindOf}
+use Rattle.semantics.specs.Call.{Call, callOf, hasTable, kindOf, narrows}
 use Rattle.semantics.specs.CallChecks.{callFault, lentTable, recordChecks}
 use Rattle.semantics.specs.Perform.{Answer, Performed, act, perform}
 use Rattle.semantics.specs.Run.{run, step}
-use Rattle.semantics.specs.TwoRuns.{Demand3, Narrows, narrows}
-use Rattle.semantics.proofs.Accepted.{fault-of-own}
-use Rattle.semantics.proofs.Demand3.{demand-3}
+use Rattle.call_laws.proofs.Accepted.{fault-of-own}
+use Rattle.demands.specs.TwoRuns.{Demand3, Narrows}
+use Rattle.demands.proofs.Demand3.{demand-3}
 use Rattle.prepared_call.specs.MixedRuns.{Demand3Mixed, Made, Mixed, PropagateIsMade, ProbeIsMade, lastOf}
 
 -- ---- the table of a settle
@@ -28,28 +28,28 @@ module _ (n m : ℕ) (A : Rows) (t : List ℕ) (budget : ℕ) where
   abbrev bare : List ℤ → State
   bare B = stateOf n m B A []
 
-  abbrev settle : State → Call
-  settle s = callOf s 2 0 0 budget
+  abbrev propagating : State → Call
+  propagating s = callOf s 2 0 0 budget
 
-  same-checks : (B : List ℤ) → callFault (on B) (settle (on B)) ≡ callFault (bare B) (settle (bare B))
+  same-checks : (B : List ℤ) → callFault (on B) (propagating (on B)) ≡ callFault (bare B) (propagating (bare B))
   unfolding stateOf callOf kindOf lentTable hasTable recordChecks
   same-checks B =
-      fault-of-own (on B) (settle (on B)) refl refl refl ∙ sym (fault-of-own (bare B) (settle (bare B)) refl refl refl)
+      fault-of-own (on B) (propagating (on B)) refl refl refl ∙ sym (fault-of-own (bare B) (propagating (bare B)) refl refl refl)
 
   -- with a table for none
   abbrev tabled : Performed → Performed
   tabled p = record { answer = p .answer; state = record { model = p .state .model; table = t } }
 
-  same-act : (B : List ℤ) → tabled (perform (bare B) (settle (bare B))) ≡ perform (on B) (settle (on B))
+  same-act : (B : List ℤ) → tabled (perform (bare B) (propagating (bare B))) ≡ perform (on B) (propagating (on B))
   unfolding perform act kindOf stateOf callOf withBox
-  same-act B = rw (same-checks B) (both (eqb (callFault (bare B) (settle (bare B))) 0) _ _)
+  same-act B = rw (same-checks B) (both (eqb (callFault (bare B) (propagating (bare B))) 0) _ _)
     where
       both : (b : Bool) (x y : Performed) → tabled (cond b x y) ≡ cond b (tabled x) (tabled y)
       both true x y = refl
       both false x y = refl
 
-  with-table : (B B′ : List ℤ) (a : Answer) → performed a (bare B′) ≡ perform (bare B) (settle (bare B))
-      → performed a (on B′) ≡ perform (on B) (settle (on B))
+  with-table : (B B′ : List ℤ) (a : Answer) → performed a (bare B′) ≡ perform (bare B) (propagating (bare B))
+      → performed a (on B′) ≡ perform (on B) (propagating (on B))
   unfolding performed stateOf
   with-table B B′ a e = ap tabled e ∙ same-act B
 

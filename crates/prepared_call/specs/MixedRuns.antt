@@ -9,12 +9,12 @@ use mathlib.Core.Path.{_≡_}
 use Rattle.model.specs.Rows.{Rows}
 use Rattle.model.specs.State.{State, stateOf}
 use Rattle.reducer.specs.OpenCalls.{performed}
-use Rattle.semantics.specs.Call.{Call, callOf, kindOf}
+use Rattle.semantics.specs.Call.{Call, callOf, kindOf, narrows}
 use Rattle.semantics.specs.CallChecks.{callFault}
 use Rattle.semantics.specs.Perform.{Answer, perform}
-use Rattle.semantics.specs.Points.{AtRest, PointOf, TableHolds}
 use Rattle.semantics.specs.Run.{run}
-use Rattle.semantics.specs.TwoRuns.{HandedIn, narrows}
+use Rattle.call_laws.specs.Points.{AtRest, PointOf, TableHolds}
+use Rattle.demands.specs.TwoRuns.{HandedIn}
 
 -- a call made r of s: the equation that the contract of every open call says, prepared or not. "after it an accepted call is a visit, a
 -- settle or a probe"

@@ -24,7 +24,7 @@ use Rattle.prepared_model.specs.RowReasons.{Lent}
 use Rattle.prepared_model.proofs.OursLaws.{is-ours, ours-is}
 use Rattle.semantics.specs.Call.{callOf, hasTable, kindOf}
 use Rattle.semantics.specs.CallChecks.{callFault, lentTable}
-use Rattle.semantics.proofs.Accepted.{fault-of-own}
+use Rattle.call_laws.proofs.Accepted.{fault-of-own}
 use Rattle.prepared_checks.specs.Checks.{Accepting, propagateChecks, propagateFault, reasonsFit}
 
 -- ---- what passes

@@ -25,7 +25,7 @@ use Rattle.prepared_model.specs.Prepared.{Ours, Prepared}
 use Rattle.prepared_model.proofs.OursLaws.{is-ours, ours-is}
 use Rattle.semantics.specs.Call.{callOf, hasTable, kindOf}
 use Rattle.semantics.specs.CallChecks.{callFault, lentTable}
-use Rattle.semantics.proofs.Accepted.{modelFaultOf}
+use Rattle.call_laws.proofs.Accepted.{modelFaultOf}
 use Rattle.prepared_checks.specs.Checks.{lentChecks, preparedProbeChecks, probeFault, sidesFit}
 
 pub box-valid : (n : ℕ) (B : List ℤ) → length B ≡ 2 * n → first (boxChecks n B) ≡ 0 → ValidBox n B

@@ -11,6 +11,7 @@ ghost use Prim.Native.Nat.{_*_, _≤_};
 ghost use lib.Dec.{eqb};
 ghost use lib.ListN.{length};
 ghost use Rattle.prepared_model.specs.Layout.{isOurs, variablesOf};
+ghost use Rattle.model.specs.Limits.{maxVariables};
 ghost use Rattle.prepared_checks.specs.Checks.{probeFault, propagateFault, reasonsFit, sidesFit};
 
 // Whether the workspace is ours and every other list has its length.
@@ -50,7 +51,7 @@ pub fn propagate_fault(ws: &[u32], bounds: &[i32], budget: u32, reasons: &[u32])
 
 // Whether the reasons are none, or 2n for each side.
 fn sides_fit(n: usize, reasons: &[u32]) -> bool
-    requires { ⌜ n ≤ 128 ⌝ }
+    requires { ⌜ n ≤ maxVariables ⌝ }
     ensures { λ r. ⌜ r ≡ sidesFit n (now (reasons .entry)) ⌝ }
 {
     if reasons.len() == 0 {

@@ -4,11 +4,9 @@ use prepared_call::propagate;
 use prepared_probe::probe;
 use prepared_replies::prepared_reply;
 use prepared_replies::put_probe;
+use replies::reply::ANSWER;
 use replies::reply::put;
 ghost use Rattle.prepared_exports.specs.PreparedSaid.{ProbeSaid, PropagateSaid};
-
-// The length of every answer buffer.
-const ANSWER: usize = 12;
 
 // 01's settle: {0 None | 1 Settled | 2 Spent, passes, moved, the infeasible row}. Refused by 5, 6, 7, 23 and 15.
 pub fn propagate_said(

@@ -20,8 +20,8 @@ use Rattle.row.specs.Kinds.{propagateRowOf}
 use Rattle.row.specs.Outcome.{isInfeasible}
 use Rattle.row.proofs.KindLaws.{kinded-nonEmpty, kinded-shrinks}
 use Rattle.semantics.specs.Propagate.{Pass, Propagated, isNone, passTo, propagate, propagateFrom}
-use Rattle.semantics.proofs.LowestLaws.{lowest-found}
-use Rattle.semantics.proofs.PropagateLaws.{look-ind, pass-ended, pass-next}
+use Rattle.call_laws.proofs.LowestLaws.{lowest-found}
+use Rattle.call_laws.proofs.PropagateLaws.{look-ind, pass-ended, pass-next}
 use Rattle.prepared_model.specs.Meaning.{ReasonsMean, Tells}
 use Rattle.prepared_model.specs.Reasons.{Reasons, endingRow, noRow, reasonsFrom, reasonsTo}
 use Rattle.prepared_model.specs.RowReasons.{reasonAt, rowReasons}

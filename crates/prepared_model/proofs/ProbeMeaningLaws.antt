@@ -20,8 +20,8 @@ use Rattle.model.proofs.BoxLaws.{hull-inside, in-hull-left, in-hull-right, insi
 use Rattle.semantics.specs.Probe.{Probed, fix, probe}
 use Rattle.semantics.specs.Propagate.{isNone}
 use Rattle.semantics.specs.Run.{probeInfeasible}
-use Rattle.semantics.proofs.ProbeLaws.{fix-nonEmpty, of-fix-free, probe-ind}
-use Rattle.semantics.proofs.PropagateLaws.{propagate-shrinks}
+use Rattle.call_laws.proofs.ProbeLaws.{fix-nonEmpty, of-fix-free, probe-ind}
+use Rattle.call_laws.proofs.PropagateLaws.{propagate-shrinks}
 use Rattle.prepared_model.specs.Meaning.{ReasonsMean}
 use Rattle.prepared_model.specs.ProbeMeaning.{MovedIn, ProbeReasonsMean, sideOf}
 use Rattle.prepared_model.specs.ProbeReasons.{bothReasons, probeReasons, sideReasons}

@@ -15,8 +15,8 @@ use Rattle.model.specs.Box.{isEmpty}
 use Rattle.model.specs.Rows.{Rows, rowAt}
 use Rattle.row.specs.Kinds.{propagateRowOf}
 use Rattle.semantics.specs.Propagate.{passTo}
-use Rattle.semantics.proofs.LowestLaws.{lowest-is}
-use Rattle.semantics.proofs.PropagateLaws.{pass-ended}
+use Rattle.call_laws.proofs.LowestLaws.{lowest-is}
+use Rattle.call_laws.proofs.PropagateLaws.{pass-ended}
 use Rattle.prepared_model.specs.Reasons.{Reasons, endingRow, noRow, reasonsFrom, reasonsOf, reasonsTo}
 use Rattle.prepared_model.specs.RowReasons.{rowReasons}
 

@@ -13,6 +13,7 @@ use lib.ListN.{drop, getD, length, take}
 use mathlib.Core.Bool.{Bool, _&&_}
 use mathlib.Core.List.{List, [], _∷_}
 use Rattle.model.specs.Box.{at}
+use Rattle.model.specs.Limits.{boundCount, boundSize, maxRows, maxVariables}
 use Rattle.model.specs.Rows.{Row, Rows}
 use Rattle.packed_row.specs.Words.{coefsFrom, rhsOf, rowOfWords}
 
@@ -32,7 +33,7 @@ rowsIn W = getD W 2 0
 -- its length and head are ours
 unfoldable pub isOurs : List ℕ → Bool
 isOurs W =
-    eqb (length W) workspaceLen && eqb (getD W 0 0) ourMark && ltb 0 (variablesOf W) && leb (variablesOf W) 128 && leb (rowsIn W) 120
+    eqb (length W) workspaceLen && eqb (getD W 0 0) ourMark && ltb 0 (variablesOf W) && leb (variablesOf W) maxVariables && leb (rowsIn W) maxRows
 
 -- the rows to look at
 unfoldable pub dirtyOf : List ℕ → List ℕ
@@ -47,7 +48,7 @@ fallOf W j = take 4 (drop (388 + 8 * j) W)
 
 -- any number says a bound in range
 unfoldable pub boundOf : ℕ → ℤ
-boundOf w = pos (w % 65_536) -ℤ pos 32_768
+boundOf w = pos (w % boundCount) -ℤ pos boundSize
 
 -- f 0, f 1, .., f (k − 1)
 unfoldable pub listTo : {A : Type 0} → ℕ → (ℕ → A) → List A

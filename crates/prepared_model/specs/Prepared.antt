@@ -4,6 +4,7 @@ use lib.ListN.{getD, length}
 use mathlib.Core.List.{List}
 use mathlib.Core.Path.{_≡_}
 use Rattle.model.specs.Box.{NonEmpty}
+use Rattle.model.specs.Limits.{maxRows, maxVariables}
 use Rattle.model.specs.Model.{modelOf}
 use Rattle.model.specs.Rows.{Rows}
 use Rattle.model.specs.Valid.{ValidModel}
@@ -15,8 +16,8 @@ pub record Ours (W : List ℕ) : Type 0 where
   pub len : length W ≡ workspaceLen
   pub mark : getD W 0 0 ≡ ourMark
   pub some : 0 < variablesOf W
-  pub few : variablesOf W ≤ 128
-  pub fewRows : rowsIn W ≤ 120
+  pub few : variablesOf W ≤ maxVariables
+  pub fewRows : rowsIn W ≤ maxRows
 
 -- it holds the rows A of a valid model, the sets of rows that hear of each variable, and a box that is not empty in which every row
 -- moves nothing but those to look at

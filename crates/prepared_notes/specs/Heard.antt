@@ -10,6 +10,7 @@ use Rattle.model.specs.Box.{at, lower, upper}
 use Rattle.packed_row.specs.Words.{coefsFrom}
 use Rattle.prepared_model.specs.Layout.{fallOf, riseOf, workspaceLen}
 use Rattle.row_set.specs.Bits.{bitAt}
+use Rattle.model.specs.Limits.{maxVariables}
 
 -- row r is not among those that hear a bound rise from old to new, or fall
 pub record Deaf (rise fall : List ℕ) (r : ℕ) (old new : ℤ) : Type 0 where
@@ -23,7 +24,7 @@ pub record Missed (W : List ℕ) (r : ℕ) (P Q : List ℤ) (j : ℕ) : Type 0 w
 
 -- two boxes that differ only where the row that the words say has a coefficient
 pub record Noting (ws W : List ℕ) (old new : List ℤ) (D : List ℕ) : Type 0 where
-  pub few : length ws ≤ 128
+  pub few : length ws ≤ maxVariables
   pub len : length W ≡ workspaceLen
   pub set : length D ≡ 4
   pub oldLen : length old ≡ 2 * length ws

@@ -9,11 +9,12 @@ ghost use lib.ListN.{length};
 ghost use Rattle.model.specs.Box.{lower, upper, withBounds};
 ghost use Rattle.prepared_model.specs.Layout.{fallOf, riseOf, workspaceLen};
 ghost use Rattle.row_set.specs.Bits.{bitAt};
+ghost use Rattle.model.specs.Limits.{maxVariables};
 ghost use Rattle.prepared_notes.specs.Heard.{Deaf, Missed, Noting};
 
 // A bound of variable j went from `old` to `new`.
 pub fn note_bound(ws: &[u32], j: usize, old: i32, new: i32, dirty: &mut [u32])
-    requires { ⌜ (length (now ws) ≡ workspaceLen) × (j < 128) × (length (now dirty) ≡ 4) ⌝ }
+    requires { ⌜ (length (now ws) ≡ workspaceLen) × (j < maxVariables) × (length (now dirty) ≡ 4) ⌝ }
     ensures { λ _.
         let W = now (ws .entry) in
         ⌜ ((r : ℕ) → r < 128 → bitAt (now (dirty .exit)) r ≡ 0
@@ -31,7 +32,7 @@ pub fn note_bound(ws: &[u32], j: usize, old: i32, new: i32, dirty: &mut [u32])
 
 // The bounds of variable j become those of `new`.
 fn note_at(ws: &[u32], j: usize, old: &mut [i32], new: &[i32], dirty: &mut [u32])
-    requires { ⌜ (length (now ws) ≡ workspaceLen) × (j < 128) × (length (now dirty) ≡ 4)
+    requires { ⌜ (length (now ws) ≡ workspaceLen) × (j < maxVariables) × (length (now dirty) ≡ 4)
         × (2 * j + 1 < length (now old)) × (2 * j + 1 < length (now new)) ⌝ }
     ensures left { λ _.
         ⌜ now (old .exit)

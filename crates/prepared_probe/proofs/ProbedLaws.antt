@@ -26,7 +26,7 @@ use Rattle.reducer.specs.OpenCalls.{probingAnswer}
 use Rattle.row_set.specs.Readers.{Calm}
 use Rattle.semantics.specs.Probe.{Probed, probe}
 use Rattle.semantics.specs.Run.{answersNone, probeInfeasible}
-use Rattle.semantics.proofs.ProbeLaws.{probe-infeasible-iff, probe-valid}
+use Rattle.call_laws.proofs.ProbeLaws.{probe-infeasible-iff, probe-valid}
 
 -- ---- the answer: infeasible or not
 

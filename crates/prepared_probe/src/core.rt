@@ -29,10 +29,11 @@ ghost use Rattle.prepared_sides.specs.Sides.{InRange};
 ghost use Rattle.two_sides.specs.Results.{probingOf};
 ghost use Rattle.reducer.specs.OpenCalls.{probingAnswer};
 ghost use Rattle.semantics.specs.Probe.{probe};
+ghost use Rattle.model.specs.Limits.{maxVariables};
 
 // The box becomes the one that the workspace knows, with the rows to look at in it.
 fn keep(n: usize, ws: &mut [u32], bounds: &[i32], seen: &mut [i32])
-    requires { ⌜ (n ≤ 128) × (length (now ws) ≡ workspaceLen) × (length (now bounds) ≡ 2 * n)
+    requires { ⌜ (n ≤ maxVariables) × (length (now ws) ≡ workspaceLen) × (length (now bounds) ≡ 2 * n)
         × (length (now seen) ≡ 2 * n) × InRange (now bounds) ⌝ }
     ensures kept { λ _. ⌜ boxIn n (now (ws .exit)) ≡ now (bounds .entry) ⌝ }
     ensures others { λ _. ⌜ SameBut 4 264 (now (ws .entry)) (now (ws .exit)) ⌝ }

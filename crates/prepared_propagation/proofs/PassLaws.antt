@@ -34,10 +34,10 @@ use Rattle.row.proofs.KindLaws.{kinded-moved, kinded-nonEmpty, kinded-shrinks, 
 use Rattle.row.proofs.MovedLaws.{moved-width}
 use Rattle.row_set.specs.Bits.{bitAt}
 use Rattle.row_set.specs.Readers.{Calm, Hearers}
-use Rattle.semantics.specs.Convergence.{LargestBudget}
 use Rattle.semantics.specs.Propagate.{passTo}
-use Rattle.semantics.proofs.Convergence.{width-limit}
-use Rattle.semantics.proofs.PropagateLaws.{moved-at-most}
+use Rattle.call_laws.specs.Convergence.{LargestBudget}
+use Rattle.call_laws.proofs.Convergence.{width-limit}
+use Rattle.call_laws.proofs.PropagateLaws.{moved-at-most}
 use Rattle.prepared_propagation.specs.Known.{Known, PassMade, PassTold}
 
 -- rows 0 to r − 1 of the pass over B came to P, and to the reasons S after R

@@ -22,9 +22,9 @@ use Rattle.propagation.specs.Results.{propagationOf}
 use Rattle.propagation.specs.declared.Propagation.the-variants as code
 use Rattle.propagation.proofs.PropagationLoops.{PassIs, pass-converged, pass-infeasible, pass-moved, passes-made}
 use Rattle.row_set.specs.Readers.{Calm}
-use Rattle.semantics.specs.Convergence.{LargestBudget}
 use Rattle.semantics.specs.Propagate.{passTo, propagateFrom}
-use Rattle.semantics.proofs.Convergence.{width-limit}
+use Rattle.call_laws.specs.Convergence.{LargestBudget}
+use Rattle.call_laws.proofs.Convergence.{width-limit}
 use Rattle.prepared_propagation.specs.Known.{Known, PassLeft, PassMade, PassTold}
 use Rattle.prepared_propagation.specs.declared.pass.PassEnd.{PassEnd}
 

@@ -10,7 +10,7 @@ use native.Mathlib.Decide.{ℕ-discrete}
 use native.Mathlib.Nat.{mul-le-mul-right, suc-mul}
 use native.Mathlib.Omega.{arith}
 use Rattle.integer.proofs.Tests.{false→T, true→T}
-use Rattle.marked_row.proofs.MarkedRowLaws.{visit-zero}
+use Rattle.marked_row.proofs.MarkedRowLaws.{zero-stays}
 use Rattle.model.specs.Box.{NonEmpty, emptyBox}
 use Rattle.model.specs.Rows.{Row, Rows, isEquality, rowAt}
 use Rattle.model.proofs.BoxLaws.{inside-refl, not-in-empty}
@@ -74,12 +74,12 @@ module _ {n m : ℕ} {A : Rows} (W : List ℕ) {B : List ℤ} {D : List ℕ} (r 
 pub nothing-in : {X : Type 0} {n : ℕ} {B : List ℤ} → 0 < n → B ≡ emptyBox n → NonEmpty n B → X
 nothing-in {n = n} h e p = absurd (not-in-empty n _ h p (rw e (inside-refl n (emptyBox n))))
 
-module _ {ws W : List ℕ} {r : ℕ} {B seen : List ℤ} {D : List ℕ} (v : LookingAt ws W r B seen D) (side : ℕ) where
+module _ {ws W : List ℕ} {r : ℕ} {B seen : List ℤ} {D : List ℕ} (v : LookingAt ws W r B seen D) (rhsWord : ℕ) where
   abbrev n : ℕ
   n = length ws
 
   abbrev row : Row
-  row = rowOfWords ws side
+  row = rowOfWords ws rhsWord
 
   pub moved-noting : {Q : List ℤ} → Q ≡ propagateRowOf n row B .box → T (not (isInfeasible (propagateRowOf n row B .outcome))) → Noting ws W seen Q D
   unfolding rowOfWords
@@ -89,7 +89,7 @@ module _ {ws W : List ℕ} {r : ℕ} {B seen : List ℤ} {D : List ℕ} (v : Loo
     set = v .set;
     oldLen = rw (v .known) (v .words .box .len);
     newLen = rw q (kinded-valid row (v .words .box) .len);
-    elsewhere = λ k h e. rw (v .known, q) (visit-zero n row B f k h e);
+    elsewhere = λ k h e. rw (v .known, q) (zero-stays n row B f k h e);
   }
 
   pub moved-blaming : {Q : List ℤ} {R : List ℕ} → Lent n R → Q ≡ propagateRowOf n row B .box → T (not (isInfeasible (propagateRowOf n row B .outcome)))
@@ -98,9 +98,9 @@ module _ {ws W : List ℕ} {r : ℕ} {B seen : List ℤ} {D : List ℕ} (v : Loo
       let w = moved-noting q f in
       record { few = w .few; oldLen = w .oldLen; newLen = w .newLen; lent = l; elsewhere = w .elsewhere }
 
-  pub kept-kind : {D₁ D₂ : List ℕ} → (side % 2 ≡ 1 → D₂ ≡ D₁) → T (isEquality row) → D₂ ≡ D₁
+  pub kept-kind : {D₁ D₂ : List ℕ} → (rhsWord % 2 ≡ 1 → D₂ ≡ D₁) → T (isEquality row) → D₂ ≡ D₁
   unfolding rowOfWords isEquality
-  kept-kind f t = f (eqb→eq (side % 2) 1 t)
+  kept-kind f t = f (eqb→eq (rhsWord % 2) 1 t)
 
 -- ---- row r of a workspace, as a part of it
 

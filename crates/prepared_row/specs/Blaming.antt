@@ -7,10 +7,11 @@ use mathlib.Core.Path.{_≡_}
 use Rattle.model.specs.Box.{at, lower, upper}
 use Rattle.packed_row.specs.Words.{coefsFrom}
 use Rattle.prepared_model.specs.RowReasons.{Lent}
+use Rattle.model.specs.Limits.{maxVariables}
 
 -- two boxes that differ only where the row that the words say has a coefficient, and a list
 pub record Blaming (ws : List ℕ) (old new : List ℤ) (R : List ℕ) : Type 0 where
-  pub few : length ws ≤ 128
+  pub few : length ws ≤ maxVariables
   pub oldLen : length old ≡ 2 * length ws
   pub newLen : length new ≡ 2 * length ws
   pub lent : Lent (length ws) R

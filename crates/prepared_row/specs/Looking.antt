@@ -8,6 +8,7 @@ use Rattle.model.specs.Box.{NonEmpty}
 use Rattle.model.specs.Valid.{ValidBox}
 use Rattle.packed_row.specs.Words.{Readable}
 use Rattle.prepared_model.specs.Layout.{workspaceLen}
+use Rattle.model.specs.Limits.{maxRows, maxVariables}
 
 -- a box that is not empty, which the rows know, and a set of rows to look at
 pub record LookingAt (ws W : List ℕ) (r : ℕ) (B seen : List ℤ) (D : List ℕ) : Type 0 where
@@ -21,8 +22,8 @@ pub record LookingAt (ws W : List ℕ) (r : ℕ) (B seen : List ℤ) (D : List �
 -- a workspace of n variables and m rows, and a box of them
 pub record Sized (n m : ℕ) (W : List ℕ) (B : List ℤ) : Type 0 where
   pub some : 0 < n
-  pub few : n ≤ 128
-  pub fewRows : m ≤ 120
+  pub few : n ≤ maxVariables
+  pub fewRows : m ≤ maxRows
   pub len : length W ≡ workspaceLen
   pub box : ValidBox n B
 

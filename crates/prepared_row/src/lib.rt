@@ -25,20 +25,20 @@ ghost use Rattle.row_set.specs.Readers.{Calm, Hearers};
 ghost use Rattle.prepared_row.specs.Looking.{Looking, LookingAt, Sized};
 
 // A ≤ row that was propagated moves nothing when it is propagated again; an = row may.
-fn done(side: u32, r: usize, dirty: &mut [u32])
+fn done(rhs_word: u32, r: usize, dirty: &mut [u32])
     requires { ⌜ (r < 128) × (length (now dirty) ≡ 4) ⌝ }
     ensures others { λ _. ⌜ ((i : ℕ) → (i ≡ r → ⊥) → bitAt (now (dirty .exit)) i ≡ bitAt (now (dirty .entry)) i) ⌝ }
-    ensures equality { λ _. ⌜ (side % 2 ≡ 1 → now (dirty .exit) ≡ now (dirty .entry)) ⌝ }
+    ensures equality { λ _. ⌜ («rhs_word» % 2 ≡ 1 → now (dirty .exit) ≡ now (dirty .entry)) ⌝ }
 {
-    if side % 2 != 1 {
+    if rhs_word % 2 != 1 {
         remove(r, dirty);
     }
 }
 
-// Row r, whose words and side are given.
+// Row r, whose words and word of the right side are given.
 fn propagate_row_noted(
     words: &[u32],
-    side: u32,
+    rhs_word: u32,
     ws: &[u32],
     r: usize,
     bounds: &mut [i32],
@@ -51,12 +51,12 @@ fn propagate_row_noted(
     ensures propagated { λ v.
         let W = now (words .entry) in
         ⌜ propagatedRowOf v (now (bounds .exit))
-        ≡ propagateRowOf (length W) (rowOfWords W side) (now (bounds .entry)) ⌝ }
+        ≡ propagateRowOf (length W) (rowOfWords W «rhs_word») (now (bounds .entry)) ⌝ }
     ensures known { λ _.
         ⌜ (NonEmpty (length (now (words .entry))) (now (bounds .exit)) → now (seen .exit) ≡ now (bounds .exit)) ⌝ }
     ensures calm { λ _.
         let n = length (now (words .entry)) in
-        ⌜ ((m : ℕ) (A : Rows) → m ≤ 128 → rowAt n A r ≡ rowOfWords (now (words .entry)) side
+        ⌜ ((m : ℕ) (A : Rows) → m ≤ 128 → rowAt n A r ≡ rowOfWords (now (words .entry)) «rhs_word»
         → Hearers n m A (riseOf (now (ws .entry))) (fallOf (now (ws .entry)))
         → Calm n m A (now (bounds .entry)) (now (dirty .entry))
         → Calm n m A (now (bounds .exit)) (now (dirty .exit))) ⌝ }
@@ -64,16 +64,16 @@ fn propagate_row_noted(
         let W = now (words .entry) in
         let B = now (bounds .entry) in
         ⌜ now (reasons .exit)
-        ≡ rowReasons r B (propagateRowOf (length W) (rowOfWords W side) B) (now (reasons .entry)) ⌝ }
+        ≡ rowReasons r B (propagateRowOf (length W) (rowOfWords W «rhs_word») B) (now (reasons .entry)) ⌝ }
 {
-    match propagate_row_packed(words, side, bounds) {
+    match propagate_row_packed(words, rhs_word, bounds) {
         RowPropagation::Infeasible => {
             return RowPropagation::Infeasible;
         }
         RowPropagation::Tightened(moved) => {
             blame(words, r as u32, seen, bounds, reasons);
             note(words, ws, seen, bounds, dirty);
-            done(side, r, dirty);
+            done(rhs_word, r, dirty);
             return RowPropagation::Tightened(moved);
         }
         RowPropagation::Unchanged => {

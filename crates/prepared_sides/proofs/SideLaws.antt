@@ -32,7 +32,7 @@ use Rattle.row.proofs.ImpliedBoxLaws.{valid-empty}
 use Rattle.row_set.specs.Readers.{Calm}
 use Rattle.semantics.specs.Probe.{Probed, fix, joinSides}
 use Rattle.semantics.specs.Propagate.{isNone, propagate, propagateFrom}
-use Rattle.semantics.proofs.ProbeLaws.{fix-nonEmpty, fix-valid}
+use Rattle.call_laws.proofs.ProbeLaws.{fix-nonEmpty, fix-valid}
 use Rattle.prepared_sides.specs.Sides.{Boxed, InRange, SideLeft}
 
 -- ---- a side

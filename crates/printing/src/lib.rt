@@ -1,5 +1,6 @@
 // What is left of a book's model, or `none`, on standard output, in few writes: as a report, or as pages. `printed`
-// counts the bytes that were written: so a contract can say that an answer's text is printed once, and whole.
+// counts the bytes that were written: so a contract can say that an answer's text is printed once, and whole. No kind
+// is printed (`left-kindless`), so none is lent: the states here have rows without kinds.
 use page_call::PAGE;
 use page_call::pages_needed;
 use page_call::write_all;
@@ -9,9 +10,12 @@ use report_chunk::line_count;
 use report_line::write_none;
 use streams::output::print;
 ghost use mathlib.Core.Bool.{true};
+ghost use mathlib.Core.List.{[]};
 ghost use mathlib.Core.Path.{_≡_};
 ghost use Prim.Native.Nat.{_*_};
 ghost use lib.ListN.{length};
+ghost use Rattle.model.specs.Rows.{rowsOf};
+ghost use Rattle.model.specs.State.{stateOf};
 ghost use Rattle.pages.specs.Page.{Paper, pages};
 ghost use Rattle.report.specs.Report.{Printable, noneLine, report};
 ghost use Rattle.reduction.specs.Output.{leftText};
@@ -36,12 +40,13 @@ fn reduced(
     table: &[u8],
     printed: &mut usize,
 ) -> bool
-    requires { ⌜ Printable n m (now bounds) (now coefs) (now rhs) (now table) ⌝ }
+    requires { let s = stateOf n m (now bounds) (rowsOf (now coefs) (now rhs) []) (now table) in
+        ⌜ Printable s ⌝ }
     requires { ⌜ now printed ≡ 0 ⌝ }
     ensures { λ r.
-        let text = report n m rounds
-        (now (bounds .entry)) (now (coefs .entry)) (now (rhs .entry)) (now (table .entry)) in
-        ⌜ (r ≡ true → now (printed .exit) ≡ length text) ⌝ }
+        let A = rowsOf (now (coefs .entry)) (now (rhs .entry)) [] in
+        let s = stateOf n m (now (bounds .entry)) A (now (table .entry)) in
+        ⌜ (r ≡ true → now (printed .exit) ≡ length (report rounds s)) ⌝ }
 {
     let count = line_count(n, m);
     let mut buf = io::large_buffer();
@@ -90,12 +95,13 @@ pub fn left(
     table: &[u8],
     printed: &mut usize,
 ) -> bool
-    requires { ⌜ Printable n m (now bounds) (now coefs) (now rhs) (now table) × Paper n (now bounds) ⌝ }
+    requires { let s = stateOf n m (now bounds) (rowsOf (now coefs) (now rhs) []) (now table) in
+        ⌜ Printable s × Paper n (now bounds) ⌝ }
     requires { ⌜ now printed ≡ 0 ⌝ }
     ensures { λ r.
-        let text = leftText form n m rounds
-        (now (bounds .entry)) (now (coefs .entry)) (now (rhs .entry)) (now (table .entry)) in
-        ⌜ (r ≡ true → now (printed .exit) ≡ length text) ⌝ }
+        let A = rowsOf (now (coefs .entry)) (now (rhs .entry)) [] in
+        let s = stateOf n m (now (bounds .entry)) A (now (table .entry)) in
+        ⌜ (r ≡ true → now (printed .exit) ≡ length (leftText form rounds s)) ⌝ }
 {
     match form {
         Form::Report => reduced(n, m, rounds, bounds, coefs, rhs, table, printed),

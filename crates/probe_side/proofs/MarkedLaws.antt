@@ -14,14 +14,14 @@ use Rattle.model.specs.Rows.{Rows, rowAt}
 use Rattle.model.specs.Model.{modelOf}
 use Rattle.row_index.specs.Index.{ColumnSigns}
 use Rattle.semantics.specs.Probe.{fix}
-use Rattle.semantics.proofs.ProbeLaws.{fix-inside}
+use Rattle.call_laws.proofs.ProbeLaws.{fix-inside}
 use Rattle.row_marks.specs.Marks.{Unread, Watched}
 use Rattle.row_marks.proofs.MarkLaws.{clean-remarked, unread-at}
 use Rattle.marked_row.proofs.LocalBox.{blank}
 use Rattle.marked_row.proofs.LocalIndex.{clean-none, index-none}
 use Rattle.row.proofs.KindLaws.{kinded-stays}
 use Rattle.semantics.specs.FixpointTest.{isFixpoint}
-use Rattle.semantics.proofs.Convergence.{fixpoint-test}
+use Rattle.call_laws.proofs.Convergence.{fixpoint-test}
 use Rattle.probe_side.specs.Marked.{Marked, SideReady}
 use Rattle.probe_side.proofs.SideLaws.{fix-model, fix-stores, free-nonEmpty}
 

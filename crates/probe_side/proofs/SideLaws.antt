@@ -22,8 +22,8 @@ use Rattle.model.specs.Rows.{Rows}
 use Rattle.model.specs.Model.{modelOf}
 use Rattle.semantics.specs.Probe.{fix}
 use Rattle.semantics.specs.Propagate.{isNone, propagate}
-use Rattle.semantics.proofs.ProbeLaws.{fix-valid}
-use Rattle.semantics.proofs.PropagateLaws.{propagate-infeasible-iff, propagate-valid}
+use Rattle.call_laws.proofs.ProbeLaws.{fix-valid}
+use Rattle.call_laws.proofs.PropagateLaws.{propagate-infeasible-iff, propagate-valid}
 use Rattle.propagation.specs.Results.{propagationOf}
 use Rattle.propagation.specs.declared.Propagation.{Propagation}
 use Rattle.propagation.specs.declared.Propagation.the-variants.{BudgetSpent, Converged, Infeasible}

@@ -10,11 +10,12 @@ use Rattle.model.specs.Model.{modelOf}
 use Rattle.model.specs.Rows.{Rows}
 use Rattle.row_index.specs.Index.{Index}
 use Rattle.row_marks.specs.Marks.{Clean}
+use Rattle.model.specs.Limits.{maxRows}
 
 pub record Marked (n m : ℕ) (B : List ℤ) (A : Rows) (across signs marks : List ℕ) : Type 0 where
   pub index : Index n m (A .coefs) across signs
   pub clean : Clean n m A B marks
-  pub len : length marks ≡ 120
+  pub len : length marks ≡ maxRows
 
 -- a side of k of the box B, fixed, and the marks of B
 pub record SideReady (n m : ℕ) (B : List ℤ) (A : Rows) (k : ℕ) (across signs : List ℕ) (seen : List ℤ) (marks : List ℕ) (side : List ℤ) : Type 0 where

@@ -14,17 +14,17 @@ use Rattle.row.specs.Outcome.{Outcome, isChanged, isInfeasible}
 use Rattle.row.specs.KindChanges.{ChangedRow, removeRowOf, tightenRowOf}
 use Rattle.row.specs.Kinds.{propagateRowOf}
 use Rattle.row.specs.declared.propagation.RowPropagation.{RowPropagation}
-use Rattle.row.specs.declared.propagation.RowPropagation.the-variants as visits
+use Rattle.row.specs.declared.propagation.RowPropagation.the-variants as propagations
 use Rattle.semantics.specs.CallChecks.{callFault}
 use Rattle.semantics.specs.Perform.{Performed, act, perform}
 use Rattle.semantics.specs.Probe.{Probed, probe}
 use Rattle.semantics.specs.Propagate.{isNone, propagate}
 use Rattle.semantics.specs.Run.{CallClass, classOf, probeInfeasible, step}
 use Rattle.semantics.specs.Call.{Call, callOf, kindOf, probing, propagation, removal, rowPropagation, tightening}
-use Rattle.semantics.specs.Unmoved.{sideSpent}
+use Rattle.demands.specs.Unmoved.{sideSpent}
 use Rattle.model.specs.State.{State, stateOf, withBox, withRow}
-use Rattle.semantics.proofs.CallLaws.{perform-accepted, step-accepted}
-use Rattle.semantics.proofs.ClassLaws.{addsNone, classBy, probe-class, remove-class, propagate-class, tighten-class, propagate-row-class}
+use Rattle.call_laws.proofs.CallLaws.{perform-accepted, step-accepted}
+use Rattle.call_laws.proofs.ClassLaws.{addsNone, classBy, probe-class, remove-class, propagate-class, tighten-class, propagate-row-class}
 use Rattle.call.specs.Classes.{outcomeClass, propagationClass}
 use Rattle.propagation.specs.Results.{propagationOf}
 use Rattle.marked_row.proofs.MarkedRowLaws.{left-by}
@@ -43,9 +43,9 @@ outcome-class outcomes.unchanged = refl
 row-class : (p : RowPropagation) (Q : List ℤ) → let o = propagatedRowOf p Q .outcome in
     outcomeClass (propagatedRowOf p [] .outcome) ≡ classBy (isInfeasible o) (not (isChanged o))
 unfolding propagatedRowOf
-row-class visits.Infeasible Q = outcome-class outcomes.infeasible
-row-class (visits.Tightened k) Q = outcome-class outcomes.changed
-row-class visits.Unchanged Q = outcome-class outcomes.unchanged
+row-class propagations.Infeasible Q = outcome-class outcomes.infeasible
+row-class (propagations.Tightened k) Q = outcome-class outcomes.changed
+row-class propagations.Unchanged Q = outcome-class outcomes.unchanged
 
 propagation-class : (p : Propagation) (Q : List ℤ) → let w = propagationOf p Q in
     propagationClass p ≡ classBy (isNone (w .ending)) (eqb (w .moved) 0)
@@ -74,18 +74,18 @@ module _ (n m : ℕ) (B : List ℤ) (A : Rows) (t : List ℕ) (kind row variable
   Ran k r = (k ≡ classOf s call) × (r ≡ step s call)
 
   module _ (f : callFault s call ≡ 0) {k : CallClass} where
-    pub ran-visit : (p : RowPropagation) (Q : List ℤ) → kindOf kind ≡ rowPropagation → k ≡ outcomeClass (propagatedRowOf p [] .outcome)
+    pub ran-row : (p : RowPropagation) (Q : List ℤ) → kindOf kind ≡ rowPropagation → k ≡ outcomeClass (propagatedRowOf p [] .outcome)
         → propagatedRowOf p Q ≡ propagateRowOf n (rowAt n A row) B → Ran k (stateOf n m Q A t)
     unfolding stateOf callOf act withBox
-    ran-visit p Q q e h = (
+    ran-row p Q q e h = (
       e ∙ row-class p Q ∙ rw h (sym (propagate-row-class s call f q)),
       sym (step-accepted s call f ∙ rw (q, sym (left-by p Q h))),
     )
 
-    pub ran-settle : (p : Propagation) (Q : List ℤ) → kindOf kind ≡ propagation → k ≡ propagationClass p
+    pub ran-propagation : (p : Propagation) (Q : List ℤ) → kindOf kind ≡ propagation → k ≡ propagationClass p
         → propagationOf p Q ≡ propagate budget n m A B → Ran k (stateOf n m Q A t)
     unfolding stateOf callOf act withBox
-    ran-settle p Q q e h = (
+    ran-propagation p Q q e h = (
       e ∙ propagation-class p Q ∙ rw h (sym (propagate-class s call f q)),
       sym (step-accepted s call f ∙ rw (q, sym h, propagation-box p Q)),
     )

@@ -16,8 +16,8 @@ ghost use Rattle.semantics.specs.CallChecks.{callFault};
 ghost use Rattle.model.specs.Valid.{ValidState};
 ghost use Rattle.semantics.specs.Perform.{perform};
 ghost use Rattle.semantics.specs.Run.{classOf, step};
-ghost use Rattle.semantics.specs.Unmoved.{sideSpent};
 ghost use Rattle.semantics.specs.Call.{callOf};
+ghost use Rattle.demands.specs.Unmoved.{sideSpent};
 ghost use Rattle.model.specs.State.{stateOf};
 ghost use Rattle.call.specs.Classes.{classIs};
 

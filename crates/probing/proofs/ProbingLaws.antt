@@ -11,7 +11,7 @@ use Rattle.model.specs.Valid.{ValidModel}
 use Rattle.model.specs.Rows.{Rows}
 use Rattle.model.specs.Model.{modelOf}
 use Rattle.semantics.specs.Probe.{Probed, probe}
-use Rattle.semantics.proofs.ProbeLaws.{probe-narrower}
+use Rattle.call_laws.proofs.ProbeLaws.{probe-narrower}
 use Rattle.row_index.specs.Index.{Index}
 use Rattle.row_marks.specs.Marks.{Unread}
 use Rattle.row_marks.proofs.MarkLaws.{clean-narrower}

@@ -15,6 +15,7 @@ ghost use Prim.Native.Nat.{_*_, _<_};
 ghost use lib.Dec.{T};
 ghost use lib.ListN.{length, take};
 ghost use Rattle.model.specs.Box.{isEmpty, isFree};
+ghost use Rattle.model.specs.Limits.{maxBox};
 ghost use Rattle.model.specs.Valid.{ValidModel, ValidTable};
 ghost use Rattle.model.specs.Rows.{rowsOf};
 ghost use Rattle.model.specs.Model.{modelOf};
@@ -45,7 +46,7 @@ fn finish_probe<'a>(
     requires { ⌜ ValidTable n (now table) ⌝ }
     requires { ⌜ T (isFree (now bounds) k) ⌝ }
     requires { ⌜ k < n ⌝ }
-    requires { ⌜ (length (now zero) ≡ 256) × (propagationOf s0 (take (2 * n) (now zero))
+    requires { ⌜ (length (now zero) ≡ maxBox) × (propagationOf s0 (take (2 * n) (now zero))
         ≡ propagated budget n m (rowsOf (now coefs) (now rhs) (now kinds)) (fix n (now bounds) k 0)) ⌝ }
     requires { let A = rowsOf (now coefs) (now rhs) (now kinds) in
         ⌜ Marked n m (now bounds) A (now across) (now signs) (now marks) ⌝ }

@@ -21,10 +21,10 @@ use Rattle.row.specs.Kinds.{propagateRowOf}
 use Rattle.row.specs.declared.propagation.RowPropagation.{RowPropagation}
 use Rattle.row.specs.declared.propagation.RowPropagation.the-variants.{Infeasible, Tightened, Unchanged}
 use Rattle.row_marks.specs.Marks.{Clean}
-use Rattle.semantics.specs.Convergence.{LargestBudget}
 use Rattle.semantics.specs.Propagate.{Propagated, converged, infeasible, passTo, propagateFrom}
-use Rattle.semantics.proofs.Convergence.{width-limit}
-use Rattle.semantics.proofs.PropagateLaws.{moved-at-most, moved-then, pass-ended, pass-moved-width, pass-next, propagate-again, propagate-converged, propagate-none-now}
+use Rattle.call_laws.specs.Convergence.{LargestBudget}
+use Rattle.call_laws.proofs.Convergence.{width-limit}
+use Rattle.call_laws.proofs.PropagateLaws.{moved-at-most, moved-then, pass-ended, pass-moved-width, pass-next, propagate-again, propagate-converged, propagate-none-now}
 
 -- ---- one row more of the pass over the box B
 

@@ -20,7 +20,7 @@ use Rattle.row.proofs.KindLaws.{kinded-stays}
 use Rattle.row_marks.specs.Marks.{Clean}
 use Rattle.marked_row.proofs.MarkedRowLaws.{moves-none}
 use Rattle.semantics.specs.FixpointTest.{firstMoving, rowLeaves}
-use Rattle.semantics.proofs.LowestLaws.{lowest-all, lowest-is}
+use Rattle.call_laws.proofs.LowestLaws.{lowest-all, lowest-is}
 
 module _ (n : ℕ) (A : Rows) (B : List ℤ) (h : 0 < n) (p : NonEmpty n B) where
   row-stays : (r : ℕ) → rowMovesOf n (rowAt n A r) B ≡ false → T (rowLeaves n A B r)

@@ -18,9 +18,9 @@ use Rattle.model.specs.Valid.{ValidModel}
 use Rattle.model.proofs.CheckLaws.{first-go, first-none, fits-fault-none}
 use Rattle.model.proofs.RowsLaws.{length-rowOf}
 use Rattle.semantics.specs.Call.{Call}
-use Rattle.semantics.specs.Demand2.{Demand2Runs}
 use Rattle.semantics.specs.Run.{run}
-use Rattle.semantics.proofs.Demand2.{demand-2-runs}
+use Rattle.demands.specs.Demand2.{Demand2Runs}
+use Rattle.demands.proofs.Demand2.{demand-2-runs}
 use Rattle.proposals.specs.Call.{allocationChecks, allocationFault, verdictsLeft}
 use Rattle.proposals.specs.Meaning.{Judged, LowestBroken, LowestOutside}
 use Rattle.proposals.specs.Proposals.{caseOf, maxProposals, numberOf, numbers, proposal}

@@ -20,7 +20,7 @@ use Rattle.model.specs.Point.{InBox}
 use Rattle.model.specs.Valid.{ValidBox}
 use Rattle.row.proofs.RowLoops.{within-between}
 use Rattle.semantics.specs.Lowest.{lowest}
-use Rattle.semantics.proofs.LowestLaws.{lowest-all, lowest-none}
+use Rattle.call_laws.proofs.LowestLaws.{lowest-all, lowest-none}
 use Rattle.proposals.specs.Proposals.{caseOf}
 use Rattle.proposals.specs.Verdict.{Verdict, breaks, inBounds, inside, outsideAt, rowMet, verdictBy}
 use Rattle.proposals.specs.Telling.{boxVerdict, held}

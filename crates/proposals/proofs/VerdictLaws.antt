@@ -21,11 +21,11 @@ use Rattle.model.specs.Rows.{Row, isEquality, rowAt}
 use Rattle.model.specs.State.{State}
 use Rattle.model.proofs.BoxLaws.{lower-boxOf, upper-boxOf}
 use Rattle.semantics.specs.Call.{Call}
-use Rattle.semantics.specs.Demand2.{Demand2Runs}
 use Rattle.semantics.specs.Lowest.{lowest}
 use Rattle.semantics.specs.Run.{run}
-use Rattle.semantics.proofs.Demand2.{demand-2-runs}
-use Rattle.semantics.proofs.LowestLaws.{lowest-below, lowest-found, lowest-is}
+use Rattle.call_laws.proofs.LowestLaws.{lowest-below, lowest-found, lowest-is}
+use Rattle.demands.specs.Demand2.{Demand2Runs}
+use Rattle.demands.proofs.Demand2.{demand-2-runs}
 use Rattle.proposals.specs.Meaning.{LowestBroken, LowestOutside}
 use Rattle.proposals.specs.Proposals.{caseOf, numberOf}
 use Rattle.proposals.specs.Verdict.{Verdict, breaks, inBounds, inside, meets, outsideAt, rowMet, verdict, verdictBy}

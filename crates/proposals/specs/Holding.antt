@@ -6,7 +6,7 @@ use mathlib.Core.List.{List}
 use mathlib.Core.Path.{_≡_}
 use Rattle.integer.specs.Range.{Within}
 use Rattle.model.specs.Box.{at}
-use Rattle.model.specs.Limits.{maxVariables}
+use Rattle.model.specs.Limits.{boundSize, coefSize, maxVariables}
 use Rattle.model.specs.Model.{Model}
 use Rattle.model.specs.Valid.{ValidModel}
 use Rattle.proposals.specs.Proposals.{maxProposals, proposal}
@@ -17,8 +17,8 @@ use Rattle.proposals.specs.Verdict.{Verdict}
 pub record Holdable (n : ℕ) (A x : List ℤ) : Type 0 where
   pub few : n ≤ maxVariables
   pub len : length x ≡ n
-  pub coefs : (j : ℕ) → Within 1_000_000 (at A j)
-  pub numbers : (j : ℕ) → Within 32_768 (at x j)
+  pub coefs : (j : ℕ) → Within coefSize (at A j)
+  pub numbers : (j : ℕ) → Within boundSize (at x j)
 
 -- count proposals P of n numbers each, and room Y for their verdicts
 pub record Lent (n count : ℕ) (P : List ℤ) (Y : List ℕ) : Type 0 where

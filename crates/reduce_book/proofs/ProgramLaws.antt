@@ -4,7 +4,7 @@ use Prim.Native.Nat.{_+_, _-_, _≤_, ℕ}
 use borrow.Author.Tests.{ne-eqb}
 use lib.IntN.{ℤ}
 use lib.ListN.{length, take}
-use mathlib.Core.List.{List, _++_}
+use mathlib.Core.List.{List, [], _++_}
 use mathlib.Core.Path.{_∙_, _≡_, ap, sym}
 use native.Mathlib.Omega.{arith}
 use Rattle.model.specs.Checks.{first}
@@ -21,15 +21,16 @@ use Rattle.pages.proofs.PageLaws.{paper-valid}
 use Rattle.report.specs.Report.{Printable, refusedLine}
 use Rattle.streams.specs.Input.{RefusedSoFar}
 use Rattle.model.specs.State.{stateOf}
-use Rattle.model.specs.Rows.{Rows}
+use Rattle.model.specs.Rows.{Rows, rowsOf}
 use Rattle.model.specs.Valid.{ValidState}
 use Rattle.reduction.specs.Answers.{Sized}
 use Rattle.reduction.specs.Output.{outputAs}
 use Rattle.reduction.specs.declared.Form.{Form}
 use Rattle.reduction.proofs.ReductionLaws.{refused-fault}
 
--- a valid state can be printed, in either form
-pub left-prints : (n m : ℕ) (B : List ℤ) (A : Rows) (t : List ℕ) → ValidState (stateOf n m B A t) → Printable n m B (A .coefs) (A .rhs) t × Paper n B
+-- a valid state can be printed, in either form; its kinds are not
+pub left-prints : (n m : ℕ) (B : List ℤ) (A : Rows) (t : List ℕ) → ValidState (stateOf n m B A t)
+    → Printable (stateOf n m B (rowsOf (A .coefs) (A .rhs) []) t) × Paper n B
 unfolding stateOf
 left-prints n m B A t v = let M = v .model in (
   record { few = M .few; fewRows = M .fewRows; box = M .box .len; coefs = M .coefsLen; rhs = M .rhsLen; table = v .table .len },

@@ -24,6 +24,7 @@ ghost use Prim.Native.Nat.{ℕ, _≤_};
 ghost use lib.ListN.{length};
 ghost use Rattle.model.specs.Limits.{maxRows, maxVariables};
 ghost use Rattle.model.specs.Rows.{rowsOf};
+ghost use Rattle.model.specs.State.{stateOf};
 ghost use Rattle.intake.specs.Checks.{maxBook};
 ghost use Rattle.intake.specs.Intake.{Held};
 ghost use Rattle.reduction.specs.Answers.{Ready, Sized};
@@ -110,7 +111,8 @@ fn reduce_in(
     limit: u64,
     printed: &mut usize,
 ) -> bool
-    requires { ⌜ Ready n m (now book) (now bounds) (rowsOf (now coefs) (now rhs) (now kinds)) (now table) ⌝ }
+    requires { let s = stateOf n m (now bounds) (rowsOf (now coefs) (now rhs) (now kinds)) (now table) in
+        ⌜ Ready (now book) s ⌝ }
     requires { ⌜ now printed ≡ 0 ⌝ }
     ensures { λ r. ⌜ (r ≡ true → now (printed .exit) ≡ length (printedText form limit (now (book .entry)))) ⌝ }
 {

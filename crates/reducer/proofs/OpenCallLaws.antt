@@ -16,22 +16,22 @@ use Rattle.row.specs.KindChanges.{ChangedRow}
 use Rattle.row.specs.Kinds.{propagateRowOf}
 use Rattle.row.specs.Propagation.{PropagatedRow}
 use Rattle.semantics.specs.CallChecks.{callFault}
-use Rattle.semantics.specs.Convergence.{ProbeMoves, RestAnswered, RestMeans}
-use Rattle.semantics.specs.Demand2.{CallMeans, Demand2, EndsAs, EndsGreatest}
 use Rattle.semantics.specs.Perform.{Answer, Performed, act, perform, probed, propagated, propagatedRow, refused}
-use Rattle.semantics.specs.Points.{AtRest}
 use Rattle.semantics.specs.Probe.{Probed, probe}
 use Rattle.semantics.specs.Propagate.{Propagated, propagate}
 use Rattle.semantics.specs.RestTest.{Rest, atRest, byRow, byVariable, restFault, restOf}
 use Rattle.semantics.specs.Run.{answersNone, isRefused, step}
 use Rattle.semantics.specs.Call.{Call, callOf, hasRow, kindOf}
+use Rattle.call_laws.specs.Convergence.{ProbeMoves, RestAnswered, RestMeans}
+use Rattle.call_laws.specs.Points.{AtRest}
+use Rattle.demands.specs.Demand2.{CallMeans, Demand2, EndsAs, EndsGreatest}
 use Rattle.model.specs.State.{State, stateOf, withBox, withRow}
 use Rattle.model.specs.Model.{modelOf}
-use Rattle.semantics.proofs.Accepted.{accepted}
-use Rattle.semantics.proofs.CallLaws.{perform-accepted}
-use Rattle.semantics.proofs.Demand2.{demand-2}
-use Rattle.semantics.proofs.Preserved.{Preserves, step-preserves}
-use Rattle.semantics.proofs.RestAnswer.{rest-answer, rest-probe-moves}
+use Rattle.call_laws.proofs.Accepted.{accepted}
+use Rattle.call_laws.proofs.CallLaws.{perform-accepted}
+use Rattle.call_laws.proofs.Preserved.{Preserves, step-preserves}
+use Rattle.call_laws.proofs.RestAnswer.{rest-answer, rest-probe-moves}
+use Rattle.demands.proofs.Demand2.{demand-2}
 use Rattle.two_sides.specs.Results.{probingOf}
 use Rattle.two_sides.specs.declared.Probing.{Probing}
 use Rattle.two_sides.specs.declared.Probing.the-variants as probing

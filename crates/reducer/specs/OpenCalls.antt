@@ -10,15 +10,15 @@ use Rattle.model.specs.Box.{emptyBox}
 use Rattle.row.specs.Outcome.{changed, infeasible, unchanged}
 use Rattle.semantics.specs.Call.{Call}
 use Rattle.semantics.specs.CallChecks.{maxBudget}
-use Rattle.semantics.specs.Convergence.{MovedByRow, MovedByVariable}
-use Rattle.semantics.specs.Demand2.{EndsAs, EndsGreatest, SideEnds, SideGreatest}
-use Rattle.semantics.specs.Passes.{enoughBudget}
 use Rattle.semantics.specs.Perform.{Answer, Performed, probed, propagated, propagatedRow, refused, removed, tightened}
-use Rattle.semantics.specs.Points.{FractionalPointOf, PointOf}
 use Rattle.semantics.specs.Probe as semantic
 use Rattle.semantics.specs.Propagate as ended
 use Rattle.semantics.specs.RestTest.{Rest, atRest, byRow, byVariable, restFault, restOf}
 use Rattle.semantics.specs.Run.{answersNone}
+use Rattle.call_laws.specs.Convergence.{MovedByRow, MovedByVariable}
+use Rattle.call_laws.specs.Points.{FractionalPointOf, PointOf}
+use Rattle.demands.specs.Demand2.{EndsAs, EndsGreatest, SideEnds, SideGreatest}
+use Rattle.demands.specs.Passes.{enoughBudget}
 use Rattle.model.specs.State.{State}
 use Rattle.two_sides.specs.Results.{probingOf, reportOf}
 use Rattle.two_sides.specs.declared.Probing.{Probing}

@@ -19,13 +19,13 @@ use Rattle.book.proofs.AcceptLaws.{book-test}
 use Rattle.report.specs.Report.{byteLine, implicationAt}
 use Rattle.rounds.specs.Rounds.{RoundsAnswer, SamePoints, atLimit, ended, infeasible, nothingChanged, refusedRounds, roundsFault, runRounds}
 use Rattle.rounds.proofs.RoundsLaws.{rounds-mean}
-use Rattle.semantics.specs.Points.{PointOf, Recorded, TableHolds}
 use Rattle.semantics.specs.Probe.{byteOf, literal}
 use Rattle.semantics.specs.Run.{run}
+use Rattle.call_laws.specs.Points.{PointOf, Recorded, TableHolds}
 use Rattle.model.specs.State.{State}
-use Rattle.semantics.specs.TwoRuns.{Demand3, EveryModelHandedIn, HandedIn, Narrows, TwoRuns}
-use Rattle.semantics.proofs.Demand3.{demand-3, handed-in}
-use Rattle.semantics.proofs.Preserved.{run-preserves}
+use Rattle.call_laws.proofs.Preserved.{run-preserves}
+use Rattle.demands.specs.TwoRuns.{Demand3, EveryModelHandedIn, HandedIn, Narrows, TwoRuns}
+use Rattle.demands.proofs.Demand3.{demand-3, handed-in}
 use Rattle.reduction.specs.Meaning.{Implied, NonePrinted, OutputMeans, Reported}
 use Rattle.reduction.specs.Output.{outputAs, roundsText, stateRead, textOf, zeros}
 use Rattle.reduction.specs.declared.Form.{Form}

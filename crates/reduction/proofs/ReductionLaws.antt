@@ -5,7 +5,7 @@ use borrow.Author.Tests.{eq-eqb, ne-eqb}
 use lib.IntN.{ℤ}
 use lib.ListN.{length, length-replicate, replicate, replicate-append-replicate, take}
 use lib.Seq.{length-take-le, take-at}
-use mathlib.Core.List.{List, _++_}
+use mathlib.Core.List.{List, [], _++_}
 use mathlib.Core.Path.{_∙_, _≡_, ap, refl, sym}
 use native.Mathlib.Decide.{ℕ-discrete}
 use native.Mathlib.Nat.{mul-le-mul-right}
@@ -20,17 +20,19 @@ use Rattle.book.proofs.AcceptLaws.{head-numbered}
 use Rattle.book.proofs.AnswerLaws.{accepted-by, becomes, refused-by}
 use Rattle.intake.proofs.CheckLaws.{accepted}
 use Rattle.report.specs.Report.{refusedLine}
+use Rattle.report.proofs.ReportLaws.{report-kindless}
 use Rattle.model.specs.State.{State, stateOf}
 use Rattle.model.specs.Model.{modelOf}
 use Rattle.model.specs.Rows.{Rows, rowsOf}
 use Rattle.model.specs.Valid.{ValidState}
 use Rattle.rounds.specs.Rounds.{runRounds}
 use Rattle.semantics.specs.Run.{run}
-use Rattle.semantics.proofs.Accepted.{handed-in-valid}
-use Rattle.semantics.proofs.Preserved.{run-preserves}
+use Rattle.call_laws.proofs.Preserved.{run-preserves}
+use Rattle.demands.proofs.Demand3.{handed-in-valid}
 use Rattle.reduction.specs.Answers.{Leaves, Ready, Sized}
-use Rattle.reduction.specs.Output.{outputAs, roundsText, stateRead, zeros}
+use Rattle.reduction.specs.Output.{leftText, outputAs, roundsText, stateRead, zeros}
 use Rattle.reduction.specs.declared.Form.{Form}
+use Rattle.reduction.specs.declared.Form.the-variants as forms
 use Rattle.reduction.specs.declared.Answer.{Answer}
 use Rattle.reduction.specs.declared.Answer.the-variants as answers
 use Rattle.reduction.proofs.OutputLaws.{book-handed-in}
@@ -46,14 +48,20 @@ refused-fault fault number p q e = go (ℕ-discrete fault 0)
         absurd (let w : ⊥ = omega arith in w)
     go (no n) = let h : refused number ≡ refused fault = e ∙ sym (refused-by refl n (sizesAre p q)) in ((cc), n)
 
-module _ {n m : ℕ} {bs : List ℕ} {B : List ℤ} {A : Rows} {t : List ℕ} (h : Ready n m bs B A t) where
+module _ {bs : List ℕ} {s : State} (h : Ready bs s) where
+  abbrev B : List ℤ
+  B = s .model .box
+
+  abbrev A : Rows
+  A = s .model .rows
+
   -- the lengths pass check 5
   lengths-pass : first (lengthChecks (modelOf (decode bs .n) (decode bs .m) B A)) ≡ 0
   unfolding lengthChecks
   lengths-pass =
-      let s = h .sized in
+      let z = h .sized in
       let l = h .lengths in
-      rw (← s .variables, ← s .rows) (first-none (lengthChecks (modelOf n m B A)) tt .1 (length-test (modelOf n m B A) .1 (l .box, l .coefs, l .rhs, h .kinds), tt))
+      rw (← z .variables, ← z .rows) (first-none (lengthChecks (s .model)) tt .1 (length-test (s .model) .1 (l .box, l .coefs, l .rhs, h .kinds), tt))
 
   read-fault : readFault bs B A ≡ bookFault bs
   unfolding readFault bookFault readChecks bookChecks lengthChecks
@@ -85,7 +93,7 @@ module _ {n m : ℕ} {bs : List ℕ} {B : List ℤ} {A : Rows} {t : List ℕ} (h
 
     pub accepted-state : {B′ C′ R′ : List ℤ} {K′ : List ℕ}
         → B′ ≡ boundsRead bs B A → C′ ≡ coefsRead bs B A → R′ ≡ rhsRead bs B A → K′ ≡ kindsRead bs B A
-        → stateOf n m B′ (rowsOf C′ R′ K′) t ≡ stateRead bs
+        → stateOf (s .model .n) (s .model .m) B′ (rowsOf C′ R′ K′) (s .table) ≡ stateRead bs
     unfolding stateRead stateOf boundsRead coefsRead rhsRead kindsRead
     accepted-state b c r k =
         let b′ = b ∙ sym (becomes passed B (decode bs .box)) in
@@ -95,16 +103,23 @@ module _ {n m : ℕ} {bs : List ℕ} {B : List ℤ} {A : Rows} {t : List ℕ} (h
         rw (b′, c′, r′, k′, h .table, h .sized .variables, h .sized .rows)
 
     -- the rounds leave it valid: so does every call
-    pub accepted-valid : (limit : ℕ) → let s = stateRead bs in ValidState (run s (runRounds limit s .calls))
+    pub accepted-valid : (limit : ℕ) → let read = stateRead bs in ValidState (run read (runRounds limit read .calls))
     accepted-valid limit =
-        let s = stateRead bs in
-        run-preserves s (runRounds limit s .calls) .valid (handed-in-valid s (book-handed-in bs (sym read-fault ∙ passed)))
+        let read = stateRead bs in
+        run-preserves read (runRounds limit read .calls) .valid (handed-in-valid read (book-handed-in bs (sym read-fault ∙ passed)))
 
 -- a valid state is one that any answer may leave
 pub leaves-valid : (a : Answer) {s : State} → ValidState s → Leaves a s
 leaves-valid (answers.Refused number) v = tt
 leaves-valid answers.Infeasible v = tt
 leaves-valid (answers.Reduced rounds) v = v
+
+-- no kind is printed, in either form: what is left without its kinds has the same text
+pub left-kindless : (form : Form) (rounds n m : ℕ) (B : List ℤ) (A : Rows) (t : List ℕ)
+    → leftText form rounds (stateOf n m B (rowsOf (A .coefs) (A .rhs) []) t) ≡ leftText form rounds (stateOf n m B A t)
+unfolding leftText stateOf
+left-kindless forms.Report rounds n m B A t = report-kindless rounds n m B A t
+left-kindless forms.Paper rounds n m B A t = refl
 
 -- ---- the buffers
 
@@ -132,7 +147,8 @@ module _ {n m : ℕ} (few : n ≤ maxVariables) (fewRows : m ≤ maxRows) where
 
   pub parts-ready : {bs : List ℕ} (B C R : List ℤ) (K : List ℕ) {t : List ℕ} → Sized n m bs
       → 256 ≡ length B → 15_360 ≡ length C → 120 ≡ length R → 120 ≡ length K → t ≡ zeros 65_536
-      → Ready n m bs (take (2 * n) B) (rowsOf (take (m * n) C) (take m R) (take m K)) (take (4 * (n * n)) t)
+      → Ready bs (stateOf n m (take (2 * n) B) (rowsOf (take (m * n) C) (take m R) (take m K)) (take (4 * (n * n)) t))
+  unfolding stateOf
   parts-ready B C R K s b c r k e =
       let z : take (4 * (n * n)) _ ≡ zeros (4 * (n * n)) = ap (take (4 * (n * n))) e ∙ take-zeros (4 * (n * n)) 65_536 table-fits in
       record {

@@ -30,7 +30,7 @@ use Rattle.bytes.specs.Pieces.{joined}
 use Rattle.rounds.specs.Round.{andThen, anyChange, isChange, probeCall, probes, propagateCall, removals, removeCall, round, tightenCall, tightenRow, tightenings, unlessEmpty, upwards}
 use Rattle.rounds.specs.Rounds.{after, roundsFault, roundsFrom, runRounds}
 use Rattle.text.specs.Fields.{field, fields}
-use Rattle.report.specs.Report.{byteLine, implicationAt, implicationLine, isZeroRow, noneLine, reducedLine, refusedLine, report, rowAt, rowLine, variableAt, variableLine}
+use Rattle.report.specs.Report.{byteLine, implicationAt, implicationLine, isZeroRow, noneLine, reducedLine, refusedLine, report, rowLine, rowText, variableAt, variableLine}
 use Rattle.text.specs.Decimal.{decimal, digits, signed}
 use Rattle.text.specs.Text.{texts}
 use Rattle.reduction.specs.Output.{leftText, output, outputAs, roundsText, stateRead, textOf, zeros}
@@ -55,5 +55,5 @@ example-output : output 8 book ≡
     ∷ 105 ∷ 32 ∷ 48 ∷ 32 ∷ 49 ∷ 32 ∷ 49 ∷ 32 ∷ 48 ∷ 10
     ∷ 105 ∷ 32 ∷ 49 ∷ 32 ∷ 49 ∷ 32 ∷ 48 ∷ 32 ∷ 48 ∷ 10
     ∷ []
-unfolding movedBounds differs book outputAs leftText roundsText stateRead textOf zeros floorDiv ceilDiv sum all minZ maxZ eqZ boxOf sameList emptyBox isEmpty isFree first inRange ordered bits sizeChecks lengthChecks tableLengthChecks boxChecks narrow numberChecks tableByteChecks modelChecks modelFault rowOf minTerm maxTerm minActivity maxActivity isInfeasible isChanged newUpper newLower impliedBox stays propagateRow zeroRow removeRedundantRow tightenAt tightenCoefficient lentTable givenModel isLent recordChecks callChecks callFault act perform fix hull literal byteOf put implies isFixed recordSide recordTo sideOf joinSides probe passRow passTo propagateFrom propagate isNone isSpent step run probeInfeasible answersNone isRefused sameBytes sameState classOf lengthsOf kindOf hasRow hasVariable hasBudget hasTable isUnknown stateOf callOf withBox splice withRow setRow bookLength rowPlace trailerOf boundsOf rhsOf coefsOf modelIn decode offsetChecks layoutChecks givenLengthChecks headChecks bookChecks bookFault numberOf signedOf numberAt integerAt integersAt joined andThen upwards unlessEmpty probeCall probes round isChange anyChange after roundsFrom roundsFault runRounds field fields refusedLine noneLine reducedLine variableLine rowLine implicationLine variableAt isZeroRow rowAt byteLine implicationAt report digits decimal signed texts propagateCall removeCall tightenCall removals tightenRow tightenings isEquality negated negatedCoefs bothForms propagateRowOf removeRowOf tightenRowOf kindsOf
+unfolding movedBounds differs book outputAs leftText roundsText stateRead textOf zeros floorDiv ceilDiv sum all minZ maxZ eqZ boxOf sameList emptyBox isEmpty isFree first inRange ordered bits sizeChecks lengthChecks tableLengthChecks boxChecks narrow numberChecks tableByteChecks modelChecks modelFault rowOf minTerm maxTerm minActivity maxActivity isInfeasible isChanged newUpper newLower impliedBox stays propagateRow zeroRow removeRedundantRow tightenAt tightenCoefficient lentTable givenModel isLent recordChecks callChecks callFault act perform fix hull literal byteOf put implies isFixed recordSide recordTo sideOf joinSides probe passRow passTo propagateFrom propagate isNone isSpent step run probeInfeasible answersNone isRefused sameBytes sameState classOf lengthsOf kindOf hasRow hasVariable hasBudget hasTable isUnknown stateOf callOf withBox splice withRow setRow bookLength rowPlace trailerOf boundsOf rhsOf coefsOf modelIn decode offsetChecks layoutChecks givenLengthChecks headChecks bookChecks bookFault numberOf signedOf numberAt integerAt integersAt joined andThen upwards unlessEmpty probeCall probes round isChange anyChange after roundsFrom roundsFault runRounds field fields refusedLine noneLine reducedLine variableLine rowLine implicationLine variableAt isZeroRow rowText byteLine implicationAt report digits decimal signed texts propagateCall removeCall tightenCall removals tightenRow tightenings isEquality negated negatedCoefs bothForms propagateRowOf removeRowOf tightenRowOf kindsOf
 example-output = refl

@@ -1,11 +1,9 @@
 -- What the enums of the program stand for, and what its parts hand on to each other.
 use Prim.Native.Nat.{_*_, ℕ}
-use lib.IntN.{ℤ}
 use lib.ListN.{length}
 use mathlib.Core.List.{List}
 use mathlib.Core.Path.{_≡_}
 use Rattle.model.specs.Checks.{first}
-use Rattle.model.specs.Rows.{Rows}
 use Rattle.model.specs.State.{State}
 use Rattle.model.specs.Valid.{ValidState}
 use Rattle.book.specs.Book.{decode}
@@ -17,10 +15,10 @@ use Rattle.reduction.specs.declared.Answer.{Answer}
 use Rattle.reduction.specs.declared.Answer.the-variants.{Refused, Infeasible, Reduced}
 
 -- the text of an answer, where the buffers hold the model and the table that are left
-unfoldable pub answerText : Form → Answer → ℕ → ℕ → List ℤ → List ℤ → List ℤ → List ℕ → List ℕ
-answerText form (Refused number) n m B C R t = refusedLine number
-answerText form Infeasible n m B C R t = noneLine
-answerText form (Reduced rounds) n m B C R t = leftText form n m rounds B C R t
+unfoldable pub answerText : Form → Answer → State → List ℕ
+answerText form (Refused number) s = refusedLine number
+answerText form Infeasible s = noneLine
+answerText form (Reduced rounds) s = leftText form rounds s
 
 -- what an answer leaves in the buffers, where it is printed: a valid state
 abbrev pub Leaves : Answer → State → Type 0
@@ -34,9 +32,9 @@ pub record Sized (n m : ℕ) (bs : List ℕ) : Type 0 where
   pub variables : n ≡ decode bs .n
   pub rows : m ≡ decode bs .m
 
--- buffers as the book needs them, and a table all 0; A is what the buffers of the rows hold
-pub record Ready (n m : ℕ) (bs : List ℕ) (B : List ℤ) (A : Rows) (t : List ℕ) : Type 0 where
-  pub sized : Sized n m bs
-  pub lengths : Printable n m B (A .coefs) (A .rhs) t
-  pub kinds : length (A .kinds) ≡ m
-  pub table : t ≡ zeros (4 * (n * n))
+-- buffers as the book needs them, and a table all 0; s is what they hold
+pub record Ready (bs : List ℕ) (s : State) : Type 0 where
+  pub sized : Sized (s .model .n) (s .model .m) bs
+  pub lengths : Printable s
+  pub kinds : length (s .model .rows .kinds) ≡ s .model .m
+  pub table : s .table ≡ zeros (4 * (s .model .n * s .model .n))

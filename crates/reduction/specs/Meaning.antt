@@ -6,9 +6,9 @@ use mathlib.Core.Logic.{_↔_, _⊎_}
 use mathlib.Core.Path.{_≡_}
 use Rattle.book.specs.BookChecks.{bookFault}
 use Rattle.report.specs.Report.{implicationAt, implicationLine, noneLine, refusedLine}
-use Rattle.semantics.specs.Points.{FractionalPointOf, ImplicationHolds, PointOf}
+use Rattle.call_laws.specs.Points.{FractionalPointOf, ImplicationHolds, PointOf}
 use Rattle.model.specs.State.{State}
-use Rattle.semantics.specs.TwoRuns.{HandedIn}
+use Rattle.demands.specs.TwoRuns.{HandedIn}
 use Rattle.reduction.specs.Output.{leftText, outputAs, stateRead}
 use Rattle.reduction.specs.declared.Form.{Form}
 
@@ -26,7 +26,7 @@ pub record Implied (s left : State) (i : ℕ) : Type 0 where
 pub record Reported (form : Form) (s : State) (text : List ℕ) : Type 0 where
   pub left : State
   pub rounds : ℕ
-  pub printed : text ≡ leftText form (left .model .n) (left .model .m) rounds (left .model .box) (left .model .rows .coefs) (left .model .rows .rhs) (left .table)
+  pub printed : text ≡ leftText form rounds left
   pub points : (x : List ℤ) → PointOf left x ↔ PointOf s x
   pub fractional : (x : List ℤ) (d : ℕ) → FractionalPointOf left x d → FractionalPointOf s x d
   pub implications : (i : ℕ) → i < 4 * (left .model .n * left .model .n) → (implicationAt (left .model .n) (left .table) i ≡ []) ⊎ Implied s left i

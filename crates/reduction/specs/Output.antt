@@ -2,7 +2,6 @@
 -- No kind is printed: a first-edition book has none.
 use Prim.Native.Nat.{_*_, ℕ}
 use lib.Dec.{eqb}
-use lib.IntN.{ℤ}
 use lib.ListN.{replicate}
 use mathlib.Core.Bool.{cond}
 use mathlib.Core.List.{List}
@@ -24,16 +23,16 @@ unfoldable pub stateRead : List ℕ → State
 stateRead bs = let M = decode bs in record { model = M; table = zeros (4 * (M .n * M .n)) }
 
 -- what is printed of the model and the table that are left: 01's report; or (02, C-23) "the reduced model on paper"
-unfoldable pub leftText : Form → ℕ → ℕ → ℕ → List ℤ → List ℤ → List ℤ → List ℕ → List ℕ
-leftText Report n m rounds B C R t = report n m rounds B C R t
-leftText Paper n m rounds B C R t = pages n B t
+unfoldable pub leftText : Form → ℕ → State → List ℕ
+leftText Report rounds s = report rounds s
+leftText Paper rounds s = pages (s .model .n) (s .model .box) (s .table)
 
 -- what is printed of rounds that end so and leave the state s
 unfoldable pub textOf : Form → RoundsAnswer → State → List ℕ
 textOf form (refusedRounds number) s = refusedLine number
 textOf form (ended infeasible rounds spent) s = noneLine
-textOf form (ended nothingChanged rounds spent) s = leftText form (s .model .n) (s .model .m) rounds (s .model .box) (s .model .rows .coefs) (s .model .rows .rhs) (s .table)
-textOf form (ended atLimit rounds spent) s = leftText form (s .model .n) (s .model .m) rounds (s .model .box) (s .model .rows .coefs) (s .model .rows .rhs) (s .table)
+textOf form (ended nothingChanged rounds spent) s = leftText form rounds s
+textOf form (ended atLimit rounds spent) s = leftText form rounds s
 
 -- 01: "It ends after a round that changed nothing, after 8 rounds, or at None."; 02 (C-20) has two programs, one without a limit
 unfoldable pub roundsText : Form → ℕ → State → List ℕ

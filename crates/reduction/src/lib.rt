@@ -30,10 +30,7 @@ pub enum Answer {
 
 fn answer_of(rounds: RoundsAnswer) -> Answer
     ensures { λ r.
-        ⌜ ((form : Form) (s : State) →
-        answerText form r (s .model .n) (s .model .m)
-        (s .model .box) (s .model .rows .coefs) (s .model .rows .rhs) (s .table) ≡
-        textOf form (roundsAnswer rounds) s) ⌝ }
+        ⌜ ((form : Form) (s : State) → answerText form r s ≡ textOf form (roundsAnswer rounds) s) ⌝ }
 {
     match rounds {
         RoundsAnswer::Refused(number) => Answer::Refused(number),
@@ -56,15 +53,17 @@ pub fn solve(
     table: &mut [u8],
     limit: u64,
 ) -> Answer
-    requires { ⌜ Ready n m (now book) (now bounds) (rowsOf (now coefs) (now rhs) (now kinds)) (now table) ⌝ }
+    requires { let s = stateOf n m (now bounds) (rowsOf (now coefs) (now rhs) (now kinds)) (now table) in
+        ⌜ Ready (now book) s ⌝ }
     ensures text { λ r.
-        ⌜ ((form : Form) →
-        answerText form r n m (now (bounds .exit)) (now (coefs .exit)) (now (rhs .exit)) (now (table .exit)) ≡
-        outputAs form limit (now (book .entry))) ⌝ }
+        let A = rowsOf (now (coefs .exit)) (now (rhs .exit)) (now (kinds .exit)) in
+        let left = stateOf n m (now (bounds .exit)) A (now (table .exit)) in
+        ⌜ ((form : Form) → answerText form r left ≡ outputAs form limit (now (book .entry))) ⌝ }
     ensures meaning { λ r. ⌜ ((form : Form) → OutputMeans form limit (now (book .entry))) ⌝ }
     ensures valid { λ r.
         let A = rowsOf (now (coefs .exit)) (now (rhs .exit)) (now (kinds .exit)) in
-        ⌜ Leaves r (stateOf n m (now (bounds .exit)) A (now (table .exit))) ⌝ }
+        let left = stateOf n m (now (bounds .exit)) A (now (table .exit)) in
+        ⌜ Leaves r left ⌝ }
 {
     if let SizesAnswer::Refused(number) = read(book, bounds, coefs, rhs, kinds) {
         return Answer::Refused(number);

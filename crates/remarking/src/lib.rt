@@ -11,6 +11,7 @@ ghost use lib.ListN.{length, getD, set};
 ghost use Rattle.model.specs.Box.{at, lower, upper, withBounds};
 ghost use Rattle.row_index.specs.Index.{ColumnSigns, signOf};
 ghost use Rattle.row_marks.specs.Marks.{Remarks, Unread, reads};
+ghost use Rattle.model.specs.Limits.{maxVariables};
 
 // Number q of the box, a bound of variable j: where it moved, the rows that read it, those of the given sign, are clean
 // no more.
@@ -113,7 +114,7 @@ pub fn remark_all(
     new: &[i32],
     marks: &mut [u8],
 )
-    requires { ⌜ ColumnSigns n m (now coefs) (now signs) × (m ≤ length (now kinds)) × (n ≤ 128)
+    requires { ⌜ ColumnSigns n m (now coefs) (now signs) × (m ≤ length (now kinds)) × (n ≤ maxVariables)
         × (length (now old) ≡ 2 * n) × (length (now new) ≡ 2 * n) × (m ≤ length (now marks)) ⌝ }
     ensures left { λ _. ⌜ now (old .exit) ≡ now (new .entry) ⌝ }
     ensures marks { λ _.

@@ -6,6 +6,9 @@ ghost use lib.ListN.{length, replicate, set};
 ghost use Rattle.model.specs.Checks.{sizeChecks};
 ghost use Rattle.replies.specs.Replies.{answerLength, bit as bitOf, replyOf, returned, written, wrongLength};
 
+// The length of every answer buffer.
+pub const ANSWER: usize = 12;
+
 // The number of the failed check; or the first four numbers of the answer; or a probe's case, its value or new bytes,
 // and its sides. The other places are 0.
 pub enum Reply {

@@ -6,7 +6,7 @@ use lib.IntN.{pos, ℤ}
 use lib.ListN.{getD, length}
 use mathlib.Core.List.{List, [], append-assoc}
 use mathlib.Core.Logic.{_↔_}
-use mathlib.Core.Path.{_∙_, _≡_}
+use mathlib.Core.Path.{_∙_, _≡_, refl}
 use native.Mathlib.Nat.{div-eq-of-lt, mod-eq-of-lt, mul-add-div-right, mul-add-mod-self-right}
 use native.Mathlib.Omega.{arith}
 use Rattle.integer.specs.Index.{all}
@@ -14,43 +14,55 @@ use Rattle.integer.specs.Order.{eqZ}
 use Rattle.integer.proofs.IndexLaws.{all-test}
 use Rattle.integer.proofs.Tests.{both, eqZ→eq, eq→eqZ}
 use Rattle.model.specs.Box.{at}
-use Rattle.report.specs.Report.{byteLine, implicationAt, implicationLine, isZeroRow, lineAt, lineCount, reducedLine, report, rowAt, variableAt}
+use Rattle.model.specs.Rows.{Row, Rows, rowAt, rowsOf}
+use Rattle.model.specs.State.{State, stateOf}
+use Rattle.report.specs.Report.{byteLine, implicationAt, implicationLine, isZeroRow, lineAt, lineCount, reducedLine, report, rowText, variableAt}
 use Rattle.text.specs.Text.{chunk, texts, then}
 use Rattle.text.proofs.TextLaws.{chunk-whole, texts-then, then-first, then-later}
 
-pub report-lines : (n m rounds : ℕ) (B C R : List ℤ) (t : List ℕ) → texts (lineCount n m) (lineAt n m rounds B C R t) ≡ report n m rounds B C R t
+pub report-lines : (rounds : ℕ) (s : State) → texts (lineCount (s .model .n) (s .model .m)) (lineAt rounds s) ≡ report rounds s
 unfolding lineCount lineAt report texts
-report-lines n m rounds B C R t =
-    let rows = texts-then m (4 * (n * n)) (rowAt n C R) (implicationAt n t) in
-    let variables = texts-then n (m + 4 * (n * n)) (variableAt B) (then m (rowAt n C R) (implicationAt n t)) in
-    texts-then 1 (n + (m + 4 * (n * n))) (λ i. reducedLine n m rounds) (then n (variableAt B) (then m (rowAt n C R) (implicationAt n t)))
+report-lines rounds s =
+    let M = s .model in
+    let n = M .n in
+    let rowTexts : ℕ → List ℕ = λ r. rowText r (rowAt n (M .rows) r) in
+    let table = implicationAt n (s .table) in
+    let rows = texts-then (M .m) (4 * (n * n)) rowTexts table in
+    let variables = texts-then n (M .m + 4 * (n * n)) (variableAt (M .box)) (then (M .m) rowTexts table) in
+    texts-then 1 (n + (M .m + 4 * (n * n))) (λ i. reducedLine n (M .m) rounds) (then n (variableAt (M .box)) (then (M .m) rowTexts table))
     ∙ rw (variables, rows) (simp append-assoc)
 
 -- ---- what line i is
 
-module _ (n m rounds : ℕ) (B C R : List ℤ) (t : List ℕ) (i : ℕ) where
-  pub line-header : i < 1 → lineAt n m rounds B C R t i ≡ reducedLine n m rounds
-  unfolding lineAt
+module _ (rounds n m : ℕ) (B : List ℤ) (A : Rows) (t : List ℕ) (i : ℕ) where
+  pub line-header : i < 1 → lineAt rounds (stateOf n m B A t) i ≡ reducedLine n m rounds
+  unfolding lineAt stateOf
   line-header h = rw then-first
 
-  pub line-variable : 1 ≤ i → i - 1 < n → lineAt n m rounds B C R t i ≡ variableAt B (i - 1)
-  unfolding lineAt
+  pub line-variable : 1 ≤ i → i - 1 < n → lineAt rounds (stateOf n m B A t) i ≡ variableAt B (i - 1)
+  unfolding lineAt stateOf
   line-variable h k = rw (then-later, then-first)
 
-  pub line-row : 1 ≤ i → n ≤ i - 1 → i - 1 - n < m → lineAt n m rounds B C R t i ≡ rowAt n C R (i - 1 - n)
-  unfolding lineAt
+  pub line-row : 1 ≤ i → n ≤ i - 1 → i - 1 - n < m → lineAt rounds (stateOf n m B A t) i ≡ rowText (i - 1 - n) (rowAt n A (i - 1 - n))
+  unfolding lineAt stateOf
   line-row h k l = rw (then-later, then-later, then-first)
 
-  pub line-implication : 1 ≤ i → n ≤ i - 1 → m ≤ i - 1 - n → lineAt n m rounds B C R t i ≡ implicationAt n t (i - 1 - n - m)
-  unfolding lineAt
+  pub line-implication : 1 ≤ i → n ≤ i - 1 → m ≤ i - 1 - n → lineAt rounds (stateOf n m B A t) i ≡ implicationAt n t (i - 1 - n - m)
+  unfolding lineAt stateOf
   line-implication h k l = rw (then-later, then-later, then-later)
 
   -- a byte that is not 1 has no text
-  pub line-silent : 1 + (n + m) ≤ i → (getD t (i - (1 + (n + m))) 0 ≡ 1 → ⊥) → lineAt n m rounds B C R t i ≡ []
+  pub line-silent : 1 + (n + m) ≤ i → (getD t (i - (1 + (n + m))) 0 ≡ 1 → ⊥) → lineAt rounds (stateOf n m B A t) i ≡ []
   unfolding implicationAt
   line-silent h k =
       let e : i - 1 - n - m ≡ i - (1 + (n + m)) = omega arith in
       line-implication (omega arith) (omega arith) (omega arith) ∙ rw (e, ne-eqb _ 1 k)
+
+-- no kind is printed: the rows without their kinds have the same report
+pub report-kindless : (rounds n m : ℕ) (B : List ℤ) (A : Rows) (t : List ℕ)
+    → report rounds (stateOf n m B (rowsOf (A .coefs) (A .rhs) []) t) ≡ report rounds (stateOf n m B A t)
+unfolding report rowText isZeroRow stateOf
+report-kindless rounds n m B A t = refl
 
 -- ---- the byte of an implication, and a zero row
 
@@ -69,9 +81,11 @@ implication-byte n k v j w hv hj hw =
     rw (hi, lo, pk, pv, qj, qw)
 
 -- a row is all zero where b and every coefficient are 0
-pub zero-row : (b : ℤ) (A : List ℤ) → T (isZeroRow b A) ↔ ((b ≡ pos 0) × ((j : ℕ) → j < length A → at A j ≡ pos 0))
+pub zero-row : (r : Row) → T (isZeroRow r) ↔ ((r .rhs ≡ pos 0) × ((j : ℕ) → j < length (r .coefs) → at (r .coefs) j ≡ pos 0))
 unfolding isZeroRow
-zero-row b A =
+zero-row r =
+    let b = r .rhs in
+    let A = r .coefs in
     both (eqZ b (pos 0)) (all (length A) (λ j. eqZ (at A j) (pos 0))) (eqZ→eq b (pos 0), eq→eqZ b (pos 0))
     (all-test (length A) _ (λ j. (eqZ→eq (at A j) (pos 0), eq→eqZ (at A j) (pos 0))))
 
@@ -79,5 +93,5 @@ zero-row b A =
 
 -- what the chunks of a report come to: one after the other they are one chunk (`chunk-chunk`), and from the first line to the last
 -- they are the report
-pub report-chunks : (n m rounds : ℕ) (B C R : List ℤ) (t : List ℕ) → chunk (lineAt n m rounds B C R t) 0 (lineCount n m) ≡ report n m rounds B C R t
-report-chunks n m rounds B C R t = chunk-whole (lineAt n m rounds B C R t) (lineCount n m) ∙ report-lines n m rounds B C R t
+pub report-chunks : (rounds : ℕ) (s : State) → chunk (lineAt rounds s) 0 (lineCount (s .model .n) (s .model .m)) ≡ report rounds s
+report-chunks rounds s = chunk-whole (lineAt rounds s) (lineCount (s .model .n) (s .model .m)) ∙ report-lines rounds s

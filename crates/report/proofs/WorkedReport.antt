@@ -5,17 +5,22 @@ use mathlib.Core.Path.{_≡_, refl}
 use Prim.Native.Nat.{ℕ}
 use Rattle.text.specs.Decimal.{decimal, digits, signed}
 use Rattle.text.specs.Fields.{field, fields}
-use Rattle.report.specs.Report.{byteLine, implicationAt, implicationLine, isZeroRow, reducedLine, report, rowAt, rowLine, variableAt, variableLine}
+use Rattle.report.specs.Report.{byteLine, implicationAt, implicationLine, isZeroRow, reducedLine, report, rowLine, rowText, variableAt, variableLine}
 use Rattle.text.specs.Text.{texts}
 use Rattle.integer.specs.Index.{all}
 use Rattle.integer.specs.Order.{eqZ}
-use Rattle.model.specs.Rows.{rowOf}
+use Rattle.model.specs.Rows.{rowOf, rowsOf}
+use Rattle.model.specs.State.{State, stateOf}
 
 -- x0 = 1 implies x1 = 0, and x1 = 1 implies x0 = 0: bytes 6 and 12 of 16
 table : List ℕ
 table = 0 ∷ 0 ∷ 0 ∷ 0 ∷ 0 ∷ 0 ∷ 1 ∷ 0 ∷ 0 ∷ 0 ∷ 0 ∷ 0 ∷ 1 ∷ 0 ∷ 0 ∷ 0 ∷ []
 
-example : report 2 1 2 (pos 0 ∷ pos 1 ∷ pos 0 ∷ pos 1 ∷ []) (pos 1 ∷ pos 1 ∷ []) (pos 1 ∷ []) table ≡
+-- the state that the rounds leave
+left : State
+left = stateOf 2 1 (pos 0 ∷ pos 1 ∷ pos 0 ∷ pos 1 ∷ []) (rowsOf (pos 1 ∷ pos 1 ∷ []) (pos 1 ∷ []) (0 ∷ [])) table
+
+example : report 2 left ≡
     -- reduced 2 1 2
     114 ∷ 101 ∷ 100 ∷ 117 ∷ 99 ∷ 101 ∷ 100 ∷ 32 ∷ 50 ∷ 32 ∷ 49 ∷ 32 ∷ 50 ∷ 10
     -- v 0 0 1, v 1 0 1
@@ -27,7 +32,7 @@ example : report 2 1 2 (pos 0 ∷ pos 1 ∷ pos 0 ∷ pos 1 ∷ []) (pos 1 ∷ p
     ∷ 105 ∷ 32 ∷ 48 ∷ 32 ∷ 49 ∷ 32 ∷ 49 ∷ 32 ∷ 48 ∷ 10
     ∷ 105 ∷ 32 ∷ 49 ∷ 32 ∷ 49 ∷ 32 ∷ 48 ∷ 32 ∷ 48 ∷ 10
     ∷ []
-unfolding table report reducedLine variableAt variableLine rowAt rowLine rowOf implicationAt implicationLine byteLine isZeroRow all eqZ texts field fields signed decimal digits
+unfolding table left stateOf report reducedLine variableAt variableLine rowText rowLine rowOf implicationAt implicationLine byteLine isZeroRow all eqZ texts field fields signed decimal digits
 example = refl
 
 -- r 0 4 3 2: the right side stands before the coefficients

@@ -12,7 +12,8 @@ use Rattle.integer.specs.Index.{all}
 use Rattle.integer.specs.Order.{eqZ}
 use Rattle.model.specs.Box.{at, lower, upper}
 use Rattle.model.specs.Limits.{maxRows, maxVariables}
-use Rattle.model.specs.Rows.{rowOf}
+use Rattle.model.specs.Rows.{Row, rowAt}
+use Rattle.model.specs.State.{State}
 use Rattle.text.specs.Fields.{field, fields, maxField, maxLongField}
 use Rattle.text.specs.Text.{texts, then}
 
@@ -52,11 +53,12 @@ unfoldable pub variableAt : List ℤ → ℕ → List ℕ
 variableAt B j = variableLine j (lower B j) (upper B j)
 
 -- "rows not all zero": a coefficient or b is not zero (D-16)
-unfoldable pub isZeroRow : ℤ → List ℤ → Bool
-isZeroRow b coefs = eqZ b (pos 0) && all (length coefs) (λ j. eqZ (at coefs j) (pos 0))
+unfoldable pub isZeroRow : Row → Bool
+isZeroRow row = eqZ (row .rhs) (pos 0) && all (length (row .coefs)) (λ j. eqZ (at (row .coefs) j) (pos 0))
 
-unfoldable pub rowAt : ℕ → List ℤ → List ℤ → ℕ → List ℕ
-rowAt n C R r = cond (isZeroRow (at R r) (rowOf n C r)) [] (rowLine r (at R r) (rowOf n C r))
+-- of row r; its kind is not printed (`report-kindless`)
+unfoldable pub rowText : ℕ → Row → List ℕ
+rowText r row = cond (isZeroRow row) [] (rowLine r (row .rhs) (row .coefs))
 
 -- Byte i of the table is p · 2n + q, with p = 2k + v and q = 2j + w (`implication-byte`).
 unfoldable pub byteLine : ℕ → ℕ → List ℕ
@@ -68,9 +70,13 @@ byteLine n i =
 unfoldable pub implicationAt : ℕ → List ℕ → ℕ → List ℕ
 implicationAt n t i = cond (eqb (getD t i 0) 1) (byteLine n i) []
 
-unfoldable pub report : ℕ → ℕ → ℕ → List ℤ → List ℤ → List ℤ → List ℕ → List ℕ
-report n m rounds B C R t =
-    reducedLine n m rounds ++ texts n (variableAt B) ++ texts m (rowAt n C R) ++ texts (4 * (n * n)) (implicationAt n t)
+-- after so many rounds, of the state that they leave
+unfoldable pub report : ℕ → State → List ℕ
+report rounds s =
+    let M = s .model in
+    let n = M .n in
+    reducedLine n (M .m) rounds ++ texts n (variableAt (M .box)) ++ texts (M .m) (λ r. rowText r (rowAt n (M .rows) r))
+    ++ texts (4 * (n * n)) (implicationAt n (s .table))
 
 -- ---- the report by its lines, counted from 0, where a zero row and a byte that is not 1 are lines without text
 
@@ -78,9 +84,12 @@ unfoldable pub lineCount : ℕ → ℕ → ℕ
 lineCount n m = 1 + (n + (m + 4 * (n * n)))
 
 -- the lines up to lineCount are the report (`report-lines`)
-unfoldable pub lineAt : ℕ → ℕ → ℕ → List ℤ → List ℤ → List ℤ → List ℕ → ℕ → List ℕ
-lineAt n m rounds B C R t =
-    then 1 (λ i. reducedLine n m rounds) (then n (variableAt B) (then m (rowAt n C R) (implicationAt n t)))
+unfoldable pub lineAt : ℕ → State → ℕ → List ℕ
+lineAt rounds s =
+    let M = s .model in
+    let n = M .n in
+    then 1 (λ i. reducedLine n (M .m) rounds)
+    (then n (variableAt (M .box)) (then (M .m) (λ r. rowText r (rowAt n (M .rows) r)) (implicationAt n (s .table))))
 
 -- ---- room
 
@@ -95,10 +104,10 @@ abbrev pub maxLine : ℕ
 maxLine = maxRowLine maxVariables
 
 -- what is printed has the limits and lengths that the checks 3 and 5 ask
-pub record Printable (n m : ℕ) (B C R : List ℤ) (t : List ℕ) : Type 0 where
-  pub few : n ≤ maxVariables
-  pub fewRows : m ≤ maxRows
-  pub box : length B ≡ 2 * n
-  pub coefs : length C ≡ m * n
-  pub rhs : length R ≡ m
-  pub table : length t ≡ 4 * (n * n)
+pub record Printable (s : State) : Type 0 where
+  pub few : s .model .n ≤ maxVariables
+  pub fewRows : s .model .m ≤ maxRows
+  pub box : length (s .model .box) ≡ 2 * s .model .n
+  pub coefs : length (s .model .rows .coefs) ≡ s .model .m * s .model .n
+  pub rhs : length (s .model .rows .rhs) ≡ s .model .m
+  pub table : length (s .table) ≡ 4 * (s .model .n * s .model .n)

@@ -4,11 +4,12 @@
 ghost use mathlib.Core.Path.{_≡_};
 ghost use Prim.Native.Nat.{ℕ, _+_, _-_, _<_, _≤_};
 ghost use lib.ListN.{getD, length};
+ghost use Rattle.model.specs.Rows.{rowWith};
 ghost use Rattle.report.specs.Report.{isZeroRow};
 
 // Whether b and every coefficient are 0.
 pub fn is_zero_row(b: i32, coefs: &[i32]) -> bool
-    ensures { λ r. ⌜ r ≡ isZeroRow b (now (coefs .entry)) ⌝ }
+    ensures { λ r. ⌜ r ≡ isZeroRow (rowWith (now (coefs .entry)) b 0) ⌝ }
 {
     if b != 0 {
         return false;

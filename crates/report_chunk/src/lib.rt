@@ -1,11 +1,16 @@
 // A report line by line (`lineAt`), and in chunks that fit a buffer: `fill` writes as many lines as have room and says
-// where to go on. A program prints a report by `fill`, writing out, and `fill` again from there.
+// where to go on. A program prints a report by `fill`, writing out, and `fill` again from there. No kind is printed
+// (`report-kindless`), so none is lent: the states here have rows without kinds.
+ghost use mathlib.Core.List.{[]};
 ghost use mathlib.Core.Path.{_≡_};
 ghost use Prim.Native.Nat.{_+_, _*_, _<_, _≤_};
 ghost use lib.ListN.{length};
 ghost use Rattle.model.specs.Limits.{maxRows, maxVariables};
-ghost use Rattle.report.specs.Report.{Printable, implicationAt, lineAt, lineCount, maxLine, maxShortLine, rowAt};
+ghost use Rattle.model.specs.Rows.{rowAt, rowsOf};
+ghost use Rattle.model.specs.State.{stateOf};
+ghost use Rattle.report.specs.Report.{Printable, implicationAt, lineAt, lineCount, maxLine, maxShortLine, rowText};
 ghost use Rattle.text.specs.Text.{Wrote, chunk};
+use matrix::coefficients;
 use report::is_zero_row;
 use report::next_line;
 use report_line::write_implication;
@@ -30,11 +35,10 @@ fn write_row_at(n: usize, coefs: &[i32], rhs: &[i32], r: usize, buf: &mut [u8], 
     requires { ⌜ r * n + n ≤ length (now coefs) ⌝ }
     requires { ⌜ at + maxLine ≤ length (now buf) ⌝ }
     ensures { λ r'.
-        ⌜ Wrote (now (buf .entry)) at (rowAt n (now (coefs .entry)) (now (rhs .entry)) r) r' (now (buf .exit)) ⌝ }
+        let row = rowAt n (rowsOf (now (coefs .entry)) (now (rhs .entry)) []) r in
+        ⌜ Wrote (now (buf .entry)) at (rowText r row) r' (now (buf .exit)) ⌝ }
 {
-    let start = r * n;
-    let stop = start + n;
-    let row = &coefs[start..stop];
+    let row = coefficients(n, coefs, r);
     let b = rhs[r];
     if is_zero_row(b, row) {
         return at;
@@ -71,13 +75,14 @@ fn write_line(
     buf: &mut [u8],
     at: usize,
 ) -> usize
-    requires { ⌜ Printable n m (now bounds) (now coefs) (now rhs) (now table) ⌝ }
+    requires { let s = stateOf n m (now bounds) (rowsOf (now coefs) (now rhs) []) (now table) in
+        ⌜ Printable s ⌝ }
     requires { ⌜ i < lineCount n m ⌝ }
     requires { ⌜ at + maxLine ≤ length (now buf) ⌝ }
     ensures { λ r.
-        let line = lineAt n m rounds
-        (now (bounds .entry)) (now (coefs .entry)) (now (rhs .entry)) (now (table .entry)) in
-        ⌜ Wrote (now (buf .entry)) at (line i) r (now (buf .exit)) ⌝ }
+        let A = rowsOf (now (coefs .entry)) (now (rhs .entry)) [] in
+        let s = stateOf n m (now (bounds .entry)) A (now (table .entry)) in
+        ⌜ Wrote (now (buf .entry)) at (lineAt rounds s i) r (now (buf .exit)) ⌝ }
 {
     if i == 0 {
         return write_reduced(n as u32, m as u32, rounds, buf, at);
@@ -115,13 +120,14 @@ pub fn fill(
     from: usize,
     buf: &mut [u8],
 ) -> Chunk
-    requires { ⌜ Printable n m (now bounds) (now coefs) (now rhs) (now table) ⌝ }
+    requires { let s = stateOf n m (now bounds) (rowsOf (now coefs) (now rhs) []) (now table) in
+        ⌜ Printable s ⌝ }
     requires { ⌜ from ≤ lineCount n m ⌝ }
     requires { ⌜ maxLine ≤ length (now buf) ⌝ }
     ensures text { λ r.
-        let line = lineAt n m rounds
-        (now (bounds .entry)) (now (coefs .entry)) (now (rhs .entry)) (now (table .entry)) in
-        ⌜ Wrote (now (buf .entry)) 0 (chunk line from (r .next)) (r .end) (now (buf .exit)) ⌝ }
+        let A = rowsOf (now (coefs .entry)) (now (rhs .entry)) [] in
+        let s = stateOf n m (now (bounds .entry)) A (now (table .entry)) in
+        ⌜ Wrote (now (buf .entry)) 0 (chunk (lineAt rounds s) from (r .next)) (r .end) (now (buf .exit)) ⌝ }
     ensures within { λ r. ⌜ (from ≤ r .next) × (r .next ≤ lineCount n m) ⌝ }
     ensures progress { λ r. ⌜ (from < lineCount n m → from < r .next) ⌝ }
 {

@@ -14,7 +14,7 @@ ghost use mathlib.Core.Path.{_≡_};
 ghost use Rattle.probe_side.specs.Marked.{Marked};
 ghost use Rattle.model.specs.Valid.{ValidState};
 ghost use Rattle.semantics.specs.Run.{run as ran};
-ghost use Rattle.semantics.specs.Unmoved.{anySpent};
+ghost use Rattle.demands.specs.Unmoved.{anySpent};
 ghost use Rattle.model.specs.Rows.{rowsOf};
 ghost use Rattle.model.specs.State.{stateOf};
 ghost use Rattle.rounds.specs.Round.{anyChange, probes, round as roundOf};

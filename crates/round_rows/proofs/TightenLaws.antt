@@ -15,7 +15,7 @@ use Rattle.semantics.specs.Perform.{act, perform}
 use Rattle.model.specs.Valid.{ValidModel}
 use Rattle.semantics.specs.Run.{classOf, run, isRefused}
 use Rattle.model.specs.Model.{Model}
-use Rattle.model.specs.Rows.{rowAt, rowOf}
+use Rattle.model.specs.Rows.{rowAt, rowOf, rowsOf}
 use Rattle.row.specs.Activity.{maxActivity}
 use Rattle.row.specs.Outcome as outcomes
 use Rattle.row.specs.Outcome.{isChanged, isInfeasible}
@@ -28,11 +28,10 @@ use Rattle.row.proofs.TighteningLaws.{tighten-fails}
 use Rattle.semantics.specs.CallChecks.{callFault}
 use Rattle.semantics.specs.Call.{callOf, kindOf}
 use Rattle.model.specs.State.{State}
-use Rattle.semantics.proofs.CallLaws.{step-ind}
+use Rattle.call_laws.proofs.CallLaws.{step-ind}
 use Rattle.rounds.specs.Round.{anyChange, isChange, tightenCall}
-use Rattle.semantics.proofs.ClassLaws.{classBy, tighten-class}
-use Rattle.semantics.proofs.RowChange.{row-valid, withRow-same}
-use Rattle.model.proofs.RowsLaws.{at-rowOf}
+use Rattle.call_laws.proofs.ClassLaws.{classBy, tighten-class}
+use Rattle.call_laws.proofs.RowChange.{row-valid, withRow-same}
 use Rattle.matrix_view.proofs.RowInLaws.{row-fits}
 use Rattle.round_rows.specs.TightenedAt.{TightenedAt}
 use Rattle.rounds.proofs.RoundLaws.{Leads, no-call}
@@ -53,40 +52,40 @@ module _ (s : State) (r k : ℕ) where
   tightening = tightenRowOf (s .model .n) (rowAt (s .model .n) (s .model .rows) r) (s .model .box) k
 
   -- it stays; a coefficient of an = row does anyway
-  quiet : mayTighten (at row k) (maxActivity (s .model .n) row (s .model .box)) (at (s .model .rows .rhs) r) ≡ false → T (not (isChanged (tightening .outcome)))
+  untightened : mayTighten (at row k) (maxActivity (s .model .n) row (s .model .box)) (at (s .model .rows .rhs) r) ≡ false → T (not (isChanged (tightening .outcome)))
   unfolding isChanged
-  quiet h = tighten-kinded-ind (s .model .n) (rowAt (s .model .n) (s .model .rows) r) (s .model .box) k (λ q. T (not (isChanged (q .outcome))))
+  untightened h = tighten-kinded-ind (s .model .n) (rowAt (s .model .n) (s .model .rows) r) (s .model .box) k (λ q. T (not (isChanged (q .outcome))))
       (λ _. cond-ind (isEmpty (s .model .n) (s .model .box)) outcomes.infeasible outcomes.unchanged (λ o. T (not (isChanged o))) (λ _. tt) (λ _. tt))
       (λ _. tighten-fails (s .model .n) row (at (s .model .rows .rhs) r) (s .model .box) k h)
 
   -- the call to tighten it leaves the state and changes nothing, refused or not
-  quiet-class : T (not (isChanged (tightening .outcome))) → isChange (classOf s (callOf s 4 r k 0)) ≡ false
+  untightened-class : T (not (isChanged (tightening .outcome))) → isChange (classOf s (callOf s 4 r k 0)) ≡ false
   unfolding callOf kindOf classOf perform isRefused isChange
-  quiet-class t = ⊎-elim
+  untightened-class t = ⊎-elim
       (λ f. ap isChange (tighten-class s (callOf s 4 r k 0) (eqb→eq (callFault s (callOf s 4 r k 0)) 0 f) refl)
       ∙ ap (λ (x : Bool). isChange (classBy (isInfeasible (tightening .outcome)) (not x))) (T→false (isChanged (tightening .outcome)) t)
       ∙ same-class (isInfeasible (tightening .outcome)))
       (λ f. rw (T→false (eqb (callFault s (callOf s 4 r k 0)) 0) f) refl)
       (decide (eqb (callFault s (callOf s 4 r k 0)) 0))
 
-  quiet-call : mayTighten (at row k) (maxActivity (s .model .n) row (s .model .box)) (at (s .model .rows .rhs) r) ≡ false → Leads s (callOf s 4 r k 0 ∷ []) s false
+  untightened-call : mayTighten (at row k) (maxActivity (s .model .n) row (s .model .box)) (at (s .model .rows .rhs) r) ≡ false → Leads s (callOf s 4 r k 0 ∷ []) s false
   unfolding run anyChange act callOf kindOf
-  quiet-call h =
-      let t = quiet h in
+  untightened-call h =
+      let t = untightened h in
       let u = tighten-kinded-unchanged (s .model .n) (rowAt (s .model .n) (s .model .rows) r) (s .model .box) k t in
       record {
         left = sym (step-ind s (callOf s 4 r k 0) (λ x. x ≡ s) (λ _. withRow-same s r (tightening .row) u) refl);
-        changed = sym (or-false (isChange (classOf s (callOf s 4 r k 0))) ∙ quiet-class t);
+        changed = sym (or-false (isChange (classOf s (callOf s 4 r k 0))) ∙ untightened-class t);
       }
 
   -- so the turn of a variable that is not free, or whose coefficient fails the test, is made by doing nothing
-  pub quiet-turn : {most : ℤ} → k < s .model .n → most ≡ maxActivity (s .model .n) row (s .model .box)
-      → (isFree (s .model .box) k && mayTighten (at (s .model .rows .coefs) (r * s .model .n + k)) most (at (s .model .rows .rhs) r)) ≡ false → Leads s (tightenCall r k s) s false
+  pub untightened-turn : {most : ℤ} → most ≡ maxActivity (s .model .n) row (s .model .box)
+      → (isFree (s .model .box) k && mayTighten (at row k) most (at (s .model .rows .rhs) r)) ≡ false → Leads s (tightenCall r k s) s false
   unfolding tightenCall
-  quiet-turn {most} h e z = go (isFree (s .model .box) k) z
+  untightened-turn {most} e z = go (isFree (s .model .box) k) z
     where
-      go : (free : Bool) → (free && mayTighten (at (s .model .rows .coefs) (r * s .model .n + k)) most (at (s .model .rows .rhs) r)) ≡ false → Leads s (cond free (callOf s 4 r k 0 ∷ []) []) s false
-      go true q = quiet-call (rw (at-rowOf (s .model .n) (s .model .rows .coefs) r k h, sym e) q)
+      go : (free : Bool) → (free && mayTighten (at row k) most (at (s .model .rows .rhs) r)) ≡ false → Leads s (cond free (callOf s 4 r k 0 ∷ []) []) s false
+      go true q = untightened-call (rw (sym e) q)
       go false q = no-call s
 
 -- what is asked where the greatest activity of a row is found, and where a coefficient is tested
@@ -95,11 +94,12 @@ module _ {M : Model} (v : ValidModel M) {r : ℕ} (h : r < M .m) where
   row-ready = (row-fits v r h, row-valid M r v h .coefs)
 
   pub looked-at : {k : ℕ} {most : ℤ} → k < M .n → most ≡ maxActivity (M .n) (rowOf (M .n) (M .rows .coefs) r) (M .box)
-      → TightenedAt (M .n) (M .box) (M .rows .coefs) (M .rows .rhs) r k most
+      → TightenedAt (M .n) (M .box) (rowsOf (M .rows .coefs) (M .rows .rhs) []) r k most
   looked-at {k} i e = record {
+    variable = i;
     box = omega (arith, v .box .len);
-    coefs = omega (arith, row-ready .0);
+    coefs = row-ready .0;
     rhs = rw (v .rhsLen) h;
-    coef = rw (sym (at-rowOf (M .n) (M .rows .coefs) r k i)) (coefs-small (row-ready .1) k);
+    coef = coefs-small (row-ready .1) k;
     small = rw e (max-activity-small (row-ready .1));
   }

@@ -11,13 +11,14 @@ use matrix_change::tighten_coefficient_at;
 use row_tightening::may_tighten;
 ghost use mathlib.Core.Path.{_≡_};
 ghost use mathlib.Core.Bool.{_&&_};
+ghost use mathlib.Core.List.{[]};
 ghost use Prim.Native.Nat.{_*_, _+_, _<_};
 ghost use Rattle.model.specs.Box.{at, isFree};
 ghost use Rattle.row.specs.Tightening.{mayTighten};
 ghost use Rattle.model.specs.Model.{modelOf};
 ghost use Rattle.model.specs.Valid.{ValidModel};
 ghost use Rattle.call.specs.Classes.{classIs};
-ghost use Rattle.model.specs.Rows.{rowsOf};
+ghost use Rattle.model.specs.Rows.{rowAt, rowsOf};
 ghost use Rattle.rounds.specs.Phase.{Phase};
 ghost use Rattle.round_rows.specs.TightenedAt.{TightenedAt};
 ghost use Rattle.rounds.specs.Round.{isChange, removals, tightenRow, tightenings};
@@ -72,11 +73,10 @@ fn may_tighten_at(
     k: usize,
     most: i64,
 ) -> bool
-    requires { ⌜ TightenedAt n (now bounds) (now coefs) (now rhs) row k most ⌝ }
+    requires { ⌜ TightenedAt n (now bounds) (rowsOf (now coefs) (now rhs) []) row k most ⌝ }
     ensures { λ r.
-        let a = at (now (coefs .entry)) (row * n + k) in
-        let b = at (now (rhs .entry)) row in
-        ⌜ r ≡ (isFree (now (bounds .entry)) k && mayTighten a most b) ⌝ }
+        let A = rowAt n (rowsOf (now (coefs .entry)) (now (rhs .entry)) []) row in
+        ⌜ r ≡ (isFree (now (bounds .entry)) k && mayTighten (at (A .coefs) k) most (A .rhs)) ⌝ }
 {
     if !is_free(bounds, k) {
         return false;

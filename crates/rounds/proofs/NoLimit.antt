@@ -10,13 +10,13 @@ use native.Mathlib.Numerals.{add-one}
 use native.Mathlib.Omega.{arith}
 use Rattle.integer.proofs.Tests.{cond-ind, or-cases, true→T}
 use Rattle.model.specs.Box.{isEmpty}
-use Rattle.semantics.specs.Measure.{CallsLower, MeasureLimit, maxMeasure, measure}
 use Rattle.semantics.specs.Run.{CallClass, changedCall, classOf, infeasibleCall, refusedCall, run, step, unchangedCall}
 use Rattle.semantics.specs.Call.{Call}
+use Rattle.demands.specs.Measure.{CallsLower, MeasureLimit, maxMeasure, measure}
 use Rattle.model.specs.State.{State}
-use Rattle.semantics.proofs.Accepted.{accepted-valid}
-use Rattle.semantics.proofs.Measure.{call-lowers, measure-limit, run-never}
-use Rattle.semantics.specs.Unmoved.{anySpent}
+use Rattle.call_laws.proofs.Accepted.{accepted-valid}
+use Rattle.demands.specs.Unmoved.{anySpent}
+use Rattle.demands.proofs.Measure.{call-lowers, measure-limit, run-never}
 use Rattle.rounds.specs.Round.{anyChange, isChange, round}
 use Rattle.rounds.specs.NoLimit.{EndsWithin, NeverAtLimit, NoLimit, RoundsEnd, RoundsGoOn, RoundsLower, WithoutLimit, allRounds, noLimit, roundsOn}
 use Rattle.rounds.specs.Rounds.{Rounds, RoundsAnswer, RoundsEnding, RoundsRun, after, atLimit, ended, infeasible, nothingChanged, refusedRounds, roundsFault, roundsFrom, runRounds}

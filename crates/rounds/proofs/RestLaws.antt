@@ -7,11 +7,11 @@ use Rattle.integer.proofs.Tests.{cond-ind}
 use Rattle.model.specs.Box.{isEmpty}
 use Rattle.model.specs.State.{State}
 use Rattle.model.specs.Valid.{ValidState}
-use Rattle.semantics.specs.Points.{AtRest}
 use Rattle.semantics.specs.Run.{run}
-use Rattle.semantics.specs.Unmoved.{anySpent}
-use Rattle.semantics.proofs.Accepted.{accepted-valid}
-use Rattle.semantics.proofs.Preserved.{run-preserves}
+use Rattle.call_laws.specs.Points.{AtRest}
+use Rattle.call_laws.proofs.Accepted.{accepted-valid}
+use Rattle.call_laws.proofs.Preserved.{run-preserves}
+use Rattle.demands.specs.Unmoved.{anySpent}
 use Rattle.rounds.specs.RoundRest.{RoundRests}
 use Rattle.rounds.specs.Round.{anyChange, round}
 use Rattle.rounds.proofs.RoundRestLaws.{round-rests}

@@ -17,10 +17,10 @@ use Rattle.model.specs.Rows.{Rows}
 use Rattle.semantics.specs.CallChecks.{callFault}
 use Rattle.semantics.specs.Call.{Call, callOf, hasBudget, hasRow, hasTable, hasVariable, isUnknown, kindOf}
 use Rattle.model.specs.State.{State, stateOf}
-use Rattle.semantics.proofs.Accepted.{accepts, lent-own}
-use Rattle.semantics.proofs.Preserved.{Preserves, run-preserves}
+use Rattle.call_laws.proofs.Accepted.{accepts, lent-own}
+use Rattle.call_laws.proofs.Preserved.{Preserves, run-preserves}
 use Rattle.rounds.specs.Round.{andThen, anyChange, isChange, probes, propagateCall, removals, removeCall, round, roundBudget, tightenings, unlessEmpty, upwards}
-use Rattle.semantics.proofs.Demand3.{zeros-valid}
+use Rattle.demands.proofs.Demand3.{zeros-valid}
 
 -- ---- the calls of a round are direct ones, and accepted
 

@@ -15,12 +15,12 @@ use Rattle.model.specs.Valid.{ValidState}
 use Rattle.model.proofs.BoxLaws.{isEmpty-test}
 use Rattle.row.proofs.ImpliedBoxLaws.{valid-nonEmpty}
 use Rattle.semantics.specs.Call.{Call, callOf, kindOf}
-use Rattle.semantics.specs.Fixpoint.{Fixpoint, ProbingFixpoint, SidesSpan}
 use Rattle.semantics.specs.Perform.{act, perform}
 use Rattle.semantics.specs.Run.{CallClass, answersNone, changedCall, classOf, run, step}
-use Rattle.semantics.specs.Unmoved.{UnmovedQuiet, UnmovedSpans, anySpent, sideSpent}
-use Rattle.semantics.proofs.CallLaws.{perform-accepted, step-accepted}
-use Rattle.semantics.proofs.Unmoved.{run-empty, still-step, unmoved-quiet, unmoved-spans}
+use Rattle.call_laws.specs.Fixpoint.{Fixpoint, ProbingFixpoint, SidesSpan}
+use Rattle.call_laws.proofs.CallLaws.{perform-accepted, step-accepted}
+use Rattle.demands.specs.Unmoved.{UnmovedFixpoint, UnmovedSpans, anySpent, sideSpent}
+use Rattle.demands.proofs.Unmoved.{run-empty, still-step, unmoved-fixpoint, unmoved-spans}
 use Rattle.rounds.specs.RoundRest.{RoundRests}
 use Rattle.rounds.specs.Round.{andThen, anyChange, isChange, probeCall, probes, propagateCall, removals, round, roundBudget, tightenings, upwards}
 use Rattle.rounds.proofs.RoundLaws.{accepts-probe, accepts-propagation, change-append, run-append}
@@ -104,14 +104,14 @@ still-turn (suc count) f {s} w k h =
 -- ---- a round
 
 module _ (s : State) (v : ValidState s) (p : NonEmpty (s .model .n) (s .model .box)) where
-  quiet : Still s (propagateCall s) → Fixpoint (s .model .n) (s .model .m) (s .model .rows) (s .model .box)
-  unfolding propagateCall UnmovedQuiet callOf kindOf act withBox answersNone
-  quiet w =
+  still-fixpoint : Still s (propagateCall s) → Fixpoint (s .model .n) (s .model .m) (s .model .rows) (s .model .box)
+  unfolding propagateCall UnmovedFixpoint callOf kindOf act withBox answersNone
+  still-fixpoint w =
       let M = s .model in
       let c = callOf s 2 0 0 roundBudget in
       let e = accepts-propagation v in
       let q = still-first w in
-      unmoved-quiet roundBudget (M .n) (M .m) (M .rows) (M .box) (v .model .some) p (omega arith)
+      unmoved-fixpoint roundBudget (M .n) (M .m) (M .rows) (M .box) (v .model .some) p (omega arith)
       (rw (perform-accepted s c e) at (q .1))
       (ap (λ (r : State). r .model .box) (sym (step-accepted s c e) ∙ q .0))
 
@@ -148,7 +148,7 @@ round-rests s v full unchanged unspent =
     let p = valid-nonEmpty (v .model .box) (rw same at (false→T (isEmpty (run s (round s) .model .n) (run s (round s) .model .box)) full)) in (
       same,
       rw same (inr (record {
-        fixpoint = quiet s v p (a .0);
+        fixpoint = still-fixpoint s v p (a .0);
         spans = λ k h f. spans s v p k h f (still-turn (s .model .n) probeCall (d .1) k h);
       })),
     )

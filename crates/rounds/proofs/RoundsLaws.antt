@@ -12,17 +12,17 @@ use native.Mathlib.Omega.{arith}
 use Rattle.integer.proofs.Tests.{cond-ind}
 use Rattle.model.specs.Box.{isEmpty, at}
 use Rattle.model.proofs.BoxLaws.{isEmpty-test}
-use Rattle.semantics.specs.Points.{PointOf, TableHolds}
+use Rattle.call_laws.specs.Points.{PointOf, TableHolds}
 use Rattle.model.specs.Valid.{ValidState}
 use Rattle.semantics.specs.Run.{run}
 use Rattle.semantics.specs.Call.{Call}
 use Rattle.model.specs.State.{State}
-use Rattle.semantics.proofs.Accepted.{accepted-valid}
-use Rattle.semantics.proofs.Demand2.{no-point}
-use Rattle.semantics.proofs.ImplicationLaws.{zeros-hold}
-use Rattle.semantics.proofs.Preserved.{run-preserves}
+use Rattle.call_laws.proofs.Accepted.{accepted-valid}
+use Rattle.call_laws.proofs.ImplicationLaws.{zeros-hold}
+use Rattle.call_laws.proofs.Preserved.{run-preserves}
+use Rattle.demands.proofs.Demand2.{no-point}
 use Rattle.rounds.specs.Round.{anyChange, round}
-use Rattle.semantics.specs.Unmoved.{anySpent}
+use Rattle.demands.specs.Unmoved.{anySpent}
 use Rattle.rounds.specs.NoLimit.{NeverAtLimit, NotReached}
 use Rattle.rounds.specs.Rest.{EndsAtRest}
 use Rattle.rounds.specs.Rounds.{Rounds, RoundsAnswer, RoundsEnding, RoundsRun, SamePoints, after, atLimit, ended, infeasible, nothingChanged, refusedRounds, roundsFault, roundsFrom, runRounds}

@@ -14,7 +14,7 @@ use Rattle.semantics.specs.Call.{Call, Kind, callOf, kindOf, probing, propagati
 use Rattle.semantics.specs.CallChecks.{callFault}
 use Rattle.semantics.specs.Perform.{Performed, act, perform}
 use Rattle.semantics.specs.Run.{run, step}
-use Rattle.semantics.specs.Unmoved.{anySpent, sideSpent}
+use Rattle.demands.specs.Unmoved.{anySpent, sideSpent}
 use Rattle.rounds.specs.Round.{andThen, probes, propagateCall, removals, removeCall, round, tightenCall, tightenRow, tightenings, unlessEmpty, upwards}
 use Rattle.rounds.proofs.RoundLaws.{in-order}
 

@@ -4,9 +4,9 @@ use mathlib.Core.Bool.{Bool, cond, true}
 use mathlib.Core.Logic.{_≢_}
 use mathlib.Core.Path.{_≡_}
 use Rattle.model.specs.Box.{isEmpty}
-use Rattle.semantics.specs.Measure.{maxMeasure, measure}
 use Rattle.semantics.specs.Run.{run}
-use Rattle.semantics.specs.Unmoved.{anySpent}
+use Rattle.demands.specs.Measure.{maxMeasure, measure}
+use Rattle.demands.specs.Unmoved.{anySpent}
 use Rattle.model.specs.State.{State}
 use Rattle.rounds.specs.Round.{anyChange, round}
 use Rattle.rounds.specs.Rounds.{Rounds, RoundsAnswer, RoundsRun, after, atLimit, ended, infeasible, nothingChanged, roundsFrom, runRounds}

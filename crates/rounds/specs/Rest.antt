@@ -5,7 +5,7 @@ use Prim.Native.Nat.{ℕ}
 use mathlib.Core.Bool.{false}
 use mathlib.Core.Path.{_≡_}
 use Rattle.model.specs.State.{State}
-use Rattle.semantics.specs.Points.{AtRest}
+use Rattle.call_laws.specs.Points.{AtRest}
 use Rattle.rounds.specs.Rounds.{RoundsAnswer, ended, nothingChanged}
 
 -- of rounds that left r and answered a

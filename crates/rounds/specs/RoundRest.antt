@@ -5,9 +5,9 @@ use mathlib.Core.Path.{_≡_}
 use Rattle.model.specs.Box.{isEmpty}
 use Rattle.model.specs.State.{State}
 use Rattle.model.specs.Valid.{ValidState}
-use Rattle.semantics.specs.Points.{AtRest}
 use Rattle.semantics.specs.Run.{run}
-use Rattle.semantics.specs.Unmoved.{anySpent}
+use Rattle.call_laws.specs.Points.{AtRest}
+use Rattle.demands.specs.Unmoved.{anySpent}
 use Rattle.rounds.specs.Round.{anyChange, round}
 
 -- it leaves the state as it was, and that is at rest (`round-rests`)

@@ -10,10 +10,10 @@ use mathlib.Core.Logic.{_↔_}
 use mathlib.Core.Path.{_≡_}
 use Rattle.model.specs.Box.{isEmpty}
 use Rattle.model.specs.Checks.{modelFault, table}
-use Rattle.semantics.specs.Points.{FractionalPointOf, PointOf, TableHolds}
 use Rattle.semantics.specs.Run.{run}
-use Rattle.semantics.specs.Unmoved.{anySpent}
 use Rattle.semantics.specs.Call.{Call}
+use Rattle.call_laws.specs.Points.{FractionalPointOf, PointOf, TableHolds}
+use Rattle.demands.specs.Unmoved.{anySpent}
 use Rattle.model.specs.State.{State}
 use Rattle.rounds.specs.Round.{anyChange, round}
 

@@ -161,9 +161,9 @@ module _ (n : ℕ) (A : List ℤ) (b : ℤ) (B : List ℤ) where
 
   module _ (some : isEmpty n B ≡ false) where
     -- nothing moves: the row is met, and every variable keeps its bounds
-    pub quiet : length B ≡ 2 * n → widestTerm n A B ≤ℤ (b -ℤ L) → propagateRow n A b B ≡ record { outcome = unchanged; moved = 0; box = B }
+    pub staying : length B ≡ 2 * n → widestTerm n A B ≤ℤ (b -ℤ L) → propagateRow n A b B ≡ record { outcome = unchanged; moved = 0; box = B }
     unfolding propagateRow widestTerm
-    quiet len h =
+    staying len h =
         let z = ≤ℤ-trans (greatest-nonneg n (widthAt A B)) h in
         let met : L ≤ℤ b = simp zify (omega (zarith, simp zify at z)) in
         let e : all n (staysAt A b L B) ≡ true = all-stay met ∙ le-is h in
@@ -188,7 +188,7 @@ module _ (n : ℕ) (A : List ℤ) (b : ℤ) (B : List ℤ) where
         go : (b <ℤ L) ⊎ (L ≤ℤ b) → ((b -ℤ L) <ℤ widestTerm n A B) ⊎ (widestTerm n A B ≤ℤ (b -ℤ L)) → ltZ (b -ℤ L) (widestTerm n A B) ≡ rowMoves n A b B
         go (inl k) (inl h) = rw (lt-is h, unmet k)
         go (inr k) (inl h) = rw (lt-is h, moving k h)
-        go k (inr h) = rw (lt-isn't h, quiet len h)
+        go k (inr h) = rw (lt-isn't h, staying len h)
 
   module _ (none : isEmpty n B ≡ true) where
     pub on-empty : propagateRow n A b B ≡ record { outcome = infeasible; moved = 0; box = B }

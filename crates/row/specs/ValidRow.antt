@@ -8,7 +8,7 @@ use mathlib.Core.Logic.{_⊎_}
 use mathlib.Core.Path.{_≡_}
 use Rattle.integer.specs.Range.{Within}
 use Rattle.model.specs.Box.{at}
-use Rattle.model.specs.Limits.{maxCoef, maxRhs, maxVariables, minCoef, minRhs}
+use Rattle.model.specs.Limits.{boundSize, coefSize, maxCoef, maxRhs, maxVariables, minCoef, minRhs, rhsSize}
 use Rattle.model.specs.Valid.{Between, ValidBox}
 
 -- a row of n coefficients over a box of n variables
@@ -30,20 +30,20 @@ pub record ValidRow (n : ℕ) (A : List ℤ) (b : ℤ) (B : List ℤ) : Type 0 w
 
 -- the numbers from which the bounds of one variable follow: least, at most b, is the row's minimum activity
 pub record ImpliesBounds (a b least l u : ℤ) : Type 0 where
-  pub coef : Within 1_000_000 a
-  pub rhs : Within 1_000_000_000 b
+  pub coef : Within coefSize a
+  pub rhs : Within rhsSize b
   pub activity : Within 5_000_000_000_000 least
   pub met : least ≤ℤ b
-  pub low : Within 32_768 l
-  pub high : Within 32_768 u
+  pub low : Within boundSize l
+  pub high : Within boundSize u
 
 -- the same of all variables of a row
 pub record ImpliesBox (n : ℕ) (A : List ℤ) (b least : ℤ) (B : List ℤ) : Type 0 where
   pub len : length A ≡ n
   pub boxLen : length B ≡ 2 * n
   pub few : n ≤ maxVariables
-  pub coefs : (j : ℕ) → Within 1_000_000 (at A j)
-  pub rhs : Within 1_000_000_000 b
+  pub coefs : (j : ℕ) → Within coefSize (at A j)
+  pub rhs : Within rhsSize b
   pub activity : Within 5_000_000_000_000 least
   pub met : least ≤ℤ b
-  pub bounds : (i : ℕ) → Within 32_768 (at B i)
+  pub bounds : (i : ℕ) → Within boundSize (at B i)

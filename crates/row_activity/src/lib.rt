@@ -4,15 +4,16 @@ ghost use mathlib.Core.Path.{_≡_};
 ghost use lib.ListN.{length};
 ghost use Rattle.integer.specs.Order.{maxZ};
 ghost use Rattle.integer.specs.Range.{Within};
+ghost use Rattle.model.specs.Limits.{boundSize, coefSize};
 ghost use Rattle.row.specs.Activity.{minTerm, termWidth, minActivity, maxActivity, widestTerm};
 ghost use Rattle.row.specs.Kinds.{signed};
 ghost use Rattle.row.specs.ValidRow.{IsSign, ValidCoefs};
 
 // a · low for a above 0, else a · high.
 pub fn term(a: i32, low: i32, high: i32) -> i64
-    requires { ⌜ Within 1000000 a ⌝ }
-    requires { ⌜ Within 32768 low ⌝ }
-    requires { ⌜ Within 32768 high ⌝ }
+    requires { ⌜ Within coefSize a ⌝ }
+    requires { ⌜ Within boundSize low ⌝ }
+    requires { ⌜ Within boundSize high ⌝ }
     ensures { λ r. ⌜ r ≡ minTerm a low high ⌝ }
 {
     if a > 0 {
@@ -52,9 +53,9 @@ pub fn maximum_activity(coefs: &[i32], bounds: &[i32]) -> i64
 
 // The greater of `widest` and the width |a| · (high − low) of a term.
 pub fn wider(widest: i64, a: i32, low: i32, high: i32) -> i64
-    requires { ⌜ Within 1000000 a ⌝ }
-    requires { ⌜ Within 32768 low ⌝ }
-    requires { ⌜ Within 32768 high ⌝ }
+    requires { ⌜ Within coefSize a ⌝ }
+    requires { ⌜ Within boundSize low ⌝ }
+    requires { ⌜ Within boundSize high ⌝ }
     ensures { λ r. ⌜ r ≡ maxZ widest (termWidth a low high) ⌝ }
 {
     let width = term(a, high, low) - term(a, low, high);

@@ -1,4 +1,4 @@
--- What is known of the rows from earlier visits: where each row's next nonzero coefficient is, and each column's signs. Both are made
+-- What is known of the rows that were propagated before: where each row's next nonzero coefficient is, and each column's signs. Both are made
 -- where they are first needed: a 0 in front of a row's steps, or of a column's signs, says that they are not known yet.
 use Prim.Native.Nat.{_*_, _+_, _<_, _≤_, ℕ}
 use lib.IntN.{pos, ℤ}
@@ -8,6 +8,7 @@ use mathlib.Core.Bool.{cond}
 use mathlib.Core.List.{List}
 use mathlib.Core.Path.{_≡_}
 use Rattle.model.specs.Box.{at}
+use Rattle.model.specs.Limits.{maxVariables}
 
 -- 1 above 0, 2 below, 3 for 0
 unfoldable pub signOf : ℤ → ℕ
@@ -22,7 +23,7 @@ pub record GoodStep (n : ℕ) (C : List ℤ) (start : ℕ) (S : List ℕ) (j : �
 -- the steps, row by row: those of a row that are known are good
 pub record RowSteps (n m : ℕ) (C : List ℤ) (across : List ℕ) : Type 0 where
   pub some : 0 < n
-  pub few : n ≤ 128
+  pub few : n ≤ maxVariables
   pub matrix : m * n ≤ length C
   pub room : m * n ≤ length across
   pub right : (r : ℕ) → r < m → (getD across (r * n) 0 ≡ 0 → ⊥) → (j : ℕ) → j < n → GoodStep n C (r * n) across j

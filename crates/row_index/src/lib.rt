@@ -1,12 +1,13 @@
-// What is kept of the rows for later visits: the steps from each coefficient to the next that is not 0, row by row, and
-// the signs of the coefficients, column by column. Each row's steps and each column's signs are made where they are
-// first needed, so that a call that ends after its first pass pays for none. Both arrays are 0 at first; a step and a
-// sign never are.
+// What is kept of the rows until they are propagated again: the steps from each coefficient to the next that is not
+// 0, row by row, and the signs of the coefficients, column by column. Each row's steps and each column's signs are
+// made where they are first needed, so that a call that ends after its first pass pays for none. Both arrays are 0
+// at first; a step and a sign never are.
 ghost use mathlib.Core.Path.{_≡_};
 ghost use mathlib.Core.Logic.{_⊎_};
 ghost use Prim.Native.Nat.{ℕ, _*_, _+_, _<_, _≤_};
 ghost use lib.ListN.{length, getD};
 ghost use Rattle.model.specs.Box.{at};
+ghost use Rattle.model.specs.Limits.{maxVariables};
 ghost use Rattle.row_index.specs.Index.{ColumnSigns, GoodStep, RowSteps, signOf};
 
 // 1 above 0, 2 below, 3 for 0.
@@ -24,7 +25,7 @@ fn sign(a: i32) -> u8
 
 // Makes the steps of the row that starts at `start`, from its end.
 fn fill_steps(n: usize, coefs: &[i32], start: usize, across: &mut [u8])
-    requires { ⌜ (n ≤ 128) × (start + n ≤ length (now coefs)) × (start + n ≤ length (now across)) ⌝ }
+    requires { ⌜ (n ≤ maxVariables) × (start + n ≤ length (now coefs)) × (start + n ≤ length (now across)) ⌝ }
     ensures row { λ _. ⌜ ((j : ℕ) → j < n → GoodStep n (now (coefs .entry)) start (now (across .exit)) j) ⌝ }
     ensures others { λ _.
         ⌜ ((q : ℕ) → (q < start) ⊎ (start + n ≤ q) → getD (now (across .exit)) q 0 ≡ getD (now (across .entry)) q 0) ⌝ }

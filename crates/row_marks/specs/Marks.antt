@@ -1,5 +1,5 @@
 -- Which rows a pass may pass over: a row is clean, its mark 1, only if propagating it moves nothing. Its mark is 2 where it is dirty, and
--- 0 until it was visited first.
+-- 0 until it was propagated first.
 use Prim.Native.Nat.{_*_, _+_, _<_, _≤_, ℕ}
 use lib.Dec.{eqb}
 use lib.IntN.{ℤ}
@@ -51,7 +51,7 @@ pub record Remarks (n m : ℕ) (C : List ℤ) (signs steps : List ℕ) (start : 
 
 -- ---- a row is propagated
 
-pub record Visitable (n m : ℕ) (B : List ℤ) (A : Rows) (across signs : List ℕ) (seen : List ℤ) (marks : List ℕ) : Type 0 where
+pub record Propagable (n m : ℕ) (B : List ℤ) (A : Rows) (across signs : List ℕ) (seen : List ℤ) (marks : List ℕ) : Type 0 where
   pub valid : ValidModel (modelOf n m B A)
   pub nonEmpty : NonEmpty n B
   pub watched : Watched n m A B across signs seen marks

@@ -3,7 +3,7 @@
 // moved that it reads (`kinded-kept`: the other bounds of a smaller box only leave more room). A ≤ row reads the lower
 // bound where its coefficient is above 0 and the upper one where it is below; an = row, by its two forms, reads both.
 // So a clean row's answer, Unchanged, is exact. A row that read a moved bound is dirty, 2; 0 is a row that was not
-// visited yet.
+// propagated yet.
 ghost use mathlib.Core.Bool.{false, true};
 ghost use mathlib.Core.Path.{_≡_};
 ghost use Prim.Native.Nat.{ℕ, _*_, _+_, _<_, _≤_};

@@ -1,10 +1,12 @@
 // Tighten a coefficient (01's sharpen) of a row of a model that passed the checks, its box empty or not.
+use model::MAX_RHS;
 use row::tightening::CoefficientTightening;
 use row_activity::maximum_activity;
 ghost use mathlib.Core.Path.{_≡_};
 ghost use Prim.Native.Nat.{_<_};
 ghost use lib.ListN.{length};
 ghost use Rattle.integer.specs.Range.{Within};
+ghost use Rattle.model.specs.Limits.{coefSize};
 ghost use Rattle.row.specs.Answers.{tighteningOutcome};
 ghost use Rattle.row.specs.Tightening.{mayTighten};
 ghost use Rattle.row.specs.KindChanges.{tightenRowOf};
@@ -12,12 +14,12 @@ ghost use Rattle.model.specs.Rows.{rowWith};
 ghost use Rattle.row.specs.ValidRow.{ValidRow};
 
 // No right side is tightened to less (01: "it is not made if the new b is under −1,000,000,000").
-const MIN_RHS: i64 = -1_000_000_000;
+const MIN_RHS: i64 = -(MAX_RHS as i64);
 
 // The rule's test, for a row with the greatest activity `most`. Where it fails, tightening answers Unchanged
 // (`tighten-fails`), so a caller that knows `most` of a row need not have it found anew for each variable.
 pub fn may_tighten(a: i32, b: i32, most: i64) -> bool
-    requires { ⌜ Within 1000000 a ⌝ }
+    requires { ⌜ Within coefSize a ⌝ }
     requires { ⌜ Within 5000000000000 most ⌝ }
     ensures { λ r. ⌜ r ≡ mayTighten a most b ⌝ }
 {

@@ -19,7 +19,7 @@ use Rattle.semantics.specs.Books.{AllHold, boxed, callOn, fresh, freshKi
 use Rattle.semantics.specs.Call.{callOf, hasBudget, hasRow, hasTable, hasVariable, isRetired, isUnknown, kindOf, lengthsOf}
 use Rattle.semantics.specs.CallChecks.{callChecks, callFault, givenModel, isLent, lentTable, listedChecks, listedFault, recordChecks}
 use Rattle.semantics.specs.CallList.{callsMade, listChecks, listFault, recordAt, recordsFrom, recordsOf, runList, unretired}
-use Rattle.semantics.specs.Corners.{alike, behind, corners, deep, doubled, doubledForms, either, emptied, exact, exactPair, falling, later, laterNone, listed, neither, ofKind, restIn, spentSide, twice, unlent, unspent, wide, withLengths, withSizes}
+use Rattle.semantics.specs.Corners.{alike, behind, corners, deep, doubled, doubledForms, either, emptied, exact, exactPair, falling, fallingBehind, later, laterNone, listed, neither, ofKind, restIn, spentSide, twice, unlent, unspent, wide, withLengths, withSizes}
 use Rattle.semantics.specs.FixpointTest.{firstMoving, isFixpoint}
 use Rattle.semantics.specs.Lowest.{lowest}
 use Rattle.semantics.specs.Perform.{act, perform, performListed}
@@ -30,5 +30,5 @@ use Rattle.semantics.specs.Run.{answersNone, classListed, classOf, count
 use Rattle.semantics.specs.WorkedBooks.{binary2, chained, crossed, empty2, pair, single}
 
 pub corners-hold : AllHold corners
-unfolding corners behind lastLook later restIn restOf firstMoving firstUnspanned lowest chained crossed alike deep doubled doubledForms either emptied exact exactPair listed neither ofKind spentSide unlent unspent wide callsMade listChecks listFault recordAt recordsFrom recordsOf runList run withLengths withSizes modelChecks modelFault restFault answersNone classOf countCall isRefused noCounts probeInfeasible sameBytes sameState tally binary2 empty2 pair single boxed callOn removeCall kept fresh freshKinds probeCall rowed propagateCall tightenCall propagateRowCall callChecks callFault givenModel isLent lentTable recordChecks act perform byteOf fix hull implies isFixed joinSides literal probe put recordSide recordTo sideOf isNone isSpent passRow passTo propagate propagateFrom isFixpoint isProbingFixpoint sidesSpan step hasBudget hasRow hasTable hasVariable isUnknown kindOf lengthsOf stateOf splice setRow withBox withRow isInfeasible impliedBox newLower newUpper propagateRow stays removeRedundantRow zeroRow tightenAt tightenCoefficient maxActivity maxTerm minActivity minTerm rowOf bits first inRange lengthChecks boxChecks narrow numberChecks ordered sizeChecks tableByteChecks tableLengthChecks boxOf emptyBox isEmpty isFree sameList eqZ maxZ minZ all sum ceilDiv floorDiv falling laterNone twice differs movedBounds isEquality negated negatedCoefs andThen propagateRowOf removeRowOf tightenRowOf isChanged runListed stepListed unretired classListed refusalOf listedChecks listedFault performListed isRetired callOf
-corners-hold = (refl, (refl, (refl, (refl, (refl, (refl, (refl, (refl, (refl, (refl, (refl, (refl, (refl, (refl, (refl, (refl, (refl, (refl, (refl, (refl, (refl, (refl, (refl, (refl, (refl, (refl, (refl, (refl, (refl, (refl, (refl, (refl, (refl, (refl, (refl, (refl, (refl, (refl, (refl, (refl, (refl, (refl, (refl, (refl, (refl, (refl, (refl, (refl, (refl, (refl, (refl, (refl, (refl, (refl, (refl, (refl, (refl, (refl, (refl, (refl, (refl, (refl, (refl, (refl, (refl, (refl, (refl, (refl, (refl, (refl, (refl, (refl, (refl, (refl, (refl, (refl, (refl, (refl, (refl, (refl, (refl, (refl, (refl, (refl, (refl, (refl, (refl, (refl, (refl, (refl, (refl, (refl, (refl, (refl, (refl, (refl, (refl, (refl, (refl, (refl, (refl, (refl, (refl, (refl, (refl, (refl, (refl, (refl, (refl, (refl, (refl, (refl, (refl, (refl, (refl, (refl, (refl, (refl, (refl, (refl, (refl, (refl, (refl, (refl, (refl, (refl, (refl, (refl, (refl, (refl, (refl, (refl, (refl, (refl, (refl, (refl, (refl, (refl, (refl, (refl, (refl, (refl, (refl, (refl, (refl, (refl, (refl, (refl, (refl, (refl, (refl, (refl, (refl, (refl, (refl, (refl, (refl, (refl, (refl, (refl, (refl, (refl, (refl, (refl, (refl, (refl, (refl, (refl, (refl, (refl, (refl, (refl, (refl, (refl, (refl, (refl, (refl, tt)))))))))))))))))))))))))))))))))))))))))))))))))))))))))))))))))))))))))))))))))))))))))))))))))))))))))))))))))))))))))))))))))))))))))))))))))))))))))))))))))))))))))))))))))
+unfolding corners behind lastLook later restIn restOf firstMoving firstUnspanned lowest chained crossed alike deep doubled doubledForms either emptied exact exactPair listed neither ofKind spentSide unlent unspent wide callsMade listChecks listFault recordAt recordsFrom recordsOf runList run withLengths withSizes modelChecks modelFault restFault answersNone classOf countCall isRefused noCounts probeInfeasible sameBytes sameState tally binary2 empty2 pair single boxed callOn removeCall kept fresh freshKinds probeCall rowed propagateCall tightenCall propagateRowCall callChecks callFault givenModel isLent lentTable recordChecks act perform byteOf fix hull implies isFixed joinSides literal probe put recordSide recordTo sideOf isNone isSpent passRow passTo propagate propagateFrom isFixpoint isProbingFixpoint sidesSpan step hasBudget hasRow hasTable hasVariable isUnknown kindOf lengthsOf stateOf splice setRow withBox withRow isInfeasible impliedBox newLower newUpper propagateRow stays removeRedundantRow zeroRow tightenAt tightenCoefficient maxActivity maxTerm minActivity minTerm rowOf bits first inRange lengthChecks boxChecks narrow numberChecks ordered sizeChecks tableByteChecks tableLengthChecks boxOf emptyBox isEmpty isFree sameList eqZ maxZ minZ all sum ceilDiv floorDiv falling fallingBehind laterNone twice differs movedBounds isEquality negated negatedCoefs andThen propagateRowOf removeRowOf tightenRowOf isChanged runListed stepListed unretired classListed refusalOf listedChecks listedFault performListed isRetired callOf
+corners-hold = (refl, (refl, (refl, (refl, (refl, (refl, (refl, (refl, (refl, (refl, (refl, (refl, (refl, (refl, (refl, (refl, (refl, (refl, (refl, (refl, (refl, (refl, (refl, (refl, (refl, (refl, (refl, (refl, (refl, (refl, (refl, (refl, (refl, (refl, (refl, (refl, (refl, (refl, (refl, (refl, (refl, (refl, (refl, (refl, (refl, (refl, (refl, (refl, (refl, (refl, (refl, (refl, (refl, (refl, (refl, (refl, (refl, (refl, (refl, (refl, (refl, (refl, (refl, (refl, (refl, (refl, (refl, (refl, (refl, (refl, (refl, (refl, (refl, (refl, (refl, (refl, (refl, (refl, (refl, (refl, (refl, (refl, (refl, (refl, (refl, (refl, (refl, (refl, (refl, (refl, (refl, (refl, (refl, (refl, (refl, (refl, (refl, (refl, (refl, (refl, (refl, (refl, (refl, (refl, (refl, (refl, (refl, (refl, (refl, (refl, (refl, (refl, (refl, (refl, (refl, (refl, (refl, (refl, (refl, (refl, (refl, (refl, (refl, (refl, (refl, (refl, (refl, (refl, (refl, (refl, (refl, (refl, (refl, (refl, (refl, (refl, (refl, (refl, (refl, (refl, (refl, (refl, (refl, (refl, (refl, (refl, (refl, (refl, (refl, (refl, (refl, (refl, (refl, (refl, (refl, (refl, (refl, (refl, (refl, (refl, (refl, (refl, (refl, (refl, (refl, (refl, (refl, (refl, (refl, (refl, (refl, (refl, (refl, (refl, (refl, (refl, (refl, (refl, tt))))))))))))))))))))))))))))))))))))))))))))))))))))))))))))))))))))))))))))))))))))))))))))))))))))))))))))))))))))))))))))))))))))))))))))))))))))))))))))))))))))))))))))))))))

@@ -92,6 +92,15 @@ isRetired tightening = true
 isRetired removal = true
 isRetired unknown = false
 
+-- which kinds only narrow the box and add to the table: a visit, a settle, a probe
+unfoldable pub narrows : Kind → Bool
+narrows rowPropagation = true
+narrows propagation = true
+narrows probing = true
+narrows tightening = false
+narrows removal = false
+narrows unknown = false
+
 -- a call with the very n, m and buffer lengths of s; a field that the kind lacks is 0
 unfoldable pub callOf : State → ℕ → ℕ → ℕ → ℕ → Call
 callOf s kind row variable budget =

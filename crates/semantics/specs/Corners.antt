@@ -44,6 +44,11 @@ twice = fresh 1 2 (pos 0 ∷ pos 5 ∷ []) (pos 2 ∷ pos 1 ∷ []) (pos 9 ∷ p
 unfoldable pub falling : State
 falling = fresh 2 2 (pos 0 ∷ pos 5 ∷ pos 0 ∷ pos 5 ∷ []) (negsuc 0 ∷ pos 1 ∷ pos 2 ∷ pos 0 ∷ []) (pos 0 ∷ pos 5 ∷ [])
 
+-- the same behind x + y ≤ 10, a row that moves nothing
+unfoldable pub fallingBehind : State
+fallingBehind =
+    fresh 2 3 (pos 0 ∷ pos 5 ∷ pos 0 ∷ pos 5 ∷ []) (pos 1 ∷ pos 1 ∷ negsuc 0 ∷ pos 1 ∷ pos 2 ∷ pos 0 ∷ []) (pos 10 ∷ pos 0 ∷ pos 5 ∷ [])
+
 -- z − y ≤ 0 and x + y ≤ 1: at x = 1 the second row moves y, and the first z in the next pass
 unfoldable pub behind : State
 behind =
@@ -243,6 +248,8 @@ corners =
     -- pass; Spent where a row would, or would answer None
     ∷ is (perform falling (propagateCall falling 2)) (boxed falling (propagated converged 2 2) (pos 0 ∷ pos 2 ∷ pos 0 ∷ pos 2 ∷ []))
     ∷ is (perform laterNone (propagateCall laterNone 1)) (boxed laterNone (propagated budgetSpent 1 2) (pos 0 ∷ pos 2 ∷ pos 3 ∷ pos 5 ∷ []))
+    -- whichever row it is, the second too
+    ∷ is (perform fallingBehind (propagateCall fallingBehind 1)) (boxed fallingBehind (propagated budgetSpent 1 1) (pos 0 ∷ pos 2 ∷ pos 0 ∷ pos 5 ∷ []))
     ∷ (let s = exactPair (negsuc 1) (pos 1) (pos 0) binary2 in
     is (perform s (propagateCall s 1)) (boxed s (propagated budgetSpent 1 1) (pos 0 ∷ pos 0 ∷ pos 0 ∷ pos 1 ∷ [])))
     -- each side of a probe has its own: y ≤ x moves y at x = 0 only

@@ -4,7 +4,7 @@ use lib.Dec.{eqb}
 use lib.IntN.{pos, ℤ}
 use lib.ListN.{getD, set}
 use mathlib.Core.Bool.{Bool, _&&_, cond, false, not}
-use mathlib.Core.List.{List}
+use mathlib.Core.List.{List, [], _∷_}
 use Rattle.integer.specs.Order.{eqZ}
 unfoldable pub use Rattle.model.specs.Box.{hull}
 use Rattle.model.specs.Box.{boxOf, emptyBox, isEmpty, isFree, lower, upper}
@@ -29,6 +29,11 @@ byteOf n p q = p * (2 * n) + q
 pub record Table : Type 0 where
   pub bytes : List ℕ
   pub added : ℕ
+
+-- how many bytes of a table are 1
+unfoldable pub ones : List ℕ → ℕ
+ones [] = 0
+ones (x ∷ xs) = cond (eqb x 1) (suc (ones xs)) (ones xs)
 
 -- byte i becomes 1, and counts where it was 0
 unfoldable pub put : Table → ℕ → Table

@@ -7,9 +7,8 @@ use mathlib.Core.List.{List, [], _∷_}
 use Rattle.model.specs.State.{State}
 use Rattle.row.specs.Outcome.{changed, infeasible, unchanged}
 use Rattle.semantics.specs.Books.{Line, boxed, fresh, is, kept, probeCall, propagateCall, propagateRowCall, removeCall, rowed, tightenCall}
-use Rattle.semantics.specs.Demand2.{ones}
 use Rattle.semantics.specs.Perform.{perform, probed, propagated, propagatedRow, removed, tightened}
-use Rattle.semantics.specs.Probe.{fixed}
+use Rattle.semantics.specs.Probe.{fixed, ones}
 use Rattle.semantics.specs.Propagate.{converged}
 use Rattle.semantics.specs.RestTest.{isProbingFixpoint}
 use Rattle.semantics.specs.Run.{run}

@@ -1,2 +1,2 @@
-// What every call of the reducer does, by definition, and what follows of it: demands 1, 2 and 3 of the user. No code
-// stands here: specs/ has the definitions and the claims, a file each, and proofs/ the proofs.
+// What every call of the reducer does, by definition, with worked books and corner cases computed by it. No code stands
+// here: specs/ has the definitions and the tables, a file each, and proofs/ that every line of a table holds.

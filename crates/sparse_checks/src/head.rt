@@ -16,6 +16,7 @@ ghost use lib.ListN.{length};
 ghost use Rattle.model.specs.Checks.{first};
 ghost use Rattle.sparse_layout.specs.SparseBook.{rowStart};
 ghost use Rattle.sparse_layout.specs.SparseChecks.{sparseFrameChecks, sparseHeadChecks};
+ghost use Rattle.model.specs.Limits.{maxVariables};
 
 // Checks 3 and 4 of the trailer's bytes, 4 of the offsets only: the number of the first that fails, else 0.
 pub fn frame_fault(trailer: &[u8]) -> u32
@@ -40,7 +41,7 @@ pub fn frame_fault(trailer: &[u8]) -> u32
 // Whether the walk over m rows ends at `end`. It goes on only where a row's first 7 bytes lie before `end`, so it reads
 // nothing beyond, whatever the counts say.
 fn walk_ends(n: usize, m: usize, book: &[u8], end: usize) -> bool
-    requires { ⌜ (n ≤ 128) × (end ≤ length (now book)) × (end < 4_294_967_296) ⌝ }
+    requires { ⌜ (n ≤ maxVariables) × (end ≤ length (now book)) × (end < 4_294_967_296) ⌝ }
     ensures { λ r. ⌜ r ≡ eqb (rowStart n (now (book .entry)) m) end ⌝ }
 {
     let mut p = 8 * n;

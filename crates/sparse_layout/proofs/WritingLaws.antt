@@ -15,11 +15,11 @@ use Rattle.integer.proofs.Parts.{fits}
 use Rattle.integer.proofs.Tests.{test-false, test-true}
 use Rattle.model.specs.Box.{at}
 use Rattle.model.specs.Model.{Model, modelOf}
-use Rattle.model.specs.Rows.{Row, Rows, rowAt, rowOf, rowsOf}
+use Rattle.model.specs.Rows.{Row, Rows, rowAt, rowsOf}
 use Rattle.model.proofs.BitTests.{eq-bits}
 use Rattle.model.proofs.RowsLaws.{at-rowOf}
 use Rattle.bytes.specs.Bytes.{bytesOf, integerBytes}
-use Rattle.bytes.specs.Pieces.{joined, listOf, overwrite, part}
+use Rattle.bytes.specs.Pieces.{joined, listOf, overwrite}
 use Rattle.bytes.proofs.ByteLaws.{length-bytesOf, length-integerBytes}
 use Rattle.bytes.proofs.PieceLaws.{getD-listOf, length-listOf, length-overwrite, overwrite-next, overwrite-one}
 use Rattle.sparse_layout.specs.SparseBook.{columnAt, denseAt, entryBytes, entryOf, isZero, nonzeros, rowsLength, sparseLength, sparseRowBytes, sparseRowBytesAt, valueAt}
@@ -163,8 +163,3 @@ rows-rise n A m i h =
 pub rows-more : (n : ℕ) (A : Rows) (i : ℕ) → rowsLength n A (i + 1) ≡ rowsLength n A i + (7 + 6 * nonzeros n (at (rowAt n A i .coefs)))
 unfolding rowsLength
 rows-more n A i = let s : i + 1 ≡ suc i = omega arith in rw s
-
--- the part of the matrix that is lent for row i
-pub row-lent : (n : ℕ) (C : List ℤ) (i : ℕ) → part (i * n) (i * n + n - i * n) C ≡ rowOf n C i
-unfolding rowOf
-row-lent n C i = let e : i * n + n - i * n ≡ n = omega arith in rw e

@@ -13,6 +13,7 @@ use Rattle.model.specs.Rows.{Row, Rows, rowAt, rowWith, rowsOf}
 use Rattle.bytes.specs.Bytes.{bytesOf, integerAt, integerBytes, numberAt}
 use Rattle.bytes.specs.Pieces.{joined, listOf}
 use Rattle.book.specs.Book.{boundBytes, boundsOf, rows, trailerBytes, trailerOf, variables}
+use Rattle.model.specs.Limits.{maxRows, maxVariables}
 
 -- ---- the bytes of a model
 
@@ -76,8 +77,8 @@ rowStart n bs (suc i) = rowStart n bs i + (7 + 6 * countAt (rowStart n bs i) bs)
 
 -- bytes, of a length of 32 bits, within which the walk over m rows of n variables stays
 pub record HoldsRows (n m : ℕ) (bs : List ℕ) : Type 0 where
-  pub few : n ≤ 128
-  pub fewRows : m ≤ 120
+  pub few : n ≤ maxVariables
+  pub fewRows : m ≤ maxRows
   pub body : rowStart n bs m ≤ length bs
   pub short : length bs < 4_294_967_296
 

@@ -1,10 +1,13 @@
 // The bytes of sparse rows: a row's right side, kind and count, and an entry for each coefficient that is not 0.
 use bytes::write_i32;
 use bytes::write_u16;
+use matrix::coefficients;
 ghost use mathlib.Core.List.{[]};
 ghost use mathlib.Core.Path.{_≡_};
 ghost use Prim.Native.Nat.{_+_, _*_, _<_, _≤_};
 ghost use lib.ListN.{length};
+ghost use Rattle.model.specs.Limits.{maxRows, maxVariables};
+ghost use Rattle.bytes.specs.Bytes.{pairCount};
 ghost use Rattle.bytes.specs.Pieces.{joined, overwrite};
 ghost use Rattle.model.specs.Box.{at as nth};
 ghost use Rattle.model.specs.Model.{modelOf};
@@ -27,7 +30,7 @@ pub fn nonzeros(xs: &[i32]) -> usize
 
 // The length of the sparse book of n variables, m rows and these coefficients; the other numbers have no part in it.
 pub fn sparse_length(n: usize, m: usize, coefs: &[i32]) -> usize
-    requires { ⌜ (n ≤ 128) × (m ≤ 120) × (length (now coefs) ≡ m * n) ⌝ }
+    requires { ⌜ (n ≤ maxVariables) × (m ≤ maxRows) × (length (now coefs) ≡ m * n) ⌝ }
     ensures { λ r. ⌜ r ≡ sparseLength (modelOf n m [] (rowsOf (now (coefs .entry)) [] [])) ⌝ }
 {
     8 * n + (7 * m + 6 * nonzeros(coefs)) + 16
@@ -35,7 +38,7 @@ pub fn sparse_length(n: usize, m: usize, coefs: &[i32]) -> usize
 
 // Writes the entry of a column at `place`, if its coefficient is not 0, and answers where it ends.
 fn write_entry(book: &mut [u8], place: usize, column: usize, x: i32) -> usize
-    requires { ⌜ (place + length (entryOf column x) ≤ length (now book)) × (column < 65_536) ⌝ }
+    requires { ⌜ (place + length (entryOf column x) ≤ length (now book)) × (column < pairCount) ⌝ }
     ensures end { λ r. ⌜ r ≡ place + length (entryOf column x) ⌝ }
     ensures written { λ r. ⌜ now (book .exit) ≡ overwrite place (entryOf column x) (now (book .entry)) ⌝ }
 {
@@ -50,7 +53,7 @@ fn write_entry(book: &mut [u8], place: usize, column: usize, x: i32) -> usize
 // Writes an entry for each coefficient of a row that is not 0, one after the other from `place` on.
 fn write_entries(book: &mut [u8], place: usize, row: &[i32])
     requires { ⌜ (place + howMany (length (now row)) (nth (now row)) * 6 ≤ length (now book))
-        × (length (now row) ≤ 128) ⌝ }
+        × (length (now row) ≤ maxVariables) ⌝ }
     ensures { λ r.
         let R = now (row .entry) in
         ⌜ now (book .exit) ≡ overwrite place (joined (length R) (entryBytes (nth R))) (now (book .entry)) ⌝ }
@@ -66,7 +69,7 @@ fn write_entries(book: &mut [u8], place: usize, row: &[i32])
 // Writes a row from `place` on, and answers where it ends.
 fn write_row(book: &mut [u8], place: usize, row: &[i32], rhs: i32, kind: u8) -> usize
     requires { ⌜ (place + (7 + 6 * howMany (length (now row)) (nth (now row))) ≤ length (now book))
-        × (length (now row) ≤ 128) ⌝ }
+        × (length (now row) ≤ maxVariables) ⌝ }
     ensures end { λ r. ⌜ r ≡ place + (7 + 6 * howMany (length (now (row .entry))) (nth (now (row .entry)))) ⌝ }
     ensures written { λ r.
         let R = now (row .entry) in
@@ -82,7 +85,8 @@ fn write_row(book: &mut [u8], place: usize, row: &[i32], rhs: i32, kind: u8) -> 
 
 // Writes the rows one after the other from 8n on.
 pub fn write_rows(n: usize, coefs: &[i32], rhs: &[i32], kinds: &[u8], book: &mut [u8])
-    requires { ⌜ (n ≤ 128) × (length (now kinds) ≡ length (now rhs)) × (length (now coefs) ≡ length (now rhs) * n)
+    requires { ⌜ (n ≤ maxVariables) × (length (now kinds) ≡ length (now rhs))
+        × (length (now coefs) ≡ length (now rhs) * n)
         × (8 * n + rowsLength n (rowsOf (now coefs) (now rhs) (now kinds)) (length (now rhs)) ≤ length (now book)) ⌝ }
     ensures { λ r.
         let A = rowsOf (now (coefs .entry)) (now (rhs .entry)) (now (kinds .entry)) in
@@ -92,11 +96,9 @@ pub fn write_rows(n: usize, coefs: &[i32], rhs: &[i32], kinds: &[u8], book: &mut
     let mut p = 8 * n;
     let mut i = 0;
     while i < rhs.len() {
-        let start = i * n;
-        let end = start + n;
         let b = rhs[i];
         let kind = kinds[i];
-        p = write_row(book, p, &coefs[start..end], b, kind);
+        p = write_row(book, p, coefficients(n, coefs, i), b, kind);
         i += 1;
     }
 }

@@ -14,8 +14,8 @@ use Rattle.semantics.specs.Call.{Call, callOf, hasBudget, hasRow, hasVariable, 
 use Rattle.model.specs.State.{State, stateOf}
 use Rattle.model.specs.Checks.{first, modelChecks}
 use Rattle.model.specs.Valid.{ValidState}
-use Rattle.semantics.proofs.Accepted.{fault-listed-own}
-use Rattle.semantics.proofs.ListedLaws.{class-direct, class-listed-refused, listed-fault, step-direct}
+use Rattle.call_laws.proofs.Accepted.{fault-listed-own}
+use Rattle.demands.proofs.ListedLaws.{class-direct, class-listed-refused, listed-fault, step-direct}
 use Rattle.call.specs.FieldChecks.{budgetChecks, probeChecks, rowChecks, variableChecks}
 use Rattle.probe_step.proofs.AcceptedLaws.{Ran}
 

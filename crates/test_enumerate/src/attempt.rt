@@ -1,9 +1,6 @@
 // One call on a model, and whether the points agree with those of before.
-use crate::grid;
 use crate::lies::spoil;
 use crate::lies::spoil_before;
-use crate::models::boxes;
-use crate::models::put_model;
 use crate::moved;
 use crate::rooms::bounds_part;
 use crate::rooms::coefs_part;
@@ -11,15 +8,19 @@ use crate::rooms::kinds_part;
 use crate::rooms::rhs_part;
 use crate::rooms::row_count;
 use crate::rooms::table_part;
+use call::Call;
+use call::REMOVE_ROW;
 use rounds::RoundsAnswer;
-use test_support::made::DROP;
-use test_support::made::is_none;
-use test_support::made::make;
-use test_support::parts::bytes_part_mut;
+use test_one_call::made::is_infeasible;
+use test_one_call::made::make;
+use test_points::grid;
+use test_points::models::boxes;
+use test_points::models::put_model;
+use test_text::parts::bytes_part_mut;
 
-// What a call said: whether it answered None, and whether the number of bounds that it moved is right.
+// What a call said: whether the model is infeasible; and whether the number of bounds that it moved is right.
 struct Said {
-    none: bool,
+    infeasible: bool,
     moved: bool,
 }
 
@@ -32,17 +33,17 @@ fn say(
     rhs: &mut [i32],
     kinds: &mut [u8],
     table: &mut [u8],
-    call: [u32; 4],
+    call: Call,
     lie: u32,
 ) -> Said {
-    if call[0] <= DROP {
+    if call.kind <= REMOVE_ROW {
         let made = make(n, row_count(n), bounds, coefs, rhs, kinds, table, call);
         let mut room = [0i32; 8];
         let before = bounds_part(&mut room, n);
         boxes(before, code);
         spoil_before(lie, before);
         return Said {
-            none: is_none(made),
+            infeasible: is_infeasible(made),
             moved: moved::agrees(made, before, bounds),
         };
     }
@@ -57,17 +58,18 @@ fn say(
         8,
     ) else {
         return Said {
-            none: false,
+            infeasible: false,
             moved: true,
         };
     };
     Said {
-        none: true,
+        infeasible: true,
         moved: true,
     }
 }
 
-// Whether the points are those that were marked before, None is said of none, and each recorded implication holds.
+// Whether the points are those that were marked before, a model that is said to be infeasible has none, and each
+// recorded implication holds.
 pub fn agrees(
     n: usize,
     bounds: &[i32],
@@ -76,7 +78,7 @@ pub fn agrees(
     kinds: &[u8],
     table: &[u8],
     marks: &[u8],
-    none: bool,
+    infeasible: bool,
 ) -> bool {
     let mut room = [0u8; 1_296];
     let after = bytes_part_mut(&mut room, marks.len());
@@ -87,14 +89,14 @@ pub fn agrees(
     if grid::broken(bounds.len(), table, marks) != 0 {
         return false;
     }
-    if none {
+    if infeasible {
         return grid::marked(marks) == 0;
     }
     true
 }
 
 // One call on a fresh model, with a mistake put in: whether the points and the bounds moved agree.
-pub fn attempt(n: usize, code: usize, call: [u32; 4], marks: &[u8], lie: u32) -> bool {
+pub fn attempt(n: usize, code: usize, call: Call, marks: &[u8], lie: u32) -> bool {
     let mut box_room = [0i32; 8];
     let mut coef_room = [0i32; 12];
     let mut side_room = [0i32; 3];
@@ -117,6 +119,6 @@ pub fn attempt(n: usize, code: usize, call: [u32; 4], marks: &[u8], lie: u32) ->
             kinds,
             table,
             marks,
-            said.none || lie == 5,
+            said.infeasible || lie == 5,
         )
 }

@@ -1,9 +1,5 @@
 // Families of models, each with what was tried and what disagreed.
 use crate::attempt::attempt;
-use crate::grid;
-use crate::grid::counted;
-use crate::models;
-use crate::models::put_model;
 use crate::rooms::bounds_part;
 use crate::rooms::coefs_part;
 use crate::rooms::kinds_part;
@@ -11,9 +7,18 @@ use crate::rooms::marks_part;
 use crate::rooms::rhs_part;
 use crate::rooms::row_count;
 use crate::runs::ends_meet;
-use test_support::print::count;
-use test_support::print::line;
-use test_support::print::text;
+use call::Call;
+use call::PROBE;
+use call::PROPAGATE_ROW;
+use call::REMOVE_ROW;
+use call::TIGHTEN_COEFFICIENT;
+use test_points::grid;
+use test_points::grid::counted;
+use test_points::models;
+use test_points::models::put_model;
+use test_text::print::count;
+use test_text::print::line;
+use test_text::print::text;
 
 // A tally has these counts, in this order: models, their integer points, calls, calls that disagreed, pairs of
 // runs whose ends do not meet.
@@ -27,19 +32,21 @@ const WRONG: usize = 3;
 
 const APART: usize = 4;
 
-// Whether call c is one of a model's: a row or a variable that its kind lacks is 0.
-fn applies(n: usize, kind: u32, row: u32, variable: u32) -> bool {
-    if row as usize >= row_count(n) {
+// Whether a call is one of a model's: a row or a variable that its kind lacks is 0. A kind beyond them, the rounds, has
+// neither.
+fn applies(n: usize, call: Call) -> bool {
+    if call.row as usize >= row_count(n) {
         return false;
     }
-    if variable as usize >= n {
+    if call.variable as usize >= n {
         return false;
     }
+    let kind = call.kind;
     match kind {
-        1 | 5 => variable == 0,
-        2 | 6 => row == 0 && variable == 0,
-        3 => row == 0,
-        _ => true,
+        PROPAGATE_ROW | REMOVE_ROW => call.variable == 0,
+        PROBE => call.row == 0,
+        TIGHTEN_COEFFICIENT => true,
+        _ => call.row == 0 && call.variable == 0,
     }
 }
 
@@ -61,18 +68,20 @@ fn add(tally: &mut [usize; 5], place: usize, x: usize) {
 
 // Call c of a model, where it has such a call.
 fn one_call(n: usize, code: usize, marks: &[u8], lie: u32, c: u32, tally: &mut [usize; 5]) {
-    let kind = c % 6 + 1;
-    let row = c / 6 % 3;
-    let variable = c / 18;
-    if applies(n, kind, row, variable) {
-        let call = [kind, row, variable, budget_of(code)];
+    let call = Call {
+        kind: c % 6 + 1,
+        row: c / 6 % 3,
+        variable: c / 18,
+        budget: budget_of(code),
+    };
+    if applies(n, call) {
         let agreed = attempt(n, code, call, marks, lie);
         add(tally, CALLS, 1);
         add(tally, WRONG, counted(!agreed));
     }
 }
 
-// Settles and probes have 1 pass for every second model.
+// Propagations and probes have 1 pass for every second model.
 fn budget_of(code: usize) -> u32 {
     if code % 2 == 0 { 1_000 } else { 1 }
 }
@@ -162,8 +171,8 @@ pub fn families() {
 }
 
 // The same comparison over calls that leave something wrong: a right side lowered with a negative coefficient, an upper
-// bound cut, an upper bound moved out, an implication invented, None said, a bound that moved not counted, an = row
-// made a ≤ row.
+// bound cut, an upper bound moved out, an implication invented, infeasible said, a bound that moved not counted, an =
+// row made a ≤ row.
 pub fn lies() {
     family(b"lie 1", 2, 20_000, 1, false);
     family(b"lie 2", 2, 2_000, 2, false);

@@ -1,8 +1,10 @@
 // Mistakes put into what a call left, to see that they are found.
-use crate::models;
-use test_support::parts::lesser;
+use call::Call;
+use call::TIGHTEN_COEFFICIENT;
+use test_points::models;
+use test_text::parts::lesser;
 
-// Whether a coefficient is above what it was: after a sharpen only a negative one that was tightened is.
+// Whether a coefficient is above what it was: after a tightening only a negative one that was tightened is.
 fn is_raised(before: &[i32], coefs: &[i32]) -> bool {
     let len = lesser(before.len(), coefs.len());
     let mut i = 0;
@@ -15,13 +17,13 @@ fn is_raised(before: &[i32], coefs: &[i32]) -> bool {
     false
 }
 
-// The predecessor's mistake in a sharpen: the right side lowered with a negative coefficient, which
+// The predecessor's mistake in a tightening: the right side lowered with a negative coefficient, which
 // can only go from -2 to -1 here.
-fn lower(code: usize, call: [u32; 4], coefs: &[i32], rhs: &mut [i32]) {
-    if call[0] != 4 {
+fn lower(code: usize, call: Call, coefs: &[i32], rhs: &mut [i32]) {
+    if call.kind != TIGHTEN_COEFFICIENT {
         return;
     }
-    let row = call[1] as usize;
+    let row = call.row as usize;
     let mut before = [0i32; 12];
     let mut less = [0i32; 3];
     models::coefficients(&mut before, code);
@@ -56,7 +58,7 @@ fn clear_byte(kinds: &mut [u8]) {
 pub fn spoil(
     lie: u32,
     code: usize,
-    call: [u32; 4],
+    call: Call,
     bounds: &mut [i32],
     coefs: &[i32],
     rhs: &mut [i32],

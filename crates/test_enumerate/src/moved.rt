@@ -1,10 +1,10 @@
 // The bounds that a call says it moved, held against the bounds before and after it.
-use crate::grid::counted;
 use reducer::calls::ProbeAnswer;
 use reducer::calls::PropagateAnswer;
 use reducer::calls::PropagateRowAnswer;
-use test_support::made::Made;
-use test_support::parts::lesser;
+use test_one_call::made::Made;
+use test_points::grid::counted;
+use test_text::parts::lesser;
 use two_sides::Side;
 
 // How many bounds differ.

@@ -1,36 +1,67 @@
-// Two runs that part with the same model: visits, a settle and probes upwards, and probes, visits and a settle of one
-// pass downwards, until the rest call says yes.
+// Two runs that part with the same model: row by row, a propagation and probes upwards, and probes, row by row and a
+// propagation of one pass downwards, until the rest call says yes.
 use crate::attempt::agrees;
-use crate::models::put_model;
 use crate::rooms::bounds_part;
 use crate::rooms::coefs_part;
 use crate::rooms::kinds_part;
 use crate::rooms::rhs_part;
 use crate::rooms::row_count;
 use crate::rooms::table_part;
+use call::Call;
+use call::PROBE;
+use call::PROPAGATE;
+use call::PROPAGATE_ROW;
 use reducer::calls::RestAnswer;
 use rest_call::is_probing_fixpoint;
-use test_support::made::make;
-use test_support::parts::same_numbers;
+use test_one_call::made::make;
+use test_points::models::put_model;
+use test_text::parts::same_numbers;
+
+fn propagate_row(row: u32) -> Call {
+    Call {
+        kind: PROPAGATE_ROW,
+        row,
+        variable: 0,
+        budget: 0,
+    }
+}
+
+fn propagate(budget: u32) -> Call {
+    Call {
+        kind: PROPAGATE,
+        row: 0,
+        variable: 0,
+        budget,
+    }
+}
+
+fn probe(variable: u32, budget: u32) -> Call {
+    Call {
+        kind: PROBE,
+        row: 0,
+        variable,
+        budget,
+    }
+}
 
 // Call i of a sweep of eight. One whose row or variable is not there, or not free, is refused.
-fn sweep_call(i: u32, down: bool) -> [u32; 4] {
+fn sweep_call(i: u32, down: bool) -> Call {
     if down {
         if i < 4 {
-            return [3, 0, 3 - i, 500];
+            return probe(3 - i, 500);
         }
         if i < 7 {
-            return [1, 6 - i, 0, 0];
+            return propagate_row(6 - i);
         }
-        return [2, 0, 0, 1];
+        return propagate(1);
     }
     if i < 3 {
-        return [1, i, 0, 0];
+        return propagate_row(i);
     }
     if i == 3 {
-        return [2, 0, 0, 1_000];
+        return propagate(1_000);
     }
-    [3, 0, i - 4, 1_000]
+    probe(i - 4, 1_000)
 }
 
 fn sweep(

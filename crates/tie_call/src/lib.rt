@@ -14,6 +14,7 @@ ghost use Rattle.ties.specs.TieCall.{canTie, performTie, placesFit, says as say
 ghost use Rattle.ties.specs.TiedRun.{TieKeeps};
 ghost use Rattle.ties.specs.Ties.{tiedStateOf};
 ghost use Rattle.tied_row.specs.SmallRow.{SmallRows};
+ghost use Rattle.model.specs.Limits.{maxVariables};
 ghost use Rattle.tie_call.specs.TieAnswers.{performedTie};
 
 // Refused N, Tied, Same.
@@ -25,7 +26,7 @@ pub enum TieAnswer {
 
 // Whether no place of the list is above 2n (check 21).
 fn places_fit(n: usize, ties: &[u16]) -> bool
-    requires { ⌜ n ≤ 128 ⌝ }
+    requires { ⌜ n ≤ maxVariables ⌝ }
     ensures { λ r. ⌜ r ≡ placesFit n (now (ties .entry)) ⌝ }
 {
     let most = 2 * n;
@@ -77,7 +78,7 @@ fn tie_fault(
 
 // Whether the table says that k at 0 gives j at w and k at 1 gives j at 1 − w.
 fn says(n: usize, table: &[u8], k: usize, j: usize, w: usize) -> bool
-    requires { ⌜ ValidTable n (now table) × (n ≤ 128) ⌝ }
+    requires { ⌜ ValidTable n (now table) × (n ≤ maxVariables) ⌝ }
     requires { ⌜ (k < n) × (j < n) × (w < 2) ⌝ }
     ensures { λ r. ⌜ r ≡ saysOf n (now (table .entry)) k j w ⌝ }
 {
@@ -88,7 +89,7 @@ fn says(n: usize, table: &[u8], k: usize, j: usize, w: usize) -> bool
 
 // The w by which the table ties j to k: 0 where it says both, 2 where it says neither.
 fn value_said(n: usize, table: &[u8], k: usize, j: usize) -> u32
-    requires { ⌜ ValidTable n (now table) × (n ≤ 128) ⌝ }
+    requires { ⌜ ValidTable n (now table) × (n ≤ maxVariables) ⌝ }
     requires { ⌜ (k < n) × (j < n) ⌝ }
     ensures { λ r. ⌜ r ≡ valueSaid n (now (table .entry)) k j ⌝ }
 {
@@ -114,7 +115,7 @@ fn can_tie(
     j: usize,
     w: u32,
 ) -> bool
-    requires { ⌜ SmallRows n m (now coefs) (now rhs) × ((k < n) × (j < n)) ⌝ }
+    requires { ⌜ SmallRows n m (rowsOf (now coefs) (now rhs) []) × ((k < n) × (j < n)) ⌝ }
     requires { ⌜ (length (now bounds) ≡ 2 * n) × (length (now ties) ≡ n) ⌝ }
     ensures { λ r.
         let A = rowsOf (now (coefs .entry)) (now (rhs .entry)) [] in

@@ -18,13 +18,13 @@ use Rattle.model.specs.Rows.{Rows, rowOf, rowsOf, setRow, splice}
 use Rattle.model.specs.Valid.{ValidModel}
 use Rattle.model.proofs.RowsLaws.{at-rowOf, length-rowOf}
 use Rattle.row.proofs.RowLoops.{rhs-within, within-between}
-use Rattle.row_view.proofs.PartLaws.{row-changed-kept}
+use Rattle.matrix.proofs.PartLaws.{row-changed-kept}
 use Rattle.ties.specs.TiedRow.{tieCoefsTo, tieRhsTo, tieRowsTo}
 use Rattle.ties.proofs.TiedRowsLaws.{coefs-still, rhs-still, tieRows-lengths}
 use Rattle.tied_row.specs.SmallRow.{SmallRow, SmallRows}
 
--- the rows of a model that passed the checks
-pub valid-small : {M : Model} → ValidModel M → SmallRows (M .n) (M .m) (M .rows .coefs) (M .rows .rhs)
+-- the rows of a model that passed the checks; their kinds are not asked for
+pub valid-small : {M : Model} → ValidModel M → SmallRows (M .n) (M .m) (rowsOf (M .rows .coefs) (M .rows .rhs) [])
 valid-small v = record {
   coefsLen = v .coefsLen;
   rhsLen = v .rhsLen;
@@ -32,13 +32,19 @@ valid-small v = record {
   rhs = λ i. rhs-within (v .rhs i);
 }
 
-pub tied-lengths : {n m : ℕ} {C R : List ℤ} → SmallRows n m C R → (k j w i : ℕ) → i ≤ m
-    → (length (tieCoefsTo i n k j w C) ≡ m * n) × (length (tieRhsTo i n j w C R) ≡ m)
+pub tied-lengths : {n m : ℕ} {A : Rows} → SmallRows n m A → (k j w i : ℕ) → i ≤ m
+    → (length (tieCoefsTo i n k j w (A .coefs)) ≡ m * n) × (length (tieRhsTo i n j w (A .coefs) (A .rhs)) ≡ m)
 unfolding tieRowsTo
-tied-lengths {n} {m} {C} {R} v k j w i h =
-    let l = tieRows-lengths n m (rowsOf C R (replicate m 0)) k j w (v .coefsLen) (v .rhsLen) (length-replicate m 0) i h in (l .0, l .1)
+tied-lengths {n} {m} {A} v k j w i h =
+    let l = tieRows-lengths n m (rowsOf (A .coefs) (A .rhs) (replicate m 0)) k j w (v .coefsLen) (v .rhsLen) (length-replicate m 0) i h in (l .0, l .1)
 
-module _ {n m : ℕ} {C R : List ℤ} (v : SmallRows n m C R) (i : ℕ) (h : i < m) where
+module _ {n m : ℕ} {A : Rows} (v : SmallRows n m A) (i : ℕ) (h : i < m) where
+  abbrev C : List ℤ
+  C = A .coefs
+
+  abbrev R : List ℤ
+  R = A .rhs
+
   pub row-lies : (i * n + n ≤ length C) × (i < length R)
   row-lies = (rw (v .coefsLen) (omega (arith, mul-le-mul-right n h, suc-mul i n)), rw (v .rhsLen) h)
 

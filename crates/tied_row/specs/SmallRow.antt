@@ -7,16 +7,18 @@ use mathlib.Core.List.{List}
 use mathlib.Core.Path.{_≡_}
 use Rattle.integer.specs.Range.{Within}
 use Rattle.model.specs.Box.{at}
+use Rattle.model.specs.Limits.{coefSize, rhsSize}
+use Rattle.model.specs.Rows.{Rows}
 
 pub record SmallRow (A : List ℤ) (b : ℤ) (k j : ℕ) : Type 0 where
   pub variable : k < length A
   pub replaced : j < length A
-  pub coefs : (i : ℕ) → Within 1_000_000 (at A i)
-  pub rhs : Within 1_000_000_000 b
+  pub coefs : (i : ℕ) → Within coefSize (at A i)
+  pub rhs : Within rhsSize b
 
 -- the same of all rows
-pub record SmallRows (n m : ℕ) (C R : List ℤ) : Type 0 where
-  pub coefsLen : length C ≡ m * n
-  pub rhsLen : length R ≡ m
-  pub coefs : (i : ℕ) → Within 1_000_000 (at C i)
-  pub rhs : (i : ℕ) → Within 1_000_000_000 (at R i)
+pub record SmallRows (n m : ℕ) (A : Rows) : Type 0 where
+  pub coefsLen : length (A .coefs) ≡ m * n
+  pub rhsLen : length (A .rhs) ≡ m
+  pub coefs : (i : ℕ) → Within coefSize (at (A .coefs) i)
+  pub rhs : (i : ℕ) → Within rhsSize (at (A .rhs) i)

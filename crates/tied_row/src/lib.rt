@@ -1,5 +1,6 @@
 // Rows with j put as k (w = 0) or as 1 − k (w = 1), in place: one row, and all rows of a model that passed the checks
 // (02, C-19: "puts that into every row, zeroes j's column").
+use matrix::coefficients;
 use model::MAX_COEF;
 use model::MAX_RHS;
 ghost use mathlib.Core.Bool.{cond};
@@ -11,6 +12,7 @@ ghost use lib.IntN.{_-ℤ_};
 ghost use lib.ListN.{length, set};
 ghost use Rattle.integer.specs.Range.{Within};
 ghost use Rattle.model.specs.Box.{at};
+ghost use Rattle.model.specs.Limits.{coefSize, rhsSize};
 ghost use Rattle.model.specs.Model.{modelOf};
 ghost use Rattle.model.specs.Rows.{rowOf, rowsOf, splice};
 ghost use Rattle.ties.specs.TiedRow.{rowFits, rowsFit, tiedCoef, tiedCoefs, tiedRhs, tieCoefsTo, tieRhsTo};
@@ -18,7 +20,7 @@ ghost use Rattle.tied_row.specs.SmallRow.{SmallRow, SmallRows};
 
 // The coefficient of k: a_k + a_j, or a_k − a_j.
 fn tied_coef(w: u32, ak: i32, aj: i32) -> i32
-    requires { ⌜ Within 1000000 ak × Within 1000000 aj ⌝ }
+    requires { ⌜ Within coefSize ak × Within coefSize aj ⌝ }
     ensures { λ r. ⌜ r ≡ tiedCoef w ak aj ⌝ }
 {
     if w == 0 {
@@ -29,7 +31,7 @@ fn tied_coef(w: u32, ak: i32, aj: i32) -> i32
 
 // The right side: b, or b − a_j.
 fn tied_rhs(w: u32, aj: i32, b: i32) -> i32
-    requires { ⌜ Within 1000000 aj × Within 1000000000 b ⌝ }
+    requires { ⌜ Within coefSize aj × Within rhsSize b ⌝ }
     ensures { λ r. ⌜ r ≡ cond (eqb w 0) b (b -ℤ aj) ⌝ }
 {
     if w == 0 {
@@ -68,14 +70,12 @@ fn row_fits_at(n: usize, coefs: &[i32], rhs: &[i32], i: usize, k: usize, j: usiz
     requires { ⌜ SmallRow (rowOf n (now coefs) i) (at (now rhs) i) k j ⌝ }
     ensures { λ r. ⌜ r ≡ rowFits k j w (rowOf n (now (coefs .entry)) i) (at (now (rhs .entry)) i) ⌝ }
 {
-    let start = i * n;
-    let end = start + n;
-    row_fits(&coefs[start..end], rhs[i], k, j, w)
+    row_fits(coefficients(n, coefs, i), rhs[i], k, j, w)
 }
 
 // Whether every row's numbers stay within their limits. Nothing is written.
 pub fn rows_fit(n: usize, m: usize, coefs: &[i32], rhs: &[i32], k: usize, j: usize, w: u32) -> bool
-    requires { ⌜ SmallRows n m (now coefs) (now rhs) × ((k < n) × (j < n)) ⌝ }
+    requires { ⌜ SmallRows n m (rowsOf (now coefs) (now rhs) []) × ((k < n) × (j < n)) ⌝ }
     ensures { λ r. ⌜ r ≡ rowsFit k j w (modelOf n m [] (rowsOf (now (coefs .entry)) (now (rhs .entry)) [])) ⌝ }
 {
     let mut i = 0;
@@ -106,7 +106,7 @@ fn tie_row_at(n: usize, coefs: &mut [i32], rhs: &mut [i32], i: usize, k: usize, 
 
 // Puts it into every row.
 pub fn tie_rows(n: usize, m: usize, coefs: &mut [i32], rhs: &mut [i32], k: usize, j: usize, w: u32)
-    requires { ⌜ SmallRows n m (now coefs) (now rhs) × ((k < n) × (j < n)) ⌝ }
+    requires { ⌜ SmallRows n m (rowsOf (now coefs) (now rhs) []) × ((k < n) × (j < n)) ⌝ }
     ensures rows { λ r. ⌜ now (coefs .exit) ≡ tieCoefsTo m n k j w (now (coefs .entry)) ⌝ }
     ensures sides { λ r. ⌜ now (rhs .exit) ≡ tieRhsTo m n j w (now (coefs .entry)) (now (rhs .entry)) ⌝ }
 {

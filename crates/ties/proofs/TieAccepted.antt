@@ -12,7 +12,7 @@ use Rattle.integer.proofs.Tests.{all-three, eqb-test, leb-test, ltb-test}
 use Rattle.model.specs.Checks.{modelFault, must, table}
 use Rattle.model.proofs.CheckLaws.{first-none, first-zero-append, fits-table-fault-none}
 use Rattle.semantics.specs.Call.{lengthsOf}
-use Rattle.semantics.proofs.Accepted.{numbered-model}
+use Rattle.call_laws.proofs.Accepted.{numbered-model}
 use Rattle.ties.specs.TieCall.{TieCall, givenModelTie, isLentTie, placesCheck, placesFit, tieChecks, tieFault, tieOwnChecks, tiesFault}
 use Rattle.ties.specs.Ties.{TiedState, ValidTiedState, ValidTies}
 

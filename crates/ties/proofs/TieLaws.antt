@@ -17,8 +17,8 @@ use Rattle.integer.proofs.Tests.{and-l, and-r, cond-ind, neqb→ne}
 use Rattle.model.specs.Box.{at, isFree}
 use Rattle.model.proofs.BoxLaws.{free-lower, free-upper}
 use Rattle.model.proofs.PointLaws.{integer-fractional}
-use Rattle.semantics.specs.Points.{ImplicationHolds, LiteralTrue, Recorded, TableHolds}
 use Rattle.semantics.specs.Probe.{byteOf, literal}
+use Rattle.call_laws.specs.Points.{ImplicationHolds, LiteralTrue, Recorded, TableHolds}
 use Rattle.ties.specs.TieCall.{TiePerformed, canTie, placeOf, says, saysByte, tie, tieState, tieWith}
 use Rattle.ties.specs.TiedRow.{rowsFit, tieTo}
 use Rattle.ties.specs.Ties.{TieHoldsOver, TiedFractional, TiedPoint, TiedState, TiesHoldOver, ValidTiedState, linked}

@@ -21,8 +21,8 @@ use Rattle.model.specs.Valid.{Between}
 use Rattle.model.proofs.BoxLaws.{free-lower, isEmpty-bounds, isEmpty-test}
 use Rattle.model.proofs.CheckLaws.{between-test}
 use Rattle.model.proofs.RowsLaws.{at-rowOf, length-rowOf}
-use Rattle.semantics.specs.Points.{Recorded}
 use Rattle.semantics.specs.Probe.{byteOf, literal}
+use Rattle.call_laws.specs.Points.{Recorded}
 use Rattle.ties.specs.TieCall.{TieAnswer, TieCall, TiePerformed, canTie, performTie, placeOf, refused, same, says, saysByte, tie, tieState, tieWith, tied}
 use Rattle.ties.specs.TieMeans.{Demand2Tie, Says, Tied, TieMeans, Ties, newCoef, newRhs}
 use Rattle.ties.specs.TiedRow.{rowFits, rowsFit, tieRowsTo, tieTo, tiedCoef, tiedCoefs, tiedRhs}

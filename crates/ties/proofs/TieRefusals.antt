@@ -13,7 +13,7 @@ use Rattle.model.specs.Places.{place}
 use Rattle.model.proofs.BoxLaws.{isEmpty-test}
 use Rattle.model.proofs.CheckLaws.{bits-test, inRange-test, length-test, narrow-test, numbered, size-test}
 use Rattle.model.proofs.PlaceLaws.{AllPass, placedFrom}
-use Rattle.semantics.proofs.Demand1.{all-pass, also, none-passes, number-iff, order-test}
+use Rattle.demands.proofs.Demand1.{all-pass, also, none-passes, number-iff, order-test}
 use Rattle.ties.specs.TieCall.{TieAnswer, TieCall, TiePerformed, canTie, givenModelTie, isLentTie, performTie, refused, says, tie, tieChecks, tieFault, tieOwnChecks, tieWith}
 use Rattle.ties.specs.TieRefusals.{Demand1Tie, TieLengthsFit, TiePasses, isRefusedTie}
 use Rattle.ties.specs.Ties.{TiedState}

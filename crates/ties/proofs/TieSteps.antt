@@ -12,7 +12,7 @@ use Rattle.model.specs.Rows.{rowsOf}
 use Rattle.model.specs.State.{stateOf}
 use Rattle.model.proofs.CheckLaws.{first-append}
 use Rattle.semantics.specs.Call.{lengthsOf}
-use Rattle.semantics.proofs.Accepted.{numbered-model}
+use Rattle.call_laws.proofs.Accepted.{numbered-model}
 use Rattle.ties.specs.TieCall.{TieCall, TiePerformed, canTie, givenModelTie, isLentTie, performTie, placeOf, refused, same, says, tie, tieCallOf, tieChecks, tieFault, tieOwnChecks, tieState, tieWith, tied, valueSaid}
 use Rattle.ties.specs.TiedRow.{tieCoefsTo, tieRhsTo, tieRowsTo, tieTo}
 use Rattle.ties.specs.Ties.{TiedState, tiedStateOf}

@@ -8,9 +8,9 @@ use Rattle.integer.proofs.Tests.{cond-ind}
 use Rattle.model.specs.State.{State}
 use Rattle.model.specs.Valid.{ValidState}
 use Rattle.semantics.specs.CallList.{callsMade, runList}
-use Rattle.semantics.proofs.CallLaws.{NarrowedTo}
-use Rattle.semantics.proofs.CallLists.{list-made, list-narrows}
-use Rattle.semantics.proofs.Demand3.{narrowed-trans, run-narrowed, same-end, step-narrowed, unchanged-narrowed}
+use Rattle.call_laws.proofs.CallLaws.{NarrowedTo}
+use Rattle.demands.proofs.CallLists.{list-made, list-narrows}
+use Rattle.demands.proofs.Demand3.{narrowed-trans, run-narrowed, same-end, step-narrowed, unchanged-narrowed}
 use Rattle.ties.specs.TieCall.{TieCall, TiePerformed, performTie, tieFault}
 use Rattle.ties.specs.TiedRun.{KeepsTied, TiedCall, listed, other, runTied, stepTied, ties}
 use Rattle.ties.specs.TiedRuns.{Demand3Tied, Demand3TiedLists, NarrowsTied}

@@ -6,13 +6,13 @@ use mathlib.Core.List.{List, [], _∷_}
 use mathlib.Core.Path.{_∙_, _≡_, refl, subst, sym}
 use Rattle.integer.proofs.Tests.{cond-ind}
 use Rattle.model.specs.State.{State}
-use Rattle.semantics.specs.Points.{TableHolds}
 use Rattle.semantics.specs.Run.{step}
 use Rattle.semantics.specs.CallList.{runList}
-use Rattle.semantics.proofs.Accepted.{handed-in-valid}
-use Rattle.semantics.proofs.CallLists.{list-preserves}
-use Rattle.semantics.proofs.ImplicationLaws.{zeros-hold}
-use Rattle.semantics.proofs.Preserved.{Preserves, step-preserves}
+use Rattle.call_laws.specs.Points.{TableHolds}
+use Rattle.call_laws.proofs.ImplicationLaws.{zeros-hold}
+use Rattle.call_laws.proofs.Preserved.{Preserves, step-preserves}
+use Rattle.demands.proofs.Demand3.{handed-in-valid}
+use Rattle.demands.proofs.CallLists.{list-preserves}
 use Rattle.ties.specs.TieCall.{TieCall, TiePerformed, performTie, tie, tieFault, tieState}
 use Rattle.ties.specs.TiedRow.{tieTo}
 use Rattle.ties.specs.TiedRun.{AnyTable, FilledFromEmpty, HandedInTied, KeepsTied, TieKeeps, TiedCall, listed, other, runTied, stepTied, ties}

@@ -17,8 +17,8 @@ use Rattle.model.specs.Rows.{Row, Rows, rowAt, rowOf, rowsOf, setRow, splice}
 use Rattle.model.specs.State.{State, withRow}
 use Rattle.model.specs.Valid.{ValidModel}
 use Rattle.model.proofs.RowsLaws.{length-rowOf, setRow-length, setRow-other, setRow-row}
-use Rattle.semantics.specs.Points.{FractionalPointOf}
-use Rattle.semantics.proofs.RowChange.{row-valid, withRow-valid}
+use Rattle.call_laws.specs.Points.{FractionalPointOf}
+use Rattle.call_laws.proofs.RowChange.{row-valid, withRow-valid}
 use Rattle.ties.specs.TiedRow.{rowFits, rowsFit, tieCoefsTo, tieRhsTo, tieRowsTo, tieTo, tiedCoef, tiedCoefs, tiedRhs, tiedRow}
 use Rattle.ties.specs.Ties.{linked}
 use Rattle.ties.proofs.TiedRowLaws.{tied-row, tied-valid}

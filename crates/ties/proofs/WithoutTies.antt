@@ -8,10 +8,10 @@ use mathlib.Core.Path.{_≡_, refl}
 use native.Mathlib.Omega.{arith}
 use Rattle.model.specs.State.{State}
 use Rattle.semantics.specs.Call.{Call}
-use Rattle.semantics.specs.Points.{PointOf}
 use Rattle.semantics.specs.Run.{run, step}
-use Rattle.semantics.specs.TwoRuns.{Demand3, HandedIn, Narrows}
-use Rattle.semantics.proofs.ImplicationLaws.{getD-zeros}
+use Rattle.call_laws.specs.Points.{PointOf}
+use Rattle.call_laws.proofs.ImplicationLaws.{getD-zeros}
+use Rattle.demands.specs.TwoRuns.{Demand3, HandedIn, Narrows}
 use Rattle.ties.specs.TiedRun.{HandedInTied, TiedCall, other, runTied, stepTied}
 use Rattle.ties.specs.TiedRuns.{Demand3Tied, NarrowsTied}
 use Rattle.ties.specs.Ties.{TieHoldsOver, TiedPoint, TiedState, TiesHoldOver}

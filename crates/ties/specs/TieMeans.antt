@@ -12,7 +12,7 @@ use Rattle.model.specs.Limits.{maxCoef, maxRhs, minCoef, minRhs}
 use Rattle.model.specs.Model.{Model}
 use Rattle.model.specs.Rows.{rowOf}
 use Rattle.model.specs.Valid.{Between}
-use Rattle.semantics.specs.Points.{Recorded, TableHolds}
+use Rattle.call_laws.specs.Points.{Recorded, TableHolds}
 use Rattle.ties.specs.TieCall.{TieCall, TiePerformed, performTie, placeOf, same, tied, tieFault}
 use Rattle.ties.specs.TiedRow.{tiedCoef, tiedRhs}
 use Rattle.ties.specs.Ties.{TiedFractional, TiedPoint, TiedState, ValidTiedState}

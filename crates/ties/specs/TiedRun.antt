@@ -6,9 +6,9 @@ use mathlib.Core.Logic.{_↔_}
 use mathlib.Core.Path.{_≡_}
 use Rattle.semantics.specs.Call.{Call}
 use Rattle.semantics.specs.CallList.{runList}
-use Rattle.semantics.specs.Points.{TableHolds}
 use Rattle.semantics.specs.Run.{step}
-use Rattle.semantics.specs.TwoRuns.{HandedIn}
+use Rattle.call_laws.specs.Points.{TableHolds}
+use Rattle.demands.specs.TwoRuns.{HandedIn}
 use Rattle.ties.specs.TieCall.{TieCall, performTie, tiesFault}
 use Rattle.ties.specs.Ties.{TiedFractional, TiedPoint, TiedState, ValidTiedState}
 

@@ -7,10 +7,9 @@ use lib.IntN.{ℤ}
 use mathlib.Core.List.{List, [], _∷_}
 use mathlib.Core.Logic.{_↔_}
 use mathlib.Core.Path.{_≡_}
-use Rattle.semantics.specs.Call.{kindOf}
+use Rattle.semantics.specs.Call.{kindOf, narrows}
 use Rattle.semantics.specs.CallChecks.{callFault}
-use Rattle.semantics.specs.Points.{AtRest, TableHolds}
-use Rattle.semantics.specs.TwoRuns.{narrows}
+use Rattle.call_laws.specs.Points.{AtRest, TableHolds}
 use Rattle.ties.specs.TieCall.{tieFault}
 use Rattle.ties.specs.TiedRun.{HandedInTied, TiedCall, listed, other, runTied, stepTied, ties}
 use Rattle.ties.specs.Ties.{TiedPoint, TiedState}

@@ -10,7 +10,7 @@ use Rattle.model.specs.Box.{at}
 use Rattle.model.specs.Rows.{Rows}
 use Rattle.model.specs.State.{State, stateOf}
 use Rattle.model.specs.Valid.{ValidState}
-use Rattle.semantics.specs.Points.{FractionalPointOf, PointOf}
+use Rattle.call_laws.specs.Points.{FractionalPointOf, PointOf}
 
 -- what j is where it is 1 just when variable k is v, at the point x / d: "j equals k .. or 1 − k", k itself at v = 1, 1 − k at v = 0
 unfoldable pub linked : ℕ → ℕ → List ℤ → ℕ → ℤ

@@ -11,7 +11,7 @@ use native.Mathlib.Numerals.{add-one}
 use native.Mathlib.Omega.{arith}
 use Rattle.model.specs.Box.{isFree}
 use Rattle.semantics.specs.Probe.{Table, byteOf, implies, isFixed, literal, put, recordSide, recordTo}
-use Rattle.semantics.proofs.ImplicationLaws.{byte-lt}
+use Rattle.call_laws.proofs.ImplicationLaws.{byte-lt}
 use Rattle.two_sides.specs.Results.{Recordable, tableOf}
 
 -- the byte of an implication, as the code computes its index

@@ -1,7 +1,6 @@
 -- Laws of the rows' turn: an accepted call can hold its proposals against the next row, and each is then judged by one row more.
-use Prim.Native.Nat.{_*_, _+_, _-_, _<_, ℕ}
+use Prim.Native.Nat.{_+_, _<_, ℕ}
 use lib.IntN.{ℤ}
-use lib.ListN.{drop, take}
 use mathlib.Core.List.{List}
 use mathlib.Core.Path.{_∙_, _≡_, sym}
 use native.Mathlib.Omega.{arith}
@@ -13,9 +12,8 @@ use Rattle.model.specs.Valid.{ValidModel}
 use Rattle.model.proofs.RowsLaws.{length-rowOf}
 use Rattle.row.proofs.RowLoops.{coefs-small}
 use Rattle.row_index.proofs.IndexLoops.{line-end}
-use Rattle.matrix_view.specs.RowIn.{RowIn, StepsIn}
-use Rattle.semantics.proofs.RowChange.{row-valid}
-use Rattle.sweep.specs.Steps.{Steps}
+use Rattle.matrix_view.specs.RowIn.{RowIn}
+use Rattle.call_laws.proofs.RowChange.{row-valid}
 use Rattle.proposals.specs.Call.{allocationFault}
 use Rattle.proposals.proofs.CallLaws.{accepted}
 use Rattle.proposals.specs.Holding.{Judgeable, Lent, Pending}
@@ -24,11 +22,6 @@ use Rattle.proposals.specs.Telling.{Tells, held}
 use Rattle.proposals.specs.Verdict.{meets, rowMet, verdictBy}
 use Rattle.proposals.proofs.VerdictLaws.{inBox-test, inside-by, inside-case}
 use Rattle.proposals.proofs.HeldLaws.{held-verdict, inside-small}
-
--- the part that is lent as the steps of row i
-pub lent-steps : {n : ℕ} {C A : List ℤ} {across : List ℕ} (i : ℕ) → A ≡ rowOf n C i → StepsIn n C across i
-    → Steps n A (take (i * n + n - i * n) (drop (i * n) across))
-lent-steps {n} i e s = let k : i * n + n - i * n ≡ n = omega arith in rw (k, e) (s .good)
 
 -- an accepted call
 pub judgeable : (M : Model) (P : List ℤ) (count : ℕ) (Y : List ℕ) → allocationFault M P count Y ≡ 0 → Judgeable M count P Y

@@ -1,12 +1,15 @@
 // All proposals: against the box, and then against one row after the other. A verdict is told in two numbers, and is
 // open as long as the first is 0.
+use matrix::coefficients;
+use matrix::row_bytes;
 use one_proposal::first_outside;
-use one_proposal::line;
 use one_proposal::meets_row;
+use one_proposal::proposal_at;
 use row_index::know_steps;
 ghost use mathlib.Core.Path.{_≡_};
 ghost use Prim.Native.Nat.{ℕ, _*_, _+_, _<_, _≤_};
 ghost use lib.ListN.{getD, length};
+ghost use Rattle.model.specs.Limits.{maxRows, maxVariables};
 ghost use Rattle.model.specs.Model.{modelOf};
 ghost use Rattle.model.specs.Rows.{rowAt, rowOf, rowWith, rowsOf};
 ghost use Rattle.row_index.specs.Index.{RowSteps};
@@ -34,7 +37,7 @@ fn tell(verdicts: &mut [u32], c: usize, case: u32, number: u32)
 
 // Holds proposal c, whose numbers are x, against the box.
 fn hold_box(n: usize, bounds: &[i32], x: &[i32], c: usize, verdicts: &mut [u32])
-    requires { ⌜ (n ≤ 128) × (length (now bounds) ≡ 2 * n) × (length (now x) ≡ n) ⌝ }
+    requires { ⌜ (n ≤ maxVariables) × (length (now bounds) ≡ 2 * n) × (length (now x) ≡ n) ⌝ }
     requires { ⌜ 2 * c + 1 < length (now verdicts) ⌝ }
     ensures { λ _.
         let v = boxVerdict n (now (bounds .entry)) (now (x .entry)) in
@@ -57,7 +60,7 @@ fn hold_boxes(n: usize, bounds: &[i32], count: usize, proposals: &[i32], verdict
 {
     let mut c = 0;
     while c < count {
-        hold_box(n, bounds, line(n, proposals, c), c, verdicts);
+        hold_box(n, bounds, proposal_at(n, proposals, c), c, verdicts);
         c += 1;
     }
 }
@@ -111,7 +114,16 @@ fn hold_row(
 {
     let mut c = 0;
     while c < count {
-        hold_one(coefs, steps, b, kind, i, line(n, proposals, c), c, verdicts);
+        hold_one(
+            coefs,
+            steps,
+            b,
+            kind,
+            i,
+            proposal_at(n, proposals, c),
+            c,
+            verdicts,
+        );
         c += 1;
     }
 }
@@ -129,7 +141,7 @@ fn hold_row_at(
     verdicts: &mut [u32],
 )
     requires { let A = rowsOf (now coefs) (now rhs) (now kinds) in
-        ⌜ (i ≤ 120) × RowIn n A i × StepsIn n (now coefs) (now across) i ⌝ }
+        ⌜ (i ≤ maxRows) × RowIn n A i × StepsIn n (now coefs) (now across) i ⌝ }
     requires { ⌜ Pending n count (rowOf n (now coefs) i) (now proposals) (now verdicts) ⌝ }
     ensures { λ _.
         let r = rowAt n (rowsOf (now (coefs .entry)) (now (rhs .entry)) (now (kinds .entry))) i in
@@ -137,12 +149,10 @@ fn hold_row_at(
         ⌜ ((f : ℕ → Verdict) → Tells count f (now (verdicts .entry)) →
         Tells count (λ c. held i (meets n r (proposal n P c)) (f c)) (now (verdicts .exit))) ⌝ }
 {
-    let start = i * n;
-    let end = start + n;
     hold_row(
         n,
-        line(n, coefs, i),
-        &across[start..end],
+        coefficients(n, coefs, i),
+        row_bytes(n, across, i),
         rhs[i],
         kinds[i],
         i as u32,

@@ -5,7 +5,7 @@ use lib.Seq.{length-take-le}
 use mathlib.Core.Path.{_∙_, _≡_, ap, subst, sym}
 use native.Mathlib.Omega.{arith}
 use Rattle.report.specs.Report.{refusedLine}
-use Rattle.allocation_input.specs.Answers.{Answers, Judged}
+use Rattle.allocation_input.specs.Judging.{Answers, Judged}
 use Rattle.allocation_input.specs.Output.{inputVerdict, output}
 use Rattle.allocation_input.specs.declared.Answer.{Answer}
 use Rattle.allocation_input.proofs.InputLaws.{held-whole}

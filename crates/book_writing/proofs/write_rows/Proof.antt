@@ -11,12 +11,13 @@ use native.Mathlib.Omega.{arith}
 use Rattle.model.specs.Box.{at}
 use Rattle.model.specs.Rows.{rowAt, rowOf, rowsOf}
 use Rattle.model.proofs.RowsLaws.{at-rowOf}
+use Rattle.matrix.proofs.PartLaws.{part-length}
 use Rattle.book.specs.Book.{rowBytes, rowBytesAt, rowPlace}
 use Rattle.bytes.specs.Bytes.{integerBytes, integersBytes}
-use Rattle.bytes.specs.Pieces.{joined, overwrite, part}
+use Rattle.bytes.specs.Pieces.{joined, overwrite}
 use Rattle.bytes.proofs.ByteLaws.{integersBytes-part, length-integerBytes}
 use Rattle.book.proofs.EncodeLaws.{length-rowBytes, row-within}
-use Rattle.bytes.proofs.PieceLaws.{joined-cong, length-joined, length-part, overwrite-next, overwrite-start, overwrite-turn, piece-within}
+use Rattle.bytes.proofs.PieceLaws.{joined-cong, length-joined, overwrite-next, overwrite-start, overwrite-turn, piece-within}
 use Rattle.book_writing.proofs.write_rows.Statement.{statement}
 use Rattle.book_writing.proofs.write_rows.Tie as tie
 
@@ -45,34 +46,10 @@ inside c =
     let h : i < m = omega arith in
     omega (arith, row-within (a .n) m i h, piece-within m (a .n) i h)
 
--- the part lent has the row's coefficients
-lent-length : (c : tie.After-row-place Inv-loop μ-loop)
-    → let a = c .before .before .before .before .args in
-    let k = c .before .before .loop .i * a .n in
-    length (part k (k + a .n - k) (a .coefs .now)) ≡ a .n
-lent-length c =
-    let a = c .before .before .before .before .args in
-    let k = c .before .before .loop .i * a .n in
-    let e : k + a .n - k ≡ a .n = omega arith in
-    rw e (length-part k (a .n) (a .coefs .now) (omega (arith, inside c)))
-
--- the bytes of the row's coefficients
-lent-bytes : (c : tie.After-row-place Inv-loop μ-loop)
-    → let a = c .before .before .before .before .args in
-    let k = c .before .before .loop .i * a .n in
-    integersBytes (part k (k + a .n - k) (a .coefs .now)) ≡ joined (a .n) (λ j. integerBytes (at (rowOf (a .n) (a .coefs .now) (c .before .before .loop .i)) j))
-lent-bytes c =
-    let a = c .before .before .before .before .args in
-    let k = c .before .before .loop .i * a .n in
-    let e : k + a .n - k ≡ a .n = omega arith in
-    rw e (integersBytes-part k (a .n) (a .coefs .now) (omega (arith, inside c))
-    ∙ joined-cong (a .n) _ _ (λ j h. ap integerBytes (sym (at-rowOf (a .n) (a .coefs .now) (c .before .before .loop .i) j h))))
-
-mul-start : tie.Need-mul-start Inv-loop μ-loop
-mul-start c = omega (arith, inside c)
-
-add-end : tie.Need-add-end Inv-loop μ-loop
-add-end c = omega (arith, inside c)
+-- the bytes of row i's coefficients
+row-bytes : (n i : ℕ) (C : List ℤ) → i * n + n ≤ length C → integersBytes (rowOf n C i) ≡ joined n (λ j. integerBytes (at (rowOf n C i) j))
+unfolding rowOf
+row-bytes n i C h = integersBytes-part (i * n) n C h ∙ joined-cong n _ _ (λ j k. ap integerBytes (sym (at-rowOf n C i j k)))
 
 mul-write-i32 : tie.Need-mul-write-i32 Inv-loop μ-loop
 mul-write-i32 c = omega arith
@@ -86,23 +63,19 @@ write-i32-requires c κs = omega (arith, inside (c .before .before))
 add-write-integers : tie.Need-add-write-integers Inv-loop μ-loop
 add-write-integers c = omega (arith, inside (c .before .before .before .before .before .before))
 
-mul-write-integers : tie.Need-mul-write-integers Inv-loop μ-loop
-mul-write-integers c = omega (arith, inside (c .before .before .before .before .before .before))
+coefficients-requires : tie.Need-coefficients-requires Inv-loop μ-loop
+coefficients-requires c κs = omega (arith, inside (c .before .before .before .before .before .before))
 
-sub-write-integers : tie.Need-sub-write-integers Inv-loop μ-loop
-sub-write-integers c = omega arith
-
-part-write-integers-start : tie.Need-part-write-integers-start Inv-loop μ-loop
-part-write-integers-start c = omega arith
-
-part-write-integers-end : tie.Need-part-write-integers-end Inv-loop μ-loop
-part-write-integers-end c = omega (arith, inside (c .before .before .before .before .before .before))
-
-abbrev row-of : tie.After-write-integers-arg2 Inv-loop μ-loop → tie.After-row-place Inv-loop μ-loop
+abbrev row-of : tie.After-coefficients Inv-loop μ-loop → tie.After-row-place Inv-loop μ-loop
 row-of c = c .before .before .before .before .before .before .before
 
 write-integers-requires : tie.Need-write-integers-requires Inv-loop μ-loop
-write-integers-requires c κs = omega (arith, inside (row-of c), lent-length (row-of c))
+write-integers-requires c κs =
+    let d = row-of c in
+    let a = d .before .before .before .before .args in
+    let i = d .before .before .loop .i in
+    let long = ap length (c .coefficients .ensures) ∙ part-length i (a .n) (a .coefs .now) (inside d .1) in
+    omega (arith, inside d, long)
 
 add-i : tie.Need-add-i Inv-loop μ-loop
 add-i c = omega arith
@@ -132,7 +105,7 @@ loop-again c =
       omega arith,
       all .kept .0 ∙ one .write-i32 .kept .0 ∙ at-loop .inv .1,
       all .ensures
-          ∙ ap₂ (overwrite (p + 4)) (lent-bytes d) (one .write-i32 .ensures ∙ ap (λ (z : ℤ). overwrite p (integerBytes z) (at-loop .book)) (toZ-ofZ fx))
+          ∙ ap₂ (overwrite (p + 4)) (ap integersBytes (c .before .before .before .coefficients .ensures) ∙ row-bytes n i (a .coefs .now) (inside d .1)) (one .write-i32 .ensures ∙ ap (λ (z : ℤ). overwrite p (integerBytes z) (at-loop .book)) (toZ-ofZ fx))
           ∙ overwrite-next p (p + 4) X Y (at-loop .book) (omega (arith, x)) (omega (arith, y, inside d))
           ∙ ap (overwrite p (X ++ Y)) (at-loop .inv .2)
           ∙ overwrite-turn (8 * n) p i (rowBytesAt n A) (a .book .now) (omega (arith, rows)) (omega (arith, length-rowBytes n (rowAt n A i), inside d)),
@@ -154,16 +127,11 @@ write-rows-spec =
     μ-loop
     loop-holds
     row-place-requires
-    mul-start
-    add-end
     mul-write-i32
     shared-slice-copy-out-write-i32
     write-i32-requires
     add-write-integers
-    mul-write-integers
-    sub-write-integers
-    part-write-integers-start
-    part-write-integers-end
+    coefficients-requires
     write-integers-requires
     add-i
     loop-less

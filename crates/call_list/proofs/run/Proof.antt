@@ -51,9 +51,9 @@ use denote.Exit.{yes}
 use borrow.Author.Tests.{ltb-true, ltb-false}
 use Rattle.semantics.specs.CallList.{ListRun, runList}
 use Rattle.model.specs.State.{State}
-use Rattle.semantics.specs.TwoLists.{ListMeans}
-use Rattle.semantics.proofs.CallLists.{counts-add-up, demand-3-lists, list-means}
-use Rattle.semantics.proofs.Demand3.{handed-in}
+use Rattle.demands.specs.TwoLists.{ListMeans}
+use Rattle.demands.proofs.CallLists.{counts-add-up, demand-3-lists, list-means}
+use Rattle.demands.proofs.Demand3.{handed-in}
 use Rattle.flat_list.specs.ListAnswers.{listRun}
 use Rattle.flat_list.specs.declared.RunAnswer.{RunAnswer}
 use Rattle.flat_list.proofs.RunAnswer as S
@@ -61,7 +61,7 @@ use Rattle.flat_list.proofs.RunAnswer.Laws as S′
 use Rattle.call_record.specs.Records.{Runs, noCall, numbersOf, runNext}
 use Rattle.call.specs.declared.Call.{Call}
 use Rattle.call_list.proofs.Buffers.{All, Back, Carried, Claims, Left, Lents, Long, Names, Owns, ReadParts, ReadTimes, Refs, Rooms, Slice, Times, Tokens, comes, give, left, lend, lists, locals, made, names, parts, read-parts, read-times, refs, room, same, sliced, take, times, values}
-use Rattle.call_list.proofs.Locals.{Blocks, Cell, Dies, allocated, blockOf, cell, cells, envOf, first, free, freed, holds, settled}
+use Rattle.call_list.proofs.Locals.{Blocks, Cell, Dies, allocated, blockOf, cell, cells, envOf, first, free, freed, holds, renewed}
 use Rattle.call_list.proofs.Parameters.{Shown, Spots, Texts, buffers, few, many, shown, spots, state, texts}
 use Rattle.call_list.proofs.Reborrow.{has, reborrows, takes}
 use Rattle.call_record.proofs.Running.{Running, running-end, running-next, running-room, running-start}
@@ -456,7 +456,7 @@ module _ {M : Type 1} (𝓤 : URA M) (H : Heap 𝓤) (A : Atoms 𝓤) (W : Given
           land ! (from ! (stop !)) (store ! (3 + answer) refl (EL.lawful S.the-type S′.the-laws 𝓤 H A W tt .typed a _ is .0)) $
           assigns-last ! (bin ! (has ! (3 + index) refl) (lit ! tt) (record { fits = next-fits })) (from ! (stop !)) (store ! (3 + index) refl (tt, record { fits = next-fits })) $
           move ! (1 ∷ []) $ split ! $ move ! (1 ∷ 2 ∷ 3 ∷ 0 ∷ []) $ lose ! $
-          settled ! call En (told free (holds u ∷ holds (vint w64 (t .i + 1)) ∷ holds p ∷ room Bs (holds (vint w64 (length ys)) ∷ holds (vbool true) ∷ made Bs []))) (Beside (next-left z)) $
+          renewed ! call En (told free (holds u ∷ holds (vint w64 (t .i + 1)) ∷ holds p ∷ room Bs (holds (vint w64 (length ys)) ∷ holds (vbool true) ∷ made Bs []))) (Beside (next-left z)) $
           by ! (again (next n m ys ps fs xs t c a u (next-left z) is e d inside long) (nearer (length ys) (t .i) inside))))))))))))))
         where
           inside : t .i < length ys
@@ -501,7 +501,7 @@ module _ {M : Type 1} (𝓤 : URA M) (H : Heap 𝓤) (A : Atoms 𝓤) (W : Given
           land ! (from ! (stop !)) (init ! (1 + answer) refl (EL.lawful S.the-type S′.the-laws 𝓤 H A W tt .typed a _ is .0)) $
           assigns ! (of-opd ! (lit ! tt)) (from ! (stop !)) (init ! (1 + index) refl (tt, record { fits = lit< tt })) $
           move ! (0 ∷ (2 + dies) ∷ (3 + dies) ∷ []) $
-          settled ! call En (told free (holds u ∷ holds (vint w64 0) ∷ free ∷ made Bs [])) (Beside (none-left z)) $
+          renewed ! call En (told free (holds u ∷ holds (vint w64 0) ∷ free ∷ made Bs [])) (Beside (none-left z)) $
           by ! (loops (starts n m ys ps fs xs a u (none-left z) is d long))))))))))
 
     walk : ent 𝓤 (onEntry 𝓤 H A run.signature κs (parts Bs (q, tt)) (n, (m, args)) vals) (WpFn 𝓤 H C Λ code.function (vint w64 n ∷ vint w64 m ∷ passed) Post)

@@ -44,8 +44,8 @@ use denote.Triple.Table.{entered, cited}
 use denote.Triple.Walked.{says, Stays, stay-none, stay-none-slice, gave-slice, walkOf, goes-none, goes-none-slice, goes-gave-slice, Walks, ends-at, walked, walk-meets}
 use denote.Exit.{yes}
 use Rattle.semantics.specs.CallList.{runList}
-use Rattle.semantics.specs.TwoLists.{CountsAddUp, Demand3Lists, ListMeans}
-use Rattle.semantics.specs.TwoRuns.{EveryModelHandedIn}
+use Rattle.demands.specs.TwoLists.{CountsAddUp, Demand3Lists, ListMeans}
+use Rattle.demands.specs.TwoRuns.{EveryModelHandedIn}
 use Rattle.flat_list.specs.ListAnswers.{listRun}
 use Rattle.flat_list.specs.declared.RunAnswer.{RunAnswer}
 use Rattle.flat_list.proofs.RunAnswer as S

@@ -14,7 +14,7 @@ use Rattle.semantics.specs.Perform.{Answer, act, perform, tightened}
 use Rattle.semantics.specs.Call.{Call, callOf, hasRow, hasVariable, kindOf}
 use Rattle.model.specs.State.{State, stateOf}
 use Rattle.model.specs.Model.{modelOf}
-use Rattle.semantics.proofs.Accepted.{accepted}
+use Rattle.call_laws.proofs.Accepted.{accepted}
 use Rattle.reducer.specs.OpenCalls.{performed, tightenAnswer}
 use Rattle.reducer.proofs.OpenCallLaws.{on-row, perform-refused, promised, row-changed}
 use Rattle.matrix_view.proofs.RowInLaws.{row-in, valid-row}

@@ -4,7 +4,7 @@ use mathlib.Core.Path.{_∙_, sym}
 use Rattle.semantics.specs.CallList.{refusedList}
 use Rattle.model.specs.Rows.{rowsOf}
 use Rattle.model.specs.State.{State, stateOf}
-use Rattle.semantics.proofs.CallLists.{list-refused}
+use Rattle.demands.proofs.CallLists.{list-refused}
 use Rattle.flat_list.specs.ListAnswers.{listAnswer, listRun, ranTo}
 use Rattle.flat_list.proofs.ListLaws.{list-promised}
 use Rattle.flat_list.proofs.run.Statement.{statement}

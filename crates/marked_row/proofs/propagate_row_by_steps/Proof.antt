@@ -9,10 +9,10 @@ use native.Mathlib.Omega.{arith}
 use Rattle.model.specs.Rows.{Rows, rowAt, rowsOf}
 use Rattle.row.specs.Answers.{propagatedRowOf}
 use Rattle.row.specs.Kinds.{propagateRowOf}
-use Rattle.row_marks.specs.Marks.{Visitable}
+use Rattle.row_marks.specs.Marks.{Propagable}
 use Rattle.row_index.proofs.IndexLoops.{row-end}
 use Rattle.matrix_view.proofs.RowInLaws.{row-fits, row-in, valid-row}
-use Rattle.marked_row.proofs.MarkedRowLaws.{broken, left-by, said, steps-in, tightened, unmoved, visited-empty, visited-moved, visited-remarks, visited-unmoved}
+use Rattle.marked_row.proofs.MarkedRowLaws.{broken, left-by, said, steps-in, tightened, unmoved, propagated-empty, propagated-moved, propagated-remarks, propagated-unmoved}
 use Rattle.marked_row.proofs.propagate_row_by_steps.Statement.{statement}
 use Rattle.marked_row.proofs.propagate_row_by_steps.Tie as tie
 
@@ -29,7 +29,7 @@ module _ (s : tie.Start) where
   abbrev B : List ℤ
   B = s .args .bounds .now
 
-  abbrev given : Visitable n (s .args .m) B A (s .args .across .now) (s .args .signs .now) (s .args .seen .now) (s .args .marks .now)
+  abbrev given : Propagable n (s .args .m) B A (s .args .across .now) (s .args .signs .now) (s .args .seen .now) (s .args .marks .now)
   given = s .pre .0
 
   in-matrix : r * n + n ≤ length (s .args .coefs .now)
@@ -71,7 +71,7 @@ returns c =
     let told = c .enum-told .given .1 in
     let t = s k in (
       said _ (Q k) (heard k) told,
-      visited-empty (given t) (r t) (t .pre .1 .0) (left k) (broken _ (Q k) (heard k) told),
+      propagated-empty (given t) (r t) (t .pre .1 .0) (left k) (broken _ (Q k) (heard k) told),
     )
 
 enum-known-moved : tie.Need-enum-known-moved
@@ -84,7 +84,7 @@ remark-requires : tie.Need-remark-requires
 remark-requires c κs =
     let k = c .before .before .before .before .before .before .before .before in
     let t = s k in
-    (visited-remarks (given t) (r t) (t .pre .1 .0) (left k) (tightened _ (Q k) (heard k) (c .before .before .before .before .before .moved .given .1)) (t .pre .1 .1), omega (arith, given t .valid .kindsLen))
+    (propagated-remarks (given t) (r t) (t .pre .1 .0) (left k) (tightened _ (Q k) (heard k) (c .before .before .before .before .before .moved .given .1)) (t .pre .1 .1), omega (arith, given t .valid .kindsLen))
 
 shared-slice-read-after : tie.Need-shared-slice-read-after
 shared-slice-read-after c = let t = s (c .before .before .before .before .before .before .before .before .before .before .before .before .before .before .before) in omega (arith, given t .valid .kindsLen, t .pre .1 .0)
@@ -114,7 +114,7 @@ returns-2 c =
     let call = c .before .before .before .before .before .before .before .remark in
     let t = s k in (
       said _ (Q k) (heard k) told,
-      visited-moved (given t) (r t) (t .pre .1 .0) (left k) (tightened _ (Q k) (heard k) told) (call .last .1 .1 .1 .1 .1 .1 .1 .1 .1 .0) (c .after .result) (call .ensures .1 .1) (call .ensures .0)
+      propagated-moved (given t) (r t) (t .pre .1 .0) (left k) (tightened _ (Q k) (heard k) told) (call .last .1 .1 .1 .1 .1 .1 .1 .1 .1 .0) (c .after .result) (call .ensures .1 .1) (call .ensures .0)
           (call .kept .1 .1 .1 .1 .1 .1 .1 .1 .1 .0) (call .ensures .1 .0) (c .after .ensures),
     )
 
@@ -137,7 +137,7 @@ returns-3 c =
     let f = unmoved _ (Q k) (heard k) told in
     let t = s k in (
       said _ (Q k) (heard k) told,
-      visited-unmoved (given t) (r t) (t .pre .1 .0) (left k) (f .0) (f .1),
+      propagated-unmoved (given t) (r t) (t .pre .1 .0) (left k) (f .0) (f .1),
     )
 
 pub propagate-row-by-steps-spec : {M : Type 1} → statement M

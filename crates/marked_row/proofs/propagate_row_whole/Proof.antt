@@ -9,9 +9,9 @@ use native.Mathlib.Omega.{arith}
 use Rattle.model.specs.Rows.{Rows, rowAt, rowsOf}
 use Rattle.row.specs.Answers.{propagatedRowOf}
 use Rattle.row.specs.Kinds.{propagateRowOf}
-use Rattle.row_marks.specs.Marks.{Visitable}
+use Rattle.row_marks.specs.Marks.{Propagable}
 use Rattle.matrix_view.proofs.RowInLaws.{row-in, valid-row}
-use Rattle.marked_row.proofs.MarkedRowLaws.{broken, left-by, said, tightened, unmoved, visited-empty, visited-moved, visited-nonEmpty, visited-unmoved}
+use Rattle.marked_row.proofs.MarkedRowLaws.{broken, left-by, said, tightened, unmoved, propagated-empty, propagated-moved, propagated-nonEmpty, propagated-unmoved}
 use Rattle.marked_row.proofs.propagate_row_whole.Statement.{statement}
 use Rattle.marked_row.proofs.propagate_row_whole.Tie as tie
 
@@ -28,7 +28,7 @@ module _ (s : tie.Start) where
   abbrev B : List ℤ
   B = s .args .bounds .now
 
-  abbrev given : Visitable n (s .args .m) B A (s .args .across .now) (s .args .signs .now) (s .args .seen .now) (s .args .marks .now)
+  abbrev given : Propagable n (s .args .m) B A (s .args .across .now) (s .args .signs .now) (s .args .seen .now) (s .args .marks .now)
   given = s .pre .0
 
 propagate-row-at-requires : tie.Need-propagate-row-at-requires
@@ -63,7 +63,7 @@ returns c =
     let told = c .enum-told .given .1 in
     let t = s k in (
       said _ (Q k) (heard k) told,
-      visited-empty (given t) (r t) (t .pre .1) (left k) (broken _ (Q k) (heard k) told),
+      propagated-empty (given t) (r t) (t .pre .1) (left k) (broken _ (Q k) (heard k) told),
     )
 
 enum-known-moved : tie.Need-enum-known-moved
@@ -75,7 +75,7 @@ remark-all-requires c κs =
     let t = s k in
     let g = given t in
     let f = tightened _ (Q k) (heard k) (c .before .before .before .before .before .moved .given .1) in
-    (g .watched .index .columns, omega (arith, g .valid .kindsLen), g .valid .few, ap length (g .watched .copied (g .nonEmpty)) ∙ g .nonEmpty .len, visited-nonEmpty g (r t) (t .pre .1) (left k) f .len, g .room)
+    (g .watched .index .columns, omega (arith, g .valid .kindsLen), g .valid .few, ap length (g .watched .copied (g .nonEmpty)) ∙ g .nonEmpty .len, propagated-nonEmpty g (r t) (t .pre .1) (left k) f .len, g .room)
 
 shared-slice-read-after : tie.Need-shared-slice-read-after
 shared-slice-read-after c = let t = s (c .before .before .before .before .before .before .before .before .before .before .before .before .before .before .before) in omega (arith, given t .valid .kindsLen, t .pre .1)
@@ -105,7 +105,7 @@ returns-2 c =
     let call = c .before .before .before .before .before .before .before .remark-all in
     let t = s k in (
       said _ (Q k) (heard k) told,
-      visited-moved (given t) (r t) (t .pre .1) (left k) (tightened _ (Q k) (heard k) told) (call .last .1 .1 .1 .1 .1 .1 .1 .0) (c .after .result) (call .ensures .1 .1) (call .ensures .0)
+      propagated-moved (given t) (r t) (t .pre .1) (left k) (tightened _ (Q k) (heard k) told) (call .last .1 .1 .1 .1 .1 .1 .1 .0) (c .after .result) (call .ensures .1 .1) (call .ensures .0)
           (call .kept .1 .1 .1 .1 .1 .1 .1 .0) (call .ensures .1 .0) (c .after .ensures),
     )
 
@@ -128,7 +128,7 @@ returns-3 c =
     let f = unmoved _ (Q k) (heard k) told in
     let t = s k in (
       said _ (Q k) (heard k) told,
-      visited-unmoved (given t) (r t) (t .pre .1) (left k) (f .0) (f .1),
+      propagated-unmoved (given t) (r t) (t .pre .1) (left k) (f .0) (f .1),
     )
 
 pub propagate-row-whole-spec : {M : Type 1} → statement M

@@ -1,7 +1,7 @@
 -- `changes::remove_redundant_row_at` changes row r as the rule says: the part that is lent is the row, and it comes back in its place.
 -- Assumes nothing.
 use borrow.Author.Needs.{needs}
-use Rattle.row_view.proofs.PartLaws.{part-is, row-changed}
+use Rattle.matrix.proofs.PartLaws.{part-is, row-changed}
 use Rattle.matrix_change.proofs.remove_redundant_row_at.Statement.{statement}
 use Rattle.matrix_change.proofs.remove_redundant_row_at.Tie as tie
 

@@ -16,8 +16,8 @@ rhs-is s = toZ-ofZ {w = w32} (within-fits w32 tt (rhs-within (s .pre .0 .1 .rhs)
 coefficients-requires : tie.Need-coefficients-requires
 coefficients-requires c κs = search needs
 
-steps-at-requires : tie.Need-steps-at-requires
-steps-at-requires c κs = search needs
+row-bytes-requires : tie.Need-row-bytes-requires
+row-bytes-requires c κs = search needs
 
 mul-moves-by : tie.Need-mul-moves-by
 mul-moves-by c = search needs
@@ -33,7 +33,7 @@ moves-by-requires c κs =
     let t = c .before .before in
     let k = t .before in
     let s = k .before .before .before in
-    rw (k .coefficients .ensures, t .steps-at .ensures, s .pre .0 .1 .coefs .len, rhs-is s) (s .pre .0 .1, s .pre .1 .good)
+    rw (k .coefficients .ensures, t .row-bytes .ensures, s .pre .0 .1 .coefs .len, rhs-is s) (s .pre .0 .1, s .pre .1 .good)
 
 returns : tie.Need-returns
 returns c =
@@ -47,7 +47,7 @@ row-moves-at-by-spec =
     tie.close
     (tie.spec
     coefficients-requires
-    steps-at-requires
+    row-bytes-requires
     mul-moves-by
     shared-slice-copy-out-moves-by
     shared-slice-read-moves-by

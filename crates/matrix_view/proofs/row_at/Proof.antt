@@ -48,10 +48,10 @@ use Rattle.matrix_view.specs.RowIn.{RowIn}
 use Rattle.row_view.specs.declared.Row.{Row}
 use Rattle.row_view.proofs.Row as T
 use Rattle.row_view.proofs.Row.Laws as T′
-use Rattle.matrix_view.proofs.coefficients as part
-use Rattle.matrix_view.proofs.coefficients.Symbol as part-def
-use Rattle.matrix_view.proofs.coefficients.Symbol.{name as #matrix-view·coefficients}
-use Rattle.matrix_view.proofs.coefficients.Met as part-thm
+use Rattle.matrix.proofs.coefficients as part
+use Rattle.matrix.proofs.coefficients.Symbol as part-def
+use Rattle.matrix.proofs.coefficients.Symbol.{name as #matrix·coefficients}
+use Rattle.matrix.proofs.coefficients.Met as part-thm
 use Rattle.matrix_view.proofs.row_at.Key.{name as #matrix-view·row-at}
 use Rattle.matrix_view.proofs.row_at as made-at
 use Rattle.matrix_view.proofs.row_at.Statement as stated
@@ -167,7 +167,7 @@ module _ {M : Type 1} (𝓤 : URA M) (H : Heap 𝓤) (A : Atoms 𝓤) (W : Given
       subst (λ (y : Val). Holds (hasTy (T′.mir (named 0)) (mach y)) × WT (mach y)) (sym (ap only (shr-slice-tells (named 0) κ i32 z (u ∷ []) is)))
       (tt, ((tt, (record { fits = is .0 .1 .0 }, tt)), (h, (h′, tt))))
 
-  module _ (C : Calls 𝓤 H) (Λ : Loops 𝓤 H) (fm : FmC 𝓤 H (W .laws) C) (known : Triple 𝓤 (C #matrix-view·coefficients) (Part 𝓤 H A mem run)) where
+  module _ (C : Calls 𝓤 H) (Λ : Loops 𝓤 H) (fm : FmC 𝓤 H (W .laws) C) (known : Triple 𝓤 (C #matrix·coefficients) (Part 𝓤 H A mem run)) where
     walk : Is (ShrSlice (named 0) κ i32) s (v ∷ []) → Is (ShrSlice (named 1) κ′ i32) t (w ∷ []) → Is (ShrSlice (named 2) κ″ u8) k (x ∷ [])
         → ent 𝓤 (onEntry 𝓤 H A made-at.signature κs qs (n, (s, (t, (k, (r, tt))))) vals) (WpFn 𝓤 H C Λ code.function (vint w64 n ∷ v ∷ w ∷ x ∷ vint w64 r ∷ []) Post)
     walk p p′ p″ =
@@ -207,7 +207,7 @@ module _ {M : Type 1} (𝓤 : URA M) (H : Heap 𝓤) (A : Atoms 𝓤) (W : Given
         keep ! (7 ∷ 3 ∷ 0 ∷ 8 ∷ 5 ∷ 2 ∷ 6 ∷ []) $ by ! (exits-at z u (ap only (shr-slice-tells (named 0) κ i32 z (u ∷ []) is)) g g′ e)))))))))))))))))))))
 
 module _ {M : Type 1} (𝓤 : URA M) (H : Heap 𝓤) (A : Atoms 𝓤) (W : Given 𝓤 H A) (mem : Memory → SProp 𝓤) (run : Routine → Fun 𝓤) where
-  made-walks : (C : Calls 𝓤 H) (Λ : Loops 𝓤 H) → FmC 𝓤 H (W .laws) C → Triple 𝓤 (C #matrix-view·coefficients) (Part 𝓤 H A mem run)
+  made-walks : (C : Calls 𝓤 H) (Λ : Loops 𝓤 H) → FmC 𝓤 H (W .laws) C → Triple 𝓤 (C #matrix·coefficients) (Part 𝓤 H A mem run)
       → Walks 𝓤 H A made-at.ended stayed (WpFn 𝓤 H C Λ code.function) (made-at.clauses 𝓤 H A mem run)
   made-walks C Λ fm known = walked 𝓤 H A made-at.ended stayed (made-at.clauses 𝓤 H A mem run) (WpFn 𝓤 H C Λ code.function)
       (λ κs. (uint-vals w64, (slice-vals, (slice-vals, (slice-vals, (uint-vals w64, tt)))))) (λ κs. (uint-tells w64, (shr-slice-tells (named 0) (κs .0) i32, (shr-slice-tells (named 1) (κs .1 .0) i32, (shr-slice-tells (named 2) (κs .1 .1 .0) u8, (uint-tells w64, tt))))))
@@ -216,7 +216,7 @@ module _ {M : Type 1} (𝓤 : URA M) (H : Heap 𝓤) (A : Atoms 𝓤) (W : Given
       (are .0 .1) (are .1 .1 .1 .1 .0 .1) there C Λ fm known (are .1 .0) (are .1 .1 .0) (are .1 .1 .1 .0)))
 
 made-meets : {M : Type 1} (𝓤 : URA M) (H : Heap 𝓤) (A : Atoms 𝓤) (W : Given 𝓤 H A) (mem : Memory → SProp 𝓤) (run : Routine → Fun 𝓤) (𝓣 : Tables 𝓤 H)
-    → Triple 𝓤 (𝓣 .C #matrix-view·coefficients) (Part 𝓤 H A mem run)
+    → Triple 𝓤 (𝓣 .C #matrix·coefficients) (Part 𝓤 H A mem run)
     → Meets 𝓤 H A made-at.signature (WpFn 𝓤 H (𝓣 .C) (𝓣 .Λ) code.function) (made-at.spec 𝓤 H A mem run)
 made-meets 𝓤 H A W mem run 𝓣 known =
     walk-meets 𝓤 H A made-at.ended stayed W (goes-none 𝓤 H A W 3 (λ _. usize) yes (λ κs x f. refl), (goes-none-slice 𝓤 H A W 3 (0 ∷ []) tt (plain (λ _. i32)) yes, (goes-none-slice 𝓤 H A W 3 (1 ∷ []) tt (plain (λ _. i32)) yes, (goes-none-slice 𝓤 H A W 3 (2 ∷ []) tt (plain (λ _. u8)) yes, (goes-none 𝓤 H A W 3 (λ _. usize) yes (λ κs x f. refl), tt))))) (made-at.clauses 𝓤 H A mem run)
@@ -228,4 +228,4 @@ row-at-spec 𝓤 H 𝓜 𝓖 𝓡 =
     entered 𝓤 H (tripleOf 𝓤 H (𝓖 .A) made-at.signature (made-at.spec 𝓤 H (𝓖 .A) (𝓜 .mem) (𝓡 .run)))
     (tables 𝓤 H 𝓜 𝓡 code.env .C) (tables 𝓤 H 𝓜 𝓡 code.env .Λ) #matrix-view·row-at code.function (code.unfolded 𝓤 H 𝓜 𝓡)
     (made-meets 𝓤 H (𝓖 .A) (givenOf 𝓤 H 𝓜 𝓖) (𝓜 .mem) (𝓡 .run) (tablesOf 𝓤 H 𝓜 (tables 𝓤 H 𝓜 𝓡 code.env))
-    (cited 𝓤 H (Part 𝓤 H (𝓖 .A) (𝓜 .mem) (𝓡 .run)) 𝓜 𝓡 code.env #matrix-view·coefficients part-def.routine code.calls-matrix-view·coefficients (part-thm.met 𝓤 H 𝓜 𝓖 𝓡)))
+    (cited 𝓤 H (Part 𝓤 H (𝓖 .A) (𝓜 .mem) (𝓡 .run)) 𝓜 𝓡 code.env #matrix·coefficients part-def.routine code.calls-matrix·coefficients (part-thm.met 𝓤 H 𝓜 𝓖 𝓡)))

@@ -17,7 +17,7 @@ use Rattle.integer.proofs.Reading.{ge-read, lt-read}
 use Rattle.integer.proofs.Tests.{and-i}
 use Rattle.model.specs.Box.{at, lower, upper}
 use Rattle.semantics.specs.Lowest.{lowest}
-use Rattle.semantics.proofs.LowestLaws.{lowest-all, lowest-is}
+use Rattle.call_laws.proofs.LowestLaws.{lowest-all, lowest-is}
 use Rattle.proposals.specs.Verdict.{inBounds}
 use Rattle.proposals.proofs.VerdictLaws.{inBounds-test}
 use Rattle.one_proposal.proofs.first_outside.Statement.{statement}

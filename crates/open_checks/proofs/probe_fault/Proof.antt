@@ -9,7 +9,7 @@ use Rattle.semantics.specs.Call.{hasTable, kindOf}
 use Rattle.model.specs.Rows.{rowsOf}
 use Rattle.model.specs.State.{State, stateOf}
 use Rattle.model.specs.Model.{modelOf}
-use Rattle.semantics.proofs.Accepted.{modelFaultOf}
+use Rattle.call_laws.proofs.Accepted.{modelFaultOf}
 use Rattle.call.proofs.FieldLaws.{own-probe}
 use Rattle.open_checks.proofs.RefusalLaws.{model-refuses, own-fault}
 use Rattle.open_checks.proofs.probe_fault.Statement.{statement}

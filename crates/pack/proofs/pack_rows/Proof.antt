@@ -1,7 +1,6 @@
 -- `pack::pack_rows`: the words of the rows so far say them, and nothing else was written (`rows-more`). Assumes nothing.
 use Prim.Native.Nat.{_*_, _+_, _-_, _<_, _≤_, ℕ}
 use borrow.Author.Count.{below-none}
-use borrow.Author.Needs.{needs}
 use lib.ListN.{length}
 use mathlib.Core.Path.{_∙_, _≡_}
 use native.Mathlib.Nat.{mul-le-mul-right}
@@ -11,7 +10,7 @@ use Rattle.packed_row.specs.Words.{coefsFrom}
 use Rattle.prepared_model.specs.Layout.{rowWords}
 use Rattle.prepared_model.specs.SameBut.{SameBut}
 use Rattle.prepared_model.proofs.KeptLaws.{same-none, same-wider}
-use Rattle.pack.proofs.PackLaws.{length-row, part-row, row-range, row-room, rows-more, rows-same}
+use Rattle.pack.proofs.PackLaws.{length-row, row-range, row-room, rows-more, rows-same}
 use Rattle.pack.proofs.pack_rows.Statement.{statement}
 use Rattle.pack.proofs.pack_rows.Tie as tie
 
@@ -33,32 +32,14 @@ room h k =
     let s = h .before .before in
     row-room (s .args .n) (s .args .m) (h .loop .r) (s .args .coefs .now) (s .pre .0) (s .pre .1) (s .pre .2) k
 
-mul-pack-row : tie.Need-mul-pack-row Inv-loop μ-loop
-mul-pack-row c = omega (arith, room (c .before) (omega arith))
+coefficients-requires : tie.Need-coefficients-requires Inv-loop μ-loop
+coefficients-requires c κs = room (c .before) (omega arith) .0
 
-mul-pack-row-2 : tie.Need-mul-pack-row-2 Inv-loop μ-loop
-mul-pack-row-2 c = omega (arith, room (c .before) (omega arith))
+mul-pack-row : tie.Need-mul-pack-row Inv-loop μ-loop
+mul-pack-row c = omega (arith, room (c .before .before) (omega arith))
 
 add-pack-row : tie.Need-add-pack-row Inv-loop μ-loop
-add-pack-row c = omega (arith, room (c .before) (omega arith))
-
-mul-pack-row-3 : tie.Need-mul-pack-row-3 Inv-loop μ-loop
-mul-pack-row-3 c = omega (arith, room (c .before) (omega arith))
-
-sub-pack-row : tie.Need-sub-pack-row Inv-loop μ-loop
-sub-pack-row c = search needs
-
-part-pack-row-start : tie.Need-part-pack-row-start Inv-loop μ-loop
-part-pack-row-start c = search needs
-
-part-pack-row-end : tie.Need-part-pack-row-end Inv-loop μ-loop
-part-pack-row-end c = omega (arith, room (c .before) (omega arith))
-
-mul-pack-row-4 : tie.Need-mul-pack-row-4 Inv-loop μ-loop
-mul-pack-row-4 c = omega (arith, room (c .before .before) (omega arith))
-
-add-pack-row-2 : tie.Need-add-pack-row-2 Inv-loop μ-loop
-add-pack-row-2 c = omega (arith, room (c .before .before) (omega arith))
+add-pack-row c = omega (arith, room (c .before .before) (omega arith))
 
 pack-row-requires : tie.Need-pack-row-requires Inv-loop μ-loop
 pack-row-requires c κs =
@@ -68,7 +49,7 @@ pack-row-requires c κs =
     let n = s .args .n in
     let r = h .loop .r in
     let in-rows : r < s .args .m = omega arith in
-    rw (part-row n (s .args .m) r C (s .pre .0) (s .pre .1) (s .pre .2) in-rows) (
+    rw (c .before .coefficients .ensures) (
       omega (arith, length-row n (s .args .m) r C (s .pre .0) (s .pre .1) (s .pre .2) in-rows, s .pre .0),
       row-range n (s .args .m) r C (s .pre .0) (s .pre .1) (s .pre .2) in-rows (s .pre .3),
       omega (arith, length-row n (s .args .m) r C (s .pre .0) (s .pre .1) (s .pre .2) in-rows, room h in-rows),
@@ -91,7 +72,7 @@ loop-again c =
     let m = s .args .m in
     let r = h .loop .r in
     let in-rows : r < m = omega arith in
-    let part = part-row n m r C (s .pre .0) (s .pre .1) (s .pre .2) in-rows in
+    let part = c .before .before .before .before .coefficients .ensures in
     let long = length-row n m r C (s .pre .0) (s .pre .1) (s .pre .2) in-rows in
     let told = rw (part, long) at (c .before .before .pack-row .ensures) in
     let fits : 1_408 + r * n + n ≤ length (s .args .ws .now) = omega (arith, room h in-rows, s .pre .4) in (
@@ -117,15 +98,9 @@ pack-rows-spec =
     Inv-loop
     μ-loop
     loop-holds
+    coefficients-requires
     mul-pack-row
-    mul-pack-row-2
     add-pack-row
-    mul-pack-row-3
-    sub-pack-row
-    part-pack-row-start
-    part-pack-row-end
-    mul-pack-row-4
-    add-pack-row-2
     pack-row-requires
     add-r
     loop-less

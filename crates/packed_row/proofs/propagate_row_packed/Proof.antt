@@ -19,14 +19,14 @@ use Rattle.packed_row.proofs.propagate_row_packed.Tie as tie
 right-side-requires : tie.Need-right-side-requires
 right-side-requires c κs = search needs
 
-rhs-is : (c : tie.After-right-side) → toZ w32 (ofZ w32 (c .right-side .result)) ≡ rhsOf (c .before .before .args .side)
+rhs-is : (c : tie.After-right-side) → toZ w32 (ofZ w32 (c .right-side .result)) ≡ rhsOf (c .before .before .args .rhs-word)
 rhs-is c = toZ-ofZ {w = w32} (record { sfits = c .right-side .ok }) ∙ c .right-side .ensures
 
 propagate-forms-requires : tie.Need-propagate-forms-requires
 propagate-forms-requires c κs =
     let s = c .before .before .before in
     let W = s .args .words .now in
-    subst⁻¹ (λ (z : ℤ). ValidRow (length W) (coefsFrom W 0) z (s .args .bounds .now)) (rhs-is (c .before)) (readable-row W (s .args .side) (s .pre))
+    subst⁻¹ (λ (z : ℤ). ValidRow (length W) (coefsFrom W 0) z (s .args .bounds .now)) (rhs-is (c .before)) (readable-row W (s .args .rhs-word) (s .pre))
 
 same-length : tie.Need-same-length
 same-length c = search needs
@@ -38,7 +38,7 @@ returns c =
     let s = t .before .before .before .before in
     let W = s .args .words .now in
     t .propagate-forms .ensures
-    ∙ ap (λ (z : ℤ). propagateRowOf (length W) (rowWith (coefsFrom W 0) z (s .args .side % 2)) (s .args .bounds .now)) (rhs-is (t .before .before))
+    ∙ ap (λ (z : ℤ). propagateRowOf (length W) (rowWith (coefsFrom W 0) z (s .args .rhs-word % 2)) (s .args .bounds .now)) (rhs-is (t .before .before))
 
 pub propagate-row-packed-spec : {M : Type 1} → statement M
 propagate-row-packed-spec =

@@ -18,21 +18,21 @@ use Rattle.packed_row.proofs.row_moves_packed.Tie as tie
 right-side-requires : tie.Need-right-side-requires
 right-side-requires c κs = search needs
 
-rhs-is : (c : tie.After-right-side) → toZ w32 (ofZ w32 (c .right-side .result)) ≡ rhsOf (c .before .before .args .side)
+rhs-is : (c : tie.After-right-side) → toZ w32 (ofZ w32 (c .right-side .result)) ≡ rhsOf (c .before .before .args .rhs-word)
 rhs-is c = toZ-ofZ {w = w32} (record { sfits = c .right-side .ok }) ∙ c .right-side .ensures
 
 forms-move-requires : tie.Need-forms-move-requires
 forms-move-requires c κs =
     let s = c .before .before in
     let W = s .args .words .now in
-    subst⁻¹ (λ (z : ℤ). ValidRow (length W) (coefsFrom W 0) z (s .args .bounds .now)) (rhs-is c) (readable-row W (s .args .side) (s .pre))
+    subst⁻¹ (λ (z : ℤ). ValidRow (length W) (coefsFrom W 0) z (s .args .bounds .now)) (rhs-is c) (readable-row W (s .args .rhs-word) (s .pre))
 
 returns : tie.Need-returns
 unfolding rowOfWords
 returns c =
     let s = c .before .before .before in
     let W = s .args .words .now in
-    c .forms-move .ensures ∙ ap (λ (z : ℤ). rowMovesOf (length W) (rowWith (coefsFrom W 0) z (s .args .side % 2)) (s .args .bounds .now)) (rhs-is (c .before))
+    c .forms-move .ensures ∙ ap (λ (z : ℤ). rowMovesOf (length W) (rowWith (coefsFrom W 0) z (s .args .rhs-word % 2)) (s .args .bounds .now)) (rhs-is (c .before))
 
 pub row-moves-packed-spec : {M : Type 1} → statement M
 row-moves-packed-spec = tie.close (tie.spec right-side-requires forms-move-requires returns)

@@ -3,8 +3,8 @@ use native.Mathlib.Omega.{arith}
 use Prim.Native.Nat.{_+_, _≤_}
 use mathlib.Core.Path.{sym}
 use Rattle.semantics.specs.Call.{kindOf}
-use Rattle.semantics.specs.Passes.{callLimit}
-use Rattle.semantics.proofs.Passes.{lesser-l}
+use Rattle.demands.specs.Passes.{callLimit}
+use Rattle.demands.proofs.Passes.{lesser-l}
 use Rattle.plan.proofs.PlanLaws.{other-limit}
 use borrow.Author.Needs.{needs}
 use Rattle.plan_passes.proofs.call_limit.Statement.{statement}

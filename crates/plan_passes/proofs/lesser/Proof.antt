@@ -1,6 +1,6 @@
 -- `plan_passes::lesser`: its test is the definition's. Assumes nothing.
 use borrow.Author.Tests.{le-leb, lt-leb}
-use Rattle.semantics.specs.Passes.{lesser}
+use Rattle.demands.specs.Passes.{lesser}
 use Rattle.plan_passes.proofs.lesser.Statement.{statement}
 use Rattle.plan_passes.proofs.lesser.Tie as tie
 

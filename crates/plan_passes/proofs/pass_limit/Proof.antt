@@ -5,7 +5,7 @@ use lib.ListN.{length}
 use mathlib.Core.Path.{_∙_, _≡_, ap, refl}
 use native.Mathlib.Numerals.{add-one}
 use native.Mathlib.Omega.{arith}
-use Rattle.semantics.specs.Passes.{limitTo, passLimit}
+use Rattle.demands.specs.Passes.{limitTo, passLimit}
 use Rattle.plan_passes.proofs.pass_limit.Statement.{statement}
 use Rattle.plan_passes.proofs.pass_limit.Tie as tie
 

@@ -3,7 +3,7 @@
 use lib.ListN.{length}
 use mathlib.Core.Path.{_∙_, _≡_, ap, sym}
 use Rattle.model.specs.Checks.{first}
-use Rattle.semantics.specs.Passes.{enoughBudget}
+use Rattle.demands.specs.Passes.{enoughBudget}
 use Rattle.plan.specs.Answers.{passesAnswer, passesCall}
 use Rattle.plan.specs.PlanChecks.{boundsChecks, listFits}
 use Rattle.plan.proofs.PlanLaws.{accepted-by, bounds-passed, list-few, passes-promised, refused-by}

@@ -29,7 +29,7 @@ module _ (k : tie.After-propagate-row-packed) where
   n = length (s .args .words .now)
 
   abbrev row : Row
-  row = rowOfWords (s .args .words .now) (s .args .side)
+  row = rowOfWords (s .args .words .now) (s .args .rhs-word)
 
   abbrev B : List ℤ
   B = s .args .bounds .now
@@ -74,12 +74,12 @@ cast-blame c = search needs
 blame-requires : tie.Need-blame-requires
 blame-requires c κs =
     let k = c .before .before .before .before .before .before .before in
-    moved-blaming (s k .pre .0) (s k .args .side) (s k .pre .1) (left k) (tightened _ (Q k) (heard k) (c .before .before .before .before .moved .given .1))
+    moved-blaming (s k .pre .0) (s k .args .rhs-word) (s k .pre .1) (left k) (tightened _ (Q k) (heard k) (c .before .before .before .before .moved .given .1))
 
 note-requires : tie.Need-note-requires
 note-requires c κs =
     let k = c .before .before .before .before .before .before .before .before .before .before .before .before .before in
-    moved-noting (s k .pre .0) (s k .args .side) (left k) (tightened _ (Q k) (heard k) (c .before .before .before .before .before .before .before .before .before .before .moved .given .1))
+    moved-noting (s k .pre .0) (s k .args .rhs-word) (left k) (tightened _ (Q k) (heard k) (c .before .before .before .before .before .before .before .before .before .before .moved .given .1))
 
 done-requires : tie.Need-done-requires
 done-requires c κs = search needs
@@ -110,7 +110,7 @@ returns-2 c =
         (
           (λ m A few same hearers calm.
               calm-moved (s k .args .ws .now) (s k .args .r) (row k) same few (v .words .some) (v .nonEmpty) hearers calm (left k) f
-              (noted .last .1 .1 .1 .1 .0) (d .last .1 .1 .0) (rw (v .known) at (noted .ensures .1)) (d .ensures .0) (kept-kind v (s k .args .side) (d .ensures .1))),
+              (noted .last .1 .1 .1 .1 .0) (d .last .1 .1 .0) (rw (v .known) at (noted .ensures .1)) (d .ensures .0) (kept-kind v (s k .args .rhs-word) (d .ensures .1))),
           blames-moved _ _ _ _ f (left k) _ (v .known) (c .before .before .before .before .before .before .before .before .before .before .before .before .before .blame .ensures),
         ),
       ),

@@ -5,9 +5,11 @@ use borrow.Author.Needs.{needs}
 use borrow.Author.Tests.{not-false}
 use lib.ListN.{length, length-take}
 use mathlib.Core.Bool.{false≢true}
-use mathlib.Core.List.{List}
+use mathlib.Core.List.{List, []}
 use mathlib.Core.Path.{_∙_, _≡_, ap, sym}
 use native.Mathlib.Omega.{arith}
+use Rattle.model.specs.Rows.{rowsOf}
+use Rattle.model.specs.State.{State, stateOf}
 use Rattle.report.specs.Report.{lineAt, lineCount}
 use Rattle.text.specs.Text.{chunk}
 use Rattle.report.proofs.ReportLaws.{report-chunks}
@@ -21,19 +23,21 @@ abbrev Inv-loop : tie.InvT-loop
 Inv-loop n m rounds bounds coefs rhs table printed₀ count buf₀ next₀ printed buf next =
     (next ≤ count)
     × (65536 ≡ length buf)
-    × (printed ≡ length (chunk (lineAt n m rounds bounds coefs rhs table) 0 next))
+    × (printed ≡ length (chunk (lineAt rounds (stateOf n m bounds (rowsOf coefs rhs []) table)) 0 next))
     × (printed ≤ 65536 * next)
 
 abbrev μ-loop : tie.MeasureT-loop
 μ-loop n m rounds bounds coefs rhs table printed₀ count buf₀ next₀ printed buf next = count - next
 
--- the lines of the report
+-- the state that is reported, and the lines of the report
+abbrev left : tie.Start Inv-loop μ-loop → State
+left s = let a = s .args in stateOf (a .n) (a .m) (a .bounds .now) (rowsOf (a .coefs .now) (a .rhs .now) []) (a .table .now)
+
 abbrev lines : tie.Start Inv-loop μ-loop → ℕ → List ℕ
-lines s =
-    let a = s .args in
-    lineAt (a .n) (a .m) (a .rounds) (a .bounds .now) (a .coefs .now) (a .rhs .now) (a .table .now)
+lines s = lineAt (s .args .rounds) (left s)
 
 line-count-requires : tie.Need-line-count-requires Inv-loop μ-loop
+unfolding stateOf
 line-count-requires c κs = search needs
 
 large-buffer-requires : tie.Need-large-buffer-requires Inv-loop μ-loop
@@ -57,6 +61,7 @@ slice-aggregate-print : tie.Need-slice-aggregate-print Inv-loop μ-loop
 slice-aggregate-print c = simp length-take (omega (arith, wrote-length))
 
 print-requires : tie.Need-print-requires Inv-loop μ-loop
+unfolding stateOf
 print-requires c κs =
     let s = c .before .before .before .before .before .before .before .before .before .before in
     let l = c .before .before .before .before .before .before .loop .inv in
@@ -96,6 +101,7 @@ loop-again c =
     )
 
 returns-2 : tie.Need-returns-2 Inv-loop μ-loop
+unfolding stateOf
 returns-2 c = λ t.
     let s = c .before .before .before .before .before in
     let a = s .args in
@@ -103,7 +109,7 @@ returns-2 c = λ t.
     let e : l .next ≡ lineCount (a .n) (a .m) = omega (arith, l .inv .0, c .before .before .before .line-count .ensures) in
     l .inv .2
     ∙ ap (λ (k : ℕ). length (chunk (lines s) 0 k)) e
-    ∙ ap length (report-chunks (a .n) (a .m) (a .rounds) (a .bounds .now) (a .coefs .now) (a .rhs .now) (a .table .now))
+    ∙ ap length (report-chunks (a .rounds) (left s))
 
 pub reduced-spec : {M : Type 1} → statement M
 reduced-spec =

@@ -8,7 +8,7 @@ use Rattle.semantics.specs.CallChecks.{callFault}
 use Rattle.semantics.specs.Call.{Call, callOf, hasTable, hasVariable, kindOf}
 use Rattle.model.specs.Rows.{rowsOf}
 use Rattle.model.specs.State.{State, stateOf}
-use Rattle.semantics.proofs.Accepted.{accepted}
+use Rattle.call_laws.proofs.Accepted.{accepted}
 use Rattle.reducer.specs.OpenCalls.{performed, probeAnswer}
 use Rattle.reducer.proofs.OpenCallLaws.{perform-refused, probing-performed, promised-ends}
 use Rattle.probe_call.proofs.probe.Statement.{statement}

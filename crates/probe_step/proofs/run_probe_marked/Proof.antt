@@ -12,12 +12,12 @@ use Rattle.integer.proofs.Tests.{eqb-test, test-false}
 use Rattle.model.specs.Box.{sameList}
 use Rattle.semantics.specs.Perform.{perform}
 use Rattle.semantics.specs.Run.{CallClass, changedCall, infeasibleCall, probeInfeasible, unchangedCall}
-use Rattle.semantics.specs.Unmoved.{sideSpent}
 use Rattle.semantics.specs.Call.{callOf, hasVariable, kindOf}
+use Rattle.demands.specs.Unmoved.{sideSpent}
 use Rattle.model.specs.Rows.{rowsOf}
 use Rattle.model.specs.State.{stateOf}
-use Rattle.semantics.proofs.Accepted.{accepted}
-use Rattle.semantics.proofs.ClassLaws.{addsNone, classBy}
+use Rattle.call_laws.proofs.Accepted.{accepted}
+use Rattle.call_laws.proofs.ClassLaws.{addsNone, classBy}
 use Rattle.call.specs.Classes.{classIs}
 use Rattle.two_sides.specs.Results.{probingOf, reportOf}
 use Rattle.two_sides.specs.declared.Probing.{Probing}

@@ -4,6 +4,7 @@ use borrow.Author.Needs.{needs}
 use lib.ListN.{length}
 use mathlib.Core.Path.{_∙_, ap}
 use Rattle.reduction.specs.Answers.{answerText}
+use Rattle.reduction.proofs.ReductionLaws.{left-kindless}
 use Rattle.reduce_book.proofs.ProgramLaws.{left-prints}
 use Rattle.reduce_book.proofs.reduce_in.Statement.{statement}
 use Rattle.reduce_book.proofs.reduce_in.Tie as tie
@@ -88,7 +89,7 @@ same-length-15 c = search needs
 
 returns-3 : tie.Need-returns-3
 unfolding answerText
-returns-3 c = λ t. c .left .ensures t ∙ ap length (rw (c .before .before .before .before .before .before .before .made .given .1) at (c .before .before .before .before .before .before .before .before .before .before .before .before .before .before .before .before .solve .ensures .0 (c .before .before .before .before .before .before .before .before .before .before .before .before .before .before .before .before .before .before .before .before .before .before .before .before .before .args .form)))
+returns-3 c = λ t. c .left .ensures t ∙ ap length (left-kindless _ _ _ _ _ _ _ ∙ rw (c .before .before .before .before .before .before .before .made .given .1) at (c .before .before .before .before .before .before .before .before .before .before .before .before .before .before .before .before .solve .ensures .0 (c .before .before .before .before .before .before .before .before .before .before .before .before .before .before .before .before .before .before .before .before .before .before .before .before .before .args .form)))
 
 pub reduce-in-spec : {M : Type 1} → statement M
 reduce-in-spec =

@@ -34,7 +34,7 @@ same-length-4 : tie.Need-same-length-4
 same-length-4 c = search needs
 
 returns : tie.Need-returns
-unfolding answerText sizesAnswer
+unfolding answerText sizesAnswer stateOf
 returns c =
     let d = c .before .before .before .before .before .before .before .before in
     ((λ form. refused-output (d .before .before .before .before .before .before .before .before .pre) form _ _ (ap sizesAnswer (sym (c .before .number .given .1)) ∙ d .read .ensures .0)), ((λ form. output-means form _ _), tt))

@@ -10,6 +10,7 @@ use mir.Val.{SFits, ofZ, toZ}
 use native.Mathlib.Omega.{arith}
 use Rattle.integer.proofs.Tests.{test-false, test-true}
 use Rattle.model.specs.Box.{at}
+use Rattle.model.specs.Rows.{rowWith}
 use Rattle.report.proofs.ReportLaws.{zero-row}
 use Rattle.report.proofs.is_zero_row.Statement.{statement}
 use Rattle.report.proofs.is_zero_row.Tie as tie
@@ -23,7 +24,7 @@ abbrev μ-loop : tie.MeasureT-loop
 returns : tie.Need-returns Inv-loop μ-loop
 returns c =
     let a = c .before .args in
-    sym (test-false _ (zero-row (a .b) (a .coefs .now)) (λ h. c .if1 .taken (ap (ofZ w32) (h .0))))
+    sym (test-false _ (zero-row (rowWith (a .coefs .now) (a .b) 0)) (λ h. c .if1 .taken (ap (ofZ w32) (h .0))))
 
 loop-holds : tie.Need-loop-holds Inv-loop μ-loop
 loop-holds c = (omega arith, below-none _)
@@ -38,7 +39,7 @@ returns-2 : tie.Need-returns-2 Inv-loop μ-loop
 returns-2 c =
     let a = c .before .before .before .before .before .args in
     let j = c .before .before .before .loop .j in
-    sym (test-false _ (zero-row (a .b) (a .coefs .now)) (λ h. c .if2 .taken (ap (ofZ w32) (h .1 j (omega arith)))))
+    sym (test-false _ (zero-row (rowWith (a .coefs .now) (a .b) 0)) (λ h. c .if2 .taken (ap (ofZ w32) (h .1 j (omega arith)))))
 
 add-j : tie.Need-add-j Inv-loop μ-loop
 add-j c = omega arith
@@ -57,7 +58,7 @@ returns-3 : tie.Need-returns-3 Inv-loop μ-loop
 returns-3 c =
     let s = c .before .before .before in
     let b : s .args .b ≡ pos 0 = sym (toZ-ofZ (s .fits .b)) ∙ ap (toZ w32) (c .before .before .if1 .left) in
-    sym (test-true _ (zero-row (s .args .b) (s .args .coefs .now)) (b, λ j h. c .before .loop .inv .1 j (omega arith)))
+    sym (test-true _ (zero-row (rowWith (s .args .coefs .now) (s .args .b) 0)) (b, λ j h. c .before .loop .inv .1 j (omega arith)))
 
 pub is-zero-row-spec : {M : Type 1} → statement M
 is-zero-row-spec =

@@ -3,8 +3,11 @@
 use Prim.Native.Nat.{_+_, _-_, _≤_}
 use borrow.Author.Needs.{needs}
 use lib.ListN.{length}
+use mathlib.Core.List.{[]}
 use mathlib.Core.Path.{_≡_, refl}
 use native.Mathlib.Omega.{arith}
+use Rattle.model.specs.Rows.{rowsOf}
+use Rattle.model.specs.State.{stateOf}
 use Rattle.report.proofs.ReportLaws.{line-silent}
 use Rattle.report.specs.Report.{lineAt, lineCount}
 use Rattle.text.specs.Text.{Wrote, chunk}
@@ -17,12 +20,13 @@ Inv-loop n m rounds bounds coefs rhs table from buf₀ count next₀ end₀ buf 
     (from ≤ next)
     × (next ≤ count)
     × (next ≡ from → end ≡ 0)
-    × Wrote buf₀ 0 (chunk (lineAt n m rounds bounds coefs rhs table) from next) end buf
+    × Wrote buf₀ 0 (chunk (lineAt rounds (stateOf n m bounds (rowsOf coefs rhs []) table)) from next) end buf
 
 abbrev μ-loop : tie.MeasureT-loop
 μ-loop n m rounds bounds coefs rhs table from buf₀ count next₀ end₀ buf next end = count - next
 
 line-count-requires : tie.Need-line-count-requires Inv-loop μ-loop
+unfolding stateOf
 line-count-requires c κs = search needs
 
 loop-holds : tie.Need-loop-holds Inv-loop μ-loop
@@ -46,9 +50,11 @@ write-line-requires : tie.Need-write-line-requires Inv-loop μ-loop
 write-line-requires c κs = (c .before .before .before .before .before .before .before .pre .0, (omega arith, omega (arith, wrote-length)))
 
 add-next-line : tie.Need-add-next-line Inv-loop μ-loop
+unfolding stateOf
 add-next-line c = omega (arith, c .before .before .before .before .before .before .before .before .before .before .pre .0 .few, c .before .before .before .before .before .before .before .before .before .before .pre .0 .fewRows)
 
 add-next-line-2 : tie.Need-add-next-line-2 Inv-loop μ-loop
+unfolding stateOf
 add-next-line-2 c = omega (arith, c .before .before .before .before .before .before .before .before .before .before .pre .0 .few, c .before .before .before .before .before .before .before .before .before .before .pre .0 .fewRows)
 
 add-next-line-3 : tie.Need-add-next-line-3 Inv-loop μ-loop
@@ -56,7 +62,7 @@ add-next-line-3 c = omega arith
 
 -- the lines end with those of the table
 lines-end : (c : tie.After-slice-known2 Inv-loop μ-loop) → let a = c .before .before .before .before .before .before .before .before .before .before .args in 1 + (a .n + a .m) + length (a .table .now) ≡ c .before .before .before .before .before .before .before .line-count .result
-unfolding lineCount
+unfolding lineCount stateOf
 lines-end c = omega (arith, c .before .before .before .before .before .before .before .before .before .before .pre .0 .table, c .before .before .before .before .before .before .before .line-count .ensures)
 
 next-line-requires : tie.Need-next-line-requires Inv-loop μ-loop
@@ -69,12 +75,13 @@ loop-again : tie.Need-loop-again Inv-loop μ-loop
 loop-again c =
     let a = c .before .before .before .before .before .before .before .before .before .before .before .args in
     let l = c .before .before .before .before .before .before .before .loop in
-    let f = lineAt (a .n) (a .m) (a .rounds) (a .bounds .now) (a .coefs .now) (a .rhs .now) (a .table .now) in
+    let A = rowsOf (a .coefs .now) (a .rhs .now) [] in
+    let f = lineAt (a .rounds) (stateOf (a .n) (a .m) (a .bounds .now) A (a .table .now)) in
     let e = c .next-line .ensures in
     let first : l .next + 1 ≤ c .next-line .result = e .0 .0 in
     let last : c .next-line .result ≤ 1 + (a .n + a .m) + length (a .table .now) = e .0 .1 in
     let skipped = chunk-silent f (a .from) (l .next + 1) (c .next-line .result) (omega arith) first
-    (λ q h k. let s = e .1 q h k in line-silent (a .n) (a .m) (a .rounds) (a .bounds .now) (a .coefs .now) (a .rhs .now) (a .table .now) q (s .0) (s .1)) in (
+    (λ q h k. let s = e .1 q h k in line-silent (a .rounds) (a .n) (a .m) (a .bounds .now) A (a .table .now) q (s .0) (s .1)) in (
       omega arith,
       omega (arith, lines-end (c .before)),
       λ e. absurd (let z : ⊥ = omega arith in z),

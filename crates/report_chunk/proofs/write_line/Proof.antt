@@ -8,15 +8,18 @@ use mir.Val.{SFits}
 use native.Mathlib.Nat.{mul-le-mul-right}
 use native.Mathlib.Omega.{arith}
 use Rattle.model.specs.Box.{lower, upper}
+use Rattle.model.specs.State.{stateOf}
 use Rattle.report.specs.Report.{lineCount, variableAt}
 use Rattle.report.proofs.ReportLaws.{line-header, line-implication, line-row, line-variable}
 use Rattle.report_chunk.proofs.write_line.Statement.{statement}
 use Rattle.report_chunk.proofs.write_line.Tie as tie
 
 cast-write-reduced : tie.Need-cast-write-reduced
+unfolding stateOf
 cast-write-reduced c = search needs
 
 cast-write-reduced-2 : tie.Need-cast-write-reduced-2
+unfolding stateOf
 cast-write-reduced-2 c = search needs
 
 write-reduced-requires : tie.Need-write-reduced-requires
@@ -34,27 +37,35 @@ sub-j : tie.Need-sub-j
 sub-j c = search needs
 
 cast-write-variable : tie.Need-cast-write-variable
+unfolding stateOf
 cast-write-variable c = search needs
 
 mul-write-variable : tie.Need-mul-write-variable
+unfolding stateOf
 mul-write-variable c = search needs
 
 mul-write-variable-2 : tie.Need-mul-write-variable-2
+unfolding stateOf
 mul-write-variable-2 c = search needs
 
 shared-slice-copy-out-write-variable : tie.Need-shared-slice-copy-out-write-variable
+unfolding stateOf
 shared-slice-copy-out-write-variable c = search needs
 
 mul-write-variable-3 : tie.Need-mul-write-variable-3
+unfolding stateOf
 mul-write-variable-3 c = search needs
 
 add-write-variable : tie.Need-add-write-variable
+unfolding stateOf
 add-write-variable c = search needs
 
 mul-write-variable-4 : tie.Need-mul-write-variable-4
+unfolding stateOf
 mul-write-variable-4 c = search needs
 
 shared-slice-copy-out-write-variable-2 : tie.Need-shared-slice-copy-out-write-variable-2
+unfolding stateOf
 shared-slice-copy-out-write-variable-2 c = search needs
 
 write-variable-requires : tie.Need-write-variable-requires
@@ -74,6 +85,7 @@ returns-2 c =
     rw line-variable (simp toZ-ofZ at (c .before .before .write-variable .ensures .0))
 
 write-row-at-requires : tie.Need-write-row-at-requires
+unfolding stateOf
 write-row-at-requires c κs =
     let a = c .before .before .before .before .before .before .args in
     omega (arith, mul-le-mul-right {m = a .i - 1 - a .n + 1} {n = a .m} (a .n) (omega arith))
@@ -90,7 +102,7 @@ returns-3 c =
     rw line-row (c .before .before .write-row-at .ensures)
 
 write-implication-at-requires : tie.Need-write-implication-at-requires
-unfolding lineCount
+unfolding lineCount stateOf
 write-implication-at-requires c κs = omega arith
 
 same-length-4 : tie.Need-same-length-4

@@ -2,7 +2,7 @@
 use borrow.Author.Needs.{needs}
 use Rattle.model.specs.Rows.{rowsOf}
 use Rattle.semantics.specs.FixpointTest.{firstMoving, isFixpoint, rowLeaves}
-use Rattle.semantics.proofs.LowestLaws.{lowest-none}
+use Rattle.call_laws.proofs.LowestLaws.{lowest-none}
 use Rattle.probe_side.proofs.MarkedLaws.{marked-all}
 use Rattle.rest.proofs.first_unspanned.Statement.{statement}
 use Rattle.rest.proofs.first_unspanned.Tie as tie

@@ -10,7 +10,7 @@ use Rattle.integer.proofs.Tests.{false→T, told-false, told-true, true→T}
 use Rattle.model.specs.Rows.{rowsOf}
 use Rattle.row_index.specs.Index.{Index}
 use Rattle.semantics.specs.RestTest.{firstUnspanned, spansAt}
-use Rattle.semantics.proofs.LowestLaws.{lowest-all, lowest-is}
+use Rattle.call_laws.proofs.LowestLaws.{lowest-all, lowest-is}
 use Rattle.rest.proofs.first_unspanned_marked.Statement.{statement}
 use Rattle.rest.proofs.first_unspanned_marked.Tie as tie
 

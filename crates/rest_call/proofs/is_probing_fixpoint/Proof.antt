@@ -4,8 +4,8 @@ use mathlib.Core.List.{[]}
 use mathlib.Core.Logic.{_↔_}
 use mathlib.Core.Path.{_∙_, _≡_, ap, sym}
 use Rattle.model.proofs.CheckLaws.{fault-none}
-use Rattle.semantics.specs.Points.{AtRest}
 use Rattle.semantics.specs.RestTest.{atRest, restFault}
+use Rattle.call_laws.specs.Points.{AtRest}
 use Rattle.model.specs.Rows.{rowsOf}
 use Rattle.model.specs.State.{State, stateOf}
 use Rattle.model.specs.Model.{modelOf}

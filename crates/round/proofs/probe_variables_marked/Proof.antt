@@ -11,7 +11,7 @@ use Rattle.probe_side.specs.Marked.{Marked}
 use Rattle.semantics.specs.Call.{callOf}
 use Rattle.model.specs.Rows.{rowsOf}
 use Rattle.model.specs.State.{State, stateOf}
-use Rattle.semantics.specs.Unmoved.{anySpent}
+use Rattle.demands.specs.Unmoved.{anySpent}
 use Rattle.rounds.specs.Round.{probeCall, probes, roundBudget, upwards}
 use Rattle.rounds.proofs.RoundLaws.{Turns, accepts-probe, all-turns, call-turn, flag-kept, no-turn, skip-turn, turns-lengths, turns-valid}
 use Rattle.rounds.proofs.SpentLaws.{spent-call, spent-skip, spent-turn, spent-turns}

@@ -5,8 +5,8 @@ use mathlib.Core.Logic.{⊎-elim}
 use mathlib.Core.Path.{_≡_, refl}
 use borrow.Author.Needs.{needs}
 use Rattle.semantics.specs.Call.{callOf, kindOf}
-use Rattle.semantics.specs.Unmoved.{anySpent}
-use Rattle.probe_step.proofs.AcceptedLaws.{ran-settle}
+use Rattle.demands.specs.Unmoved.{anySpent}
+use Rattle.probe_step.proofs.AcceptedLaws.{ran-propagation}
 use Rattle.model.specs.Rows.{rowsOf}
 use Rattle.model.specs.State.{State, stateOf}
 use Rattle.rounds.specs.Round.{andThen, removals, probes, round, roundBudget, propagateCall, tightenings}
@@ -43,7 +43,7 @@ module _ (c : tie.After-is-changed) where
   propagate-leads =
       let a = propagate-start .args in
       one-call (callOf (entry propagate-start) 2 0 0 roundBudget)
-      (ran-settle (a .n) (a .m) (a .bounds .now) (rowsOf (a .coefs .now) (a .rhs .now) (a .kinds .now)) (a .table .now) 2 0 0 roundBudget
+      (ran-propagation (a .n) (a .m) (a .bounds .now) (rowsOf (a .coefs .now) (a .rhs .now) (a .kinds .now)) (a .table .now) 2 0 0 roundBudget
       (accepts-propagation (propagate-start .pre)) _ _ refl (c .before .class-of-propagation .ensures) (c .before .before .before .propagate .ensures))
       (c .is-changed .ensures)
 

@@ -1,6 +1,6 @@
 -- `round_rows::tighten_row`: the invariant says that the calls so far were made and that `most` is Lmax of the row as it is. A variable that
--- is not free is passed over, and the call for a coefficient that fails the test would change nothing (`quiet-turn`). Assumes nothing.
-use Prim.Native.Nat.{_*_, _+_, _-_, ℕ}
+-- is not free is passed over, and the call for a coefficient that fails the test would change nothing (`untightened-turn`). Assumes nothing.
+use Prim.Native.Nat.{_*_, _-_, ℕ}
 use lib.ListN.{replicate}
 use mathlib.Core.Bool.{_&&_}
 use mathlib.Core.List.{List}
@@ -17,12 +17,12 @@ use Rattle.row.specs.Activity.{maxActivity}
 use Rattle.row.specs.Tightening.{mayTighten}
 use Rattle.semantics.specs.Call.{callOf, kindOf}
 use Rattle.matrix_view.proofs.RowInLaws.{row-in, valid-row}
-use Rattle.semantics.proofs.Demand3.{zeros-valid}
+use Rattle.demands.proofs.Demand3.{zeros-valid}
 use Rattle.probe_step.proofs.AcceptedLaws.{ran-tighten}
 use Rattle.model.specs.State.{stateOf}
 use Rattle.rounds.specs.Round.{tightenCall, tightenRow}
 use Rattle.rounds.proofs.RoundLaws.{AnyTurns, accepts-tightening, all-turns, any-lengths, any-valid, any-within, call-turn, flag-kept, flag-raised, leads-valid, no-turn, one-call, turn, turns-valid}
-use Rattle.round_rows.proofs.TightenLaws.{looked-at, quiet-turn, row-ready}
+use Rattle.round_rows.proofs.TightenLaws.{looked-at, untightened-turn, row-ready}
 use Rattle.round_rows.proofs.tighten_row.Statement.{statement}
 use Rattle.round_rows.proofs.tighten_row.Tie as tie
 
@@ -86,7 +86,7 @@ maximum-activity-at-requires-2 c κs =
     let u : List ℕ = replicate (4 * (n * n)) 0 in
     let v = turns-valid (l .inv .0 .beside u (zeros-valid n)) in
     let free = isFree B (l .k) in
-    let test = mayTighten (at (l .coefs) (r * n + l .k)) (toZ w64 (l .most)) (at (l .rhs) r) in
+    let test = mayTighten (at (rowOf n (l .coefs) r) (l .k)) (toZ w64 (l .most)) (at (l .rhs) r) in
     let e = c .before .before .before .before .before .before .before .before .before in
     let may = T→true free (and-l free test (true→T (free && test) (sym (e .before .may-tighten-at .ensures) ∙ e .if1 .taken))) in
     let done = ran-tighten n (s .args .m) B A u 4 r (l .k) 0 (accepts-tightening v (t .loop-test .taken) may (s .pre .0)) refl (c .before .before .before .class-of-tightening .ensures) (d .tighten-coefficient-at .ensures) in
@@ -112,7 +112,7 @@ loop-again c =
     let A = rowsOf (l .coefs) (l .rhs) (s .args .kinds .now) in
     let known = sym (c .before .may-tighten-at .ensures) in
     let free = isFree B (l .k) in
-    let test = mayTighten (at (l .coefs) (r * n + l .k)) (toZ w64 (l .most)) (at (l .rhs) r) in
+    let test = mayTighten (at (rowOf n (l .coefs) r) (l .k)) (toZ w64 (l .most)) (at (l .rhs) r) in
     let f = tightenCall r in
     let h = t .loop-test .taken in
     ⊎-elim
@@ -127,7 +127,7 @@ loop-again c =
       toZ-ofZ {w = w64} (record { sfits = w .10 .ok }) ∙ w .10 .ensures,
     ))
     (λ w. rw (w .1, w .2, w .3) (
-      record { beside = λ u v. turn n f (l .inv .0 .beside u v) h (quiet-turn (stateOf n m B A u) r (l .k) h (l .inv .1) (known ∙ w .0 .left)) (flag-kept (l .changed) refl (w .4)) },
+      record { beside = λ u v. turn n f (l .inv .0 .beside u v) h (untightened-turn (stateOf n m B A u) r (l .k) (l .inv .1) (known ∙ w .0 .left)) (flag-kept (l .changed) refl (w .4)) },
       l .inv .1,
     ))
     (c .if1 .came)

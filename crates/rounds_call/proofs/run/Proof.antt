@@ -5,7 +5,7 @@ use native.Mathlib.Omega.{arith}
 use Rattle.model.specs.Valid.{ValidState}
 use Rattle.model.specs.Rows.{rowsOf}
 use Rattle.model.specs.State.{State, stateOf}
-use Rattle.semantics.proofs.Accepted.{accepted-valid}
+use Rattle.call_laws.proofs.Accepted.{accepted-valid}
 use Rattle.rounds.specs.Answers.{roundsAnswer}
 use Rattle.rounds.specs.Rounds.{roundsFault}
 use Rattle.rounds.proofs.RoundsLaws.{finished, refuses}

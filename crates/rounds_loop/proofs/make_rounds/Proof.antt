@@ -9,7 +9,7 @@ use Rattle.model.specs.Valid.{ValidState}
 use Rattle.model.specs.Rows.{rowsOf}
 use Rattle.model.specs.State.{State, stateOf}
 use Rattle.rounds.specs.Answers.{roundsAnswer}
-use Rattle.semantics.specs.Unmoved.{anySpent}
+use Rattle.demands.specs.Unmoved.{anySpent}
 use Rattle.rounds.specs.Round.{round}
 use Rattle.rounds.proofs.RoundLaws.{Leads, SameLengths, leads-valid, valid-lengths}
 use Rattle.rounds.proofs.RoundsLaws.{Rest, at-limit, ends-empty, ends-so, ends-unchanged, goes-on, no-round}

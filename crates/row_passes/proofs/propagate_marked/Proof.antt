@@ -29,7 +29,7 @@ use Rattle.row.proofs.ImpliedBoxLaws.{valid-nonEmpty}
 use Rattle.row.proofs.KindLaws.{kinded-infeasible-box, kinded-valid}
 use Rattle.model.proofs.BoxLaws.{empty-is, nonEmpty-isn't}
 use Rattle.row_marks.specs.Marks.{Watched}
-use Rattle.marked_row.proofs.MarkedRowLaws.{Ready, broken, left-by, model-at, ready, ready-trans, ready-visit, tightened, unmoved}
+use Rattle.marked_row.proofs.MarkedRowLaws.{Ready, broken, left-by, model-at, ready, ready-trans, ready-row, tightened, unmoved}
 use Rattle.row_passes.proofs.propagate_marked.Statement.{statement}
 use Rattle.row_passes.proofs.propagate_marked.Tie as tie
 
@@ -171,7 +171,7 @@ module _ (c : tie.After-propagate-row-marked Inv-rows μ-rows Inv-passes μ-pass
       Ready (n h) (m h) (A h) (B h) (h .passes .across) (h .passes .signs) (h .passes .seen) (h .passes .marks) Q (q .0) (q .1 .0) (q .1 .1 .0) (q .1 .1 .1 .0)
   row-ready f =
       let l = c .propagate-row-marked .kept .1 .1 in
-      ready-visit its (row .before .rows .inv .2) left f (c .propagate-row-marked .ensures .1)
+      ready-row its (row .before .rows .inv .2) left f (c .propagate-row-marked .ensures .1)
       (l .0) (l .1 .1 .1 .1 .1 .0) (l .1 .1 .1 .1 .1 .1 .0) (l .1 .1 .1 .1 .1 .1 .1 .0) (l .1 .1 .1 .1 .1 .1 .1 .1 .0)
 
   -- and the pass so far, with it

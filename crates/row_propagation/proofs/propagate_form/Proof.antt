@@ -1,5 +1,5 @@
 -- `row_propagation::propagate_form` is propagateRow of the row with its sign: each way out is one of its four cases (`on-empty`,
--- `quiet`, `unmet`, `moving`), told by the least sum and the widest term, and the callees do the rest. Assumes nothing.
+-- `staying`, `unmet`, `moving`), told by the least sum and the widest term, and the callees do the rest. Assumes nothing.
 use Prim.Native.Nat.{ℕ}
 use borrow.Author.Needs.{needs}
 use lib.IntN.{_-ℤ_, ℤ}
@@ -16,7 +16,7 @@ use Rattle.row.specs.Activity.{minActivity, widestTerm}
 use Rattle.row.specs.Answers.{propagatedRowOf}
 use Rattle.row.specs.Kinds.{signed}
 use Rattle.row.specs.ValidRow.{ValidRow}
-use Rattle.row.proofs.ReachLaws.{least-read, moving, on-empty, quiet, slack, slack-fits, slack-read, unmet, widest-read}
+use Rattle.row.proofs.ReachLaws.{least-read, moving, on-empty, staying, slack, slack-fits, slack-read, unmet, widest-read}
 use Rattle.row.proofs.RowLoops.{implies-box, min-activity-small}
 use Rattle.row.proofs.SignedLaws.{sign-bits, sign-is, signed-row}
 use Rattle.row_propagation.proofs.propagate_form.Statement.{statement}
@@ -94,7 +94,7 @@ returns-2 : tie.Need-returns-2
 unfolding propagatedRowOf
 returns-2 c =
     let m = c .before .before .before .before in
-    sym (quiet (n m) (A m) (s m .args .b) (B m) (some m) (v m .coefs .box .len) (le-read (widest-is m) (room-is m) (c .if2 .taken)))
+    sym (staying (n m) (A m) (s m .args .b) (B m) (some m) (v m .coefs .box .len) (le-read (widest-is m) (room-is m) (c .if2 .taken)))
 
 make-empty-requires : tie.Need-make-empty-requires
 make-empty-requires c κs = search needs

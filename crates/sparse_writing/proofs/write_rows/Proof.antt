@@ -2,19 +2,20 @@
 -- Assumes nothing.
 use Prim.Native.Nat.{_*_, _+_, _-_, _≤_}
 use lib.ListN.{length}
-use mathlib.Core.Path.{_∙_, _≡_, ap₂, refl}
+use mathlib.Core.Path.{_∙_, _≡_, ap, ap₂, refl}
 use mir.Facts.{toZ-ofZ}
 use mir.Syntax.{w32}
 use mir.Val.{SFits, ofZ, toZ}
 use native.Mathlib.Omega.{arith}
-use Rattle.bytes.specs.Pieces.{joined, overwrite, part}
-use Rattle.bytes.proofs.PieceLaws.{length-part, overwrite-start, overwrite-turn, piece-within}
+use Rattle.bytes.specs.Pieces.{joined, overwrite}
+use Rattle.bytes.proofs.PieceLaws.{overwrite-start, overwrite-turn, piece-within}
 use Rattle.model.specs.Box.{at}
-use Rattle.model.specs.Rows.{rowAt, rowWith, rowsOf}
+use Rattle.model.specs.Rows.{rowAt, rowOf, rowWith, rowsOf}
+use Rattle.matrix.proofs.PartLaws.{part-length}
 use Rattle.sparse_layout.specs.SparseBook.{nonzeros, rowsLength, sparseRowBytes, sparseRowBytesAt}
 use Rattle.sparse_layout.proofs.RowLaws.{length-row}
 use Rattle.sparse_layout.proofs.SparseEncodeLaws.{length-rows}
-use Rattle.sparse_layout.proofs.WritingLaws.{row-lent, rows-more, rows-rise}
+use Rattle.sparse_layout.proofs.WritingLaws.{rows-more, rows-rise}
 use Rattle.sparse_writing.proofs.write_rows.Statement.{statement}
 use Rattle.sparse_writing.proofs.write_rows.Tie as tie
 
@@ -42,12 +43,6 @@ within c =
     let a = c .before .before .before .before .args in
     omega (arith, piece-within (length (a .rhs .now)) (a .n) (c .before .loop .i) (omega arith))
 
-mul-start : tie.Need-mul-start Inv-loop μ-loop
-mul-start c = omega (arith, within c)
-
-add-end : tie.Need-add-end Inv-loop μ-loop
-add-end c = omega (arith, within c)
-
 mul-b : tie.Need-mul-b Inv-loop μ-loop
 mul-b c = omega arith
 
@@ -57,45 +52,32 @@ shared-slice-copy-out-b c = omega arith
 shared-slice-read-kind : tie.Need-shared-slice-read-kind Inv-loop μ-loop
 shared-slice-read-kind c = omega arith
 
-mul-write-row : tie.Need-mul-write-row Inv-loop μ-loop
-mul-write-row c = omega (arith, within (c .before .before .before))
+coefficients-requires : tie.Need-coefficients-requires Inv-loop μ-loop
+coefficients-requires c κs = within (c .before .before .before)
 
-sub-write-row : tie.Need-sub-write-row Inv-loop μ-loop
-sub-write-row c = omega arith
-
-part-write-row-start : tie.Need-part-write-row-start Inv-loop μ-loop
-part-write-row-start c = omega arith
-
-part-write-row-end : tie.Need-part-write-row-end Inv-loop μ-loop
-part-write-row-end c = omega (arith, within (c .before .before .before))
-
--- the part lent is row i's coefficients
-lent-length : (c : tie.In-loop Inv-loop μ-loop)
-    → let a = c .before .before .before .before .args in
-    let k = c .before .loop .i * a .n in
-    length (part k (k + a .n - k) (a .coefs .now)) ≡ a .n
-lent-length c =
-    let a = c .before .before .before .before .args in
-    let k = c .before .loop .i * a .n in
-    let e : k + a .n - k ≡ a .n = omega arith in
-    rw e (length-part k (a .n) (a .coefs .now) (omega (arith, within c)))
+-- what is lent is row i, with n coefficients
+lent : (c : tie.After-coefficients Inv-loop μ-loop)
+    → let d = c .before .before .before .before in
+    let a = d .before .before .before .before .args in
+    (c .coefficients .result .now ≡ rowOf (a .n) (a .coefs .now) (d .before .loop .i)) × (length (c .coefficients .result .now) ≡ a .n)
+lent c =
+    let d = c .before .before .before .before in
+    let a = d .before .before .before .before .args in
+    let e = c .coefficients .ensures in
+    (e, ap length e ∙ part-length (d .before .loop .i) (a .n) (a .coefs .now) (within d))
 
 -- and it has its place in the book
 room : (c : tie.In-loop Inv-loop μ-loop)
     → let a = c .before .before .before .before .args in
-    let k = c .before .loop .i * a .n in
-    let lent = part k (k + a .n - k) (a .coefs .now) in
-    c .before .loop .p + (7 + 6 * nonzeros (length lent) (at lent)) ≤ length (a .book .now)
+    c .before .loop .p + (7 + 6 * nonzeros (a .n) (at (rowOf (a .n) (a .coefs .now) (c .before .loop .i)))) ≤ length (a .book .now)
 room c =
     let a = c .before .before .before .before .args in
-    let i = c .before .loop .i in
     let A = rowsOf (a .coefs .now) (a .rhs .now) (a .kinds .now) in
-    rw (lent-length c, row-lent (a .n) (a .coefs .now) i) (omega (arith, rows-rise (a .n) A (length (a .rhs .now)) i (omega arith)))
+    omega (arith, rows-rise (a .n) A (length (a .rhs .now)) (c .before .loop .i) (omega arith))
 
 write-row-requires : tie.Need-write-row-requires Inv-loop μ-loop
 write-row-requires c κs =
-    let d = c .before .before .before .before in
-    (omega (arith, room d), omega (arith, lent-length d))
+    rw (lent c .1, lent c .0) (omega (arith, room (c .before .before .before .before)), omega arith)
 
 add-i : tie.Need-add-i Inv-loop μ-loop
 add-i c = omega arith
@@ -106,7 +88,8 @@ loop-less c = omega arith
 loop-again : tie.Need-loop-again Inv-loop μ-loop
 loop-again c =
     let w = c .before .before in
-    let b = w .before .before .before .before in
+    let l = w .before in
+    let b = l .before .before .before in
     let d = b .before in
     let a = d .before .before .before .before .args in
     let at-loop = d .before .loop in
@@ -115,12 +98,10 @@ loop-again c =
     let A = rowsOf (a .coefs .now) (a .rhs .now) (a .kinds .now) in
     let f = sparseRowBytesAt n A in
     let fx : SFits w32 (at (a .rhs .now) i) = record { sfits = b .b .given } in
-    let k = i * n in
-    let lent = part k (k + n - k) (a .coefs .now) in
-    let same : lent ≡ rowAt n A i .coefs = row-lent n (a .coefs .now) i in
-    let row : sparseRowBytes (length lent) (rowWith lent (toZ w32 (ofZ w32 (at (a .rhs .now) i))) (rowAt n A i .kind)) ≡ f i =
-    rw (lent-length d, same, toZ-ofZ fx) in
-    let count : nonzeros (length lent) (at lent) ≡ nonzeros n (at (rowAt n A i .coefs)) = rw (lent-length d, same) in (
+    let R = l .coefficients .result .now in
+    let row : sparseRowBytes (length R) (rowWith R (toZ w32 (ofZ w32 (at (a .rhs .now) i))) (rowAt n A i .kind)) ≡ f i =
+    rw (lent l .1, lent l .0, toZ-ofZ fx) in
+    let count : nonzeros (length R) (at R) ≡ nonzeros n (at (rowAt n A i .coefs)) = rw (lent l .1, lent l .0) in (
       omega arith,
       w .write-row .kept .0 ∙ at-loop .inv .1,
       omega (arith, w .write-row .ensures .0, count, rows-more n A i),
@@ -145,15 +126,10 @@ write-rows-spec =
     μ-loop
     mul-p
     loop-holds
-    mul-start
-    add-end
     mul-b
     shared-slice-copy-out-b
     shared-slice-read-kind
-    mul-write-row
-    sub-write-row
-    part-write-row-start
-    part-write-row-end
+    coefficients-requires
     write-row-requires
     add-i
     loop-less

@@ -14,11 +14,11 @@ use Rattle.semantics.specs.CallChecks.{callFault}
 use Rattle.model.specs.Rows.{Rows, rowsOf}
 use Rattle.model.specs.State.{stateOf}
 use Rattle.model.specs.Model.{modelOf}
-use Rattle.semantics.proofs.Accepted.{accepted}
+use Rattle.call_laws.proofs.Accepted.{accepted}
 use Rattle.call.specs.Classes.{classIs}
 use Rattle.call.proofs.KindLaws.{kind-other}
 use Rattle.matrix_view.proofs.RowInLaws.{row-in, valid-row}
-use Rattle.probe_step.proofs.AcceptedLaws.{ran-settle, ran-visit}
+use Rattle.probe_step.proofs.AcceptedLaws.{ran-propagation, ran-row}
 use Rattle.step.proofs.StepLaws.{fault-probed, listed-accepted, listed-ran, listed-refused, own-11, own-18, own-budget, own-probe, own-row, ran-probed}
 use Rattle.step.proofs.run_record.Statement.{statement}
 use Rattle.step.proofs.run_record.Tie as tie
@@ -74,19 +74,19 @@ returns c =
 
 -- ---- a visit
 
-visits : (c : tie.Else1) → let s = c .before .before .before .before .before in callFault (stateOf (n s) (m s) (B s) (A s) (t s)) (callOf (stateOf (n s) (m s) (B s) (A s) (t s)) (kind s) (row s) (variable s) (budget s)) ≡ 0
+row-accepted : (c : tie.Else1) → let s = c .before .before .before .before .before in callFault (stateOf (n s) (m s) (B s) (A s) (t s)) (callOf (stateOf (n s) (m s) (B s) (A s) (t s)) (kind s) (row s) (variable s) (budget s)) ≡ 0
 unfolding kindOf isRetired
-visits c =
+row-accepted c =
     let s = c .before .before .before .before .before in
     listed-accepted (n s) (m s) (B s) (A s) (t s) (kind s) (row s) (variable s) (budget s) (s .pre) (rw (c .before .before .match .keys1) tt) (c .before .row-fault .ensures ∙ own-row (n s) (m s) (B s) (A s) (t s) (kind s) (row s) (variable s) (budget s) (c .before .before .match .keys1)) (c .if1 .left)
 
-is-visit : (c : tie.Else1) → kindOf (kind (c .before .before .before .before .before)) ≡ rowPropagation
+is-row : (c : tie.Else1) → kindOf (kind (c .before .before .before .before .before)) ≡ rowPropagation
 unfolding kindOf
-is-visit c = rw (c .before .before .match .keys1)
+is-row c = rw (c .before .before .match .keys1)
 
-visit-row : (c : tie.Else1) → row (c .before .before .before .before .before) < m (c .before .before .before .before .before)
+row-within : (c : tie.Else1) → row (c .before .before .before .before .before) < m (c .before .before .before .before .before)
 unfolding stateOf callOf hasRow
-visit-row c = let a = rw (is-visit c) at (accepted _ _ (visits c)) in a .row tt
+row-within c = let a = rw (is-row c) at (accepted _ _ (row-accepted c)) in a .row tt
 
 cast-propagate-row-at : tie.Need-cast-propagate-row-at
 cast-propagate-row-at c = search needs
@@ -95,7 +95,7 @@ propagate-row-at-requires : tie.Need-propagate-row-at-requires
 propagate-row-at-requires c κs =
     let s = c .before .before .before .before .before .before .before in
     let v = valid s in
-    let h = visit-row (c .before .before) in
+    let h = row-within (c .before .before) in
     (row-in v (row s) h, valid-row v (row s) h (v .box))
 
 class-of-row-requires : tie.Need-class-of-row-requires
@@ -147,7 +147,7 @@ returns-4 c =
     let e = c .before .before .before .before .before in
     let s = c .before .before .before .before .before .before .before .before .before .before in
     let k = e .before .before .match .keys1 in
-    listed-ran (n s) (m s) (B s) (A s) (t s) (kind s) (row s) (variable s) (budget s) (rw k tt) (ran-visit (n s) (m s) (B s) (A s) (t s) (kind s) (row s) (variable s) (budget s) (visits e) _ _ (rw k) (c .class-of-row .ensures) (c .before .before .propagate-row-at .ensures))
+    listed-ran (n s) (m s) (B s) (A s) (t s) (kind s) (row s) (variable s) (budget s) (rw k tt) (ran-row (n s) (m s) (B s) (A s) (t s) (kind s) (row s) (variable s) (budget s) (row-accepted e) _ _ (rw k) (c .class-of-row .ensures) (c .before .before .propagate-row-at .ensures))
 
 same-length-3 : tie.Need-same-length-3
 same-length-3 c = search needs
@@ -159,7 +159,7 @@ returns-5 c =
     let s = c .before .before .before .before .before .before .before .before .before in
     let k = e .before .before .match .keys2 in
     listed-ran (n s) (m s) (B s) (A s) (t s) (kind s) (row s) (variable s) (budget s) (rw k tt)
-    (ran-settle (n s) (m s) (B s) (A s) (t s) (kind s) (row s) (variable s) (budget s) (listed-accepted (n s) (m s) (B s) (A s) (t s) (kind s) (row s) (variable s) (budget s) (s .pre) (rw k tt) (e .before .budget-fault .ensures ∙ own-budget (n s) (m s) (B s) (A s) (t s) (kind s) (row s) (variable s) (budget s) k) (e .if2 .left)) _ _ (rw k)
+    (ran-propagation (n s) (m s) (B s) (A s) (t s) (kind s) (row s) (variable s) (budget s) (listed-accepted (n s) (m s) (B s) (A s) (t s) (kind s) (row s) (variable s) (budget s) (s .pre) (rw k tt) (e .before .budget-fault .ensures ∙ own-budget (n s) (m s) (B s) (A s) (t s) (kind s) (row s) (variable s) (budget s) k) (e .if2 .left)) _ _ (rw k)
     (c .class-of-propagation .ensures) (c .before .before .propagate .ensures))
 
 same-length-4 : tie.Need-same-length-4

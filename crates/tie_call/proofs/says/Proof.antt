@@ -5,7 +5,7 @@ use lib.ListN.{length}
 use mathlib.Core.Path.{_≡_, refl}
 use native.Mathlib.Omega.{arith}
 use Rattle.semantics.specs.Probe.{byteOf, literal}
-use Rattle.semantics.proofs.ImplicationLaws.{byte-lt}
+use Rattle.call_laws.proofs.ImplicationLaws.{byte-lt}
 use Rattle.ties.specs.TieCall.{says, saysByte}
 use Rattle.tie_call.proofs.says.Statement.{statement}
 use Rattle.tie_call.proofs.says.Tie as tie

@@ -3,6 +3,7 @@
 use Prim.Native.Nat.{_<_}
 use borrow.Author.Needs.{needs}
 use lib.ListN.{length}
+use mathlib.Core.List.{[]}
 use mathlib.Core.Path.{_∙_, _≡_, sym}
 use native.Mathlib.Omega.{arith}
 use Rattle.integer.proofs.Tests.{told-false, told-true}
@@ -57,7 +58,7 @@ module _ (c : tie.Else1) where
   unfolding tiedStateOf stateOf
   below = let a = accepted-tie (before s) (s .args .k) (s .args .j) ok in (a .1, a .2)
 
-  small : SmallRows (s .args .n) (s .args .m) (s .args .coefs .now) (s .args .rhs .now)
+  small : SmallRows (s .args .n) (s .args .m) (rowsOf (s .args .coefs .now) (s .args .rhs .now) [])
   unfolding tiedStateOf stateOf
   small = valid-small (valid .state .model)
 

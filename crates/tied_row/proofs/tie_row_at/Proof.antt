@@ -6,7 +6,7 @@ use mathlib.Core.List.{List}
 use mathlib.Core.Path.{_∙_, ap}
 use Prim.Native.Nat.{_*_}
 use Rattle.model.specs.Rows.{splice}
-use Rattle.row_view.proofs.PartLaws.{part-is}
+use Rattle.matrix.proofs.PartLaws.{part-is}
 use Rattle.tied_row.proofs.SmallLaws.{length-part, part-back}
 use Rattle.tied_row.proofs.tie_row_at.Statement.{statement}
 use Rattle.tied_row.proofs.tie_row_at.Tie as tie

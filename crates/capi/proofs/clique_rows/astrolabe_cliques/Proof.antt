@@ -1,6 +1,6 @@
 -- `capi::clique_rows::astrolabe_cliques`: a wrong answer length after 3, or the answer of the open call, written. Assumes nothing.
 use Rattle.clique_call.specs.CliqueAnswers.{cliquesAnswer, performedCliques}
-use Rattle.capi.proofs.CliqueLaws.{cliques-refused, cliques-replied}
+use Rattle.exports.proofs.CliqueLaws.{cliques-refused, cliques-replied}
 use borrow.Author.Needs.{needs}
 use Rattle.capi.proofs.clique_rows.astrolabe_cliques.Statement.{statement}
 use Rattle.capi.proofs.clique_rows.astrolabe_cliques.Tie as tie

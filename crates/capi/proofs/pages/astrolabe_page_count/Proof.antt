@@ -2,8 +2,8 @@
 use borrow.Author.Needs.{needs}
 use mathlib.Core.Path.{_∙_, ap}
 use Rattle.replies.specs.PageReplies.{pageReply}
-use Rattle.capi.specs.PageExports.{countExport}
-use Rattle.capi.proofs.BookLaws.{book-refused, book-replied}
+use Rattle.exports.specs.PageExports.{countExport}
+use Rattle.exports.proofs.BookLaws.{book-refused, book-replied}
 use Rattle.capi.proofs.pages.astrolabe_page_count.Statement.{statement}
 use Rattle.capi.proofs.pages.astrolabe_page_count.Tie as tie
 

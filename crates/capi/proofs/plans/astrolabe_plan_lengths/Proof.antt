@@ -1,8 +1,8 @@
 -- `capi::plans::astrolabe_plan_lengths`: a wrong answer length after 1, or the answer of the open call, written. Assumes nothing.
 use mathlib.Core.Path.{ap}
 use Rattle.replies.specs.Replies.{planReply}
-use Rattle.capi.specs.Exports.{lengthsExport}
-use Rattle.capi.proofs.BookLaws.{book-refused, book-replied}
+use Rattle.exports.specs.Exports.{lengthsExport}
+use Rattle.exports.proofs.BookLaws.{book-refused, book-replied}
 use borrow.Author.Needs.{needs}
 use Rattle.capi.proofs.plans.astrolabe_plan_lengths.Statement.{statement}
 use Rattle.capi.proofs.plans.astrolabe_plan_lengths.Tie as tie

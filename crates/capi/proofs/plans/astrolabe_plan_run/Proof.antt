@@ -1,8 +1,8 @@
 -- `capi::plans::astrolabe_plan_run`: a wrong answer length after 3, or the answer of the open call, written. Assumes nothing.
 use mathlib.Core.Path.{_∙_, ap}
 use Rattle.replies.specs.Replies.{planReply}
-use Rattle.capi.specs.Exports.{passesExport}
-use Rattle.capi.proofs.BookLaws.{book-refused, book-replied}
+use Rattle.exports.specs.Exports.{passesExport}
+use Rattle.exports.proofs.BookLaws.{book-refused, book-replied}
 use borrow.Author.Needs.{needs}
 use Rattle.capi.proofs.plans.astrolabe_plan_run.Statement.{statement}
 use Rattle.capi.proofs.plans.astrolabe_plan_run.Tie as tie

@@ -1,9 +1,9 @@
 -- `capi::sparse_books::astrolabe_sparse_read`: a wrong answer length after 1 to 4, 19 and 20, or the answer of the open call, written. Assumes nothing.
 use borrow.Author.Needs.{needs}
 use mathlib.Core.Path.{_∙_, ap}
-use Rattle.capi.specs.SparseExports.{sparseReadExport}
+use Rattle.exports.specs.SparseExports.{sparseReadExport}
 use Rattle.replies.specs.Replies.{bookReply}
-use Rattle.capi.proofs.BookLaws.{book-refused, book-replied, lent-after, lent-stays}
+use Rattle.exports.proofs.BookLaws.{book-refused, book-replied, lent-after, lent-stays}
 use Rattle.capi.proofs.sparse_books.astrolabe_sparse_read.Statement.{statement}
 use Rattle.capi.proofs.sparse_books.astrolabe_sparse_read.Tie as tie
 

@@ -5,8 +5,8 @@ use mathlib.Core.Bool.{false}
 use mathlib.Core.Path.{_∙_, ap, refl}
 use Rattle.model.proofs.CheckLaws.{fails, past}
 use Rattle.replies.specs.Replies.{bookReply, wrongLength}
-use Rattle.capi.specs.SparseExports.{sparseTrailerExport}
-use Rattle.capi.proofs.BookLaws.{book-refused, book-replied}
+use Rattle.exports.specs.SparseExports.{sparseTrailerExport}
+use Rattle.exports.proofs.BookLaws.{book-refused, book-replied}
 use Rattle.capi.proofs.sparse_books.astrolabe_sparse_trailer.Statement.{statement}
 use Rattle.capi.proofs.sparse_books.astrolabe_sparse_trailer.Tie as tie
 

@@ -5,7 +5,7 @@ use Prim.Native.Nat.{ℕ}
 use Rattle.model.specs.Rows.{Rows, rowsOf}
 use Rattle.model.specs.State.{stateOf}
 use Rattle.ties.specs.Ties.{TiedState, tiedStateOf}
-use Rattle.capi.proofs.TieLaws.{tie-refused, tie-replied}
+use Rattle.exports.proofs.TieLaws.{tie-refused, tie-replied}
 use Rattle.capi.proofs.tied.astrolabe_tie.Statement.{statement}
 use Rattle.capi.proofs.tied.astrolabe_tie.Tie as tie
 

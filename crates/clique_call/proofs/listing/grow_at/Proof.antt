@@ -1,6 +1,5 @@
 -- `clique_call::listing::grow_at`: the part that is lent is row k, which is all 0, and it comes back as the clique's. Assumes nothing.
-use mathlib.Core.Path.{_≡_}
-use Rattle.row_view.proofs.PartLaws.{part-is}
+use Rattle.matrix.proofs.PartLaws.{part-is}
 use Rattle.cliques.specs.Cliques.{cliqueRow, grow}
 use Rattle.cliques.proofs.CliqueLaws.{length-cliqueRow}
 use Rattle.clique_call.proofs.ListLaws.{part-back}

@@ -1,7 +1,7 @@
 -- `clique_call::listing::zero_at`: the part that is lent is row k, and it comes back all 0. Assumes nothing.
 use Rattle.row.specs.Redundancy.{zeroRow}
 use Rattle.row.proofs.RedundancyLaws.{length-zeroRow}
-use Rattle.row_view.proofs.PartLaws.{part-is}
+use Rattle.matrix.proofs.PartLaws.{part-is}
 use Rattle.clique_call.proofs.ListLaws.{length-part, part-back}
 use borrow.Author.Needs.{needs}
 use Rattle.clique_call.proofs.listing.zero_at.Statement.{statement}

@@ -7,7 +7,7 @@ use native.Mathlib.Omega.{arith}
 use Rattle.semantics.specs.Run.{classListed, noCounts, stepListed}
 use Rattle.model.specs.Rows.{rowsOf}
 use Rattle.model.specs.State.{State, stateOf}
-use Rattle.semantics.proofs.CallLists.{along-end, list-accepted}
+use Rattle.demands.proofs.CallLists.{along-end, list-accepted}
 use Rattle.call.specs.Classes.{countsOf}
 use Rattle.flat_list.specs.ListAnswers.{ranTo}
 use Rattle.flat_record.proofs.ClassLaws.{Told, told-end, told-more, told-start}

@@ -5,8 +5,8 @@ use Rattle.integer.proofs.Parts.{zarith}
 use Rattle.integer.proofs.Tests.{false→T}
 use Rattle.model.specs.Box.{NonEmpty, isEmpty}
 use Rattle.row.proofs.ImpliedBoxLaws.{valid-nonEmpty}
-use Rattle.semantics.specs.Passes.{totalWidth}
-use Rattle.semantics.proofs.Passes.{total-width-is, total-width-limit}
+use Rattle.demands.specs.Passes.{totalWidth}
+use Rattle.demands.proofs.Passes.{total-width-is, total-width-limit}
 use borrow.Author.Needs.{needs}
 use Rattle.plan.proofs.bounds.total_width.Statement.{statement}
 use Rattle.plan.proofs.bounds.total_width.Tie as tie

@@ -2,7 +2,7 @@
 -- nothing.
 use mathlib.Core.Path.{_∙_, _≡_, sym}
 use Rattle.model.specs.Checks.{first}
-use Rattle.semantics.specs.Passes.{enoughBudget}
+use Rattle.demands.specs.Passes.{enoughBudget}
 use Rattle.plan.specs.Answers.{widthAnswer, widthCall}
 use Rattle.plan.specs.PlanChecks.{boundsChecks}
 use Rattle.plan.proofs.PlanLaws.{accepted-by, bounds-passed, refused-by, width-promised}

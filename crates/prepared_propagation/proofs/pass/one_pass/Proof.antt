@@ -14,7 +14,7 @@ use Rattle.prepared_model.specs.RowReasons.{rowReasons}
 use Rattle.row.specs.Answers.{propagatedRowOf}
 use Rattle.row.specs.Kinds.{propagateRowOf}
 use Rattle.row.specs.declared.propagation.RowPropagation.the-variants.{Tightened, Unchanged}
-use Rattle.semantics.proofs.PropagateLaws.{moved-at-most}
+use Rattle.call_laws.proofs.PropagateLaws.{moved-at-most}
 use Rattle.prepared_propagation.proofs.PassLaws.{Passing, passing-all, passing-ended, passing-first, passing-lost, passing-next, passing-some, sum-small}
 use Rattle.prepared_propagation.proofs.pass.one_pass.Statement.{statement}
 use Rattle.prepared_propagation.proofs.pass.one_pass.Tie as tie

@@ -4,7 +4,7 @@ use native.Mathlib.Omega.{arith}
 use Rattle.prepared_model.specs.Layout.{decode}
 use Rattle.propagation.specs.Results.{propagationOf}
 use Rattle.semantics.specs.Propagate.{propagateFrom}
-use Rattle.semantics.proofs.PropagateLaws.{look-converged, look-spent}
+use Rattle.call_laws.proofs.PropagateLaws.{look-converged, look-spent}
 use Rattle.prepared_propagation.proofs.search.last_look.Statement.{statement}
 use Rattle.prepared_propagation.proofs.search.last_look.Tie as tie
 

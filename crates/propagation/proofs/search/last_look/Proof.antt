@@ -3,7 +3,7 @@ use mathlib.Core.Path.{_∙_, _≡_, sym}
 use native.Mathlib.Omega.{arith}
 use Rattle.model.specs.Rows.{Rows, rowsOf}
 use Rattle.semantics.specs.Propagate.{propagateFrom}
-use Rattle.semantics.proofs.PropagateLaws.{look-converged, look-spent}
+use Rattle.call_laws.proofs.PropagateLaws.{look-converged, look-spent}
 use Rattle.propagation.specs.Results.{propagationOf}
 use Rattle.propagation.proofs.search.last_look.Statement.{statement}
 use Rattle.propagation.proofs.search.last_look.Tie as tie

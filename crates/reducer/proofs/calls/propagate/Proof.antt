@@ -9,7 +9,7 @@ use Rattle.semantics.specs.Perform.{perform, propagated}
 use Rattle.semantics.specs.Call.{Call, callOf}
 use Rattle.model.specs.Rows.{rowsOf}
 use Rattle.model.specs.State.{State, stateOf}
-use Rattle.semantics.proofs.Accepted.{accepted}
+use Rattle.call_laws.proofs.Accepted.{accepted}
 use Rattle.reducer.specs.OpenCalls.{performed, propagateAnswer}
 use Rattle.propagation.specs.Results.{propagationOf}
 use Rattle.propagation.specs.declared.Propagation.{Propagation}

@@ -24,14 +24,14 @@ abbrev μ-loop : tie.MeasureT-loop
 loop-holds : tie.Need-loop-holds Inv-loop μ-loop
 loop-holds c = (omega arith, c .before .pre .0 .room, below-none _)
 
-line-requires : tie.Need-line-requires Inv-loop μ-loop
-line-requires c κs = let s = c .before .before .before in omega (arith, line-end (c .before .loop .c) (s .args .count) (s .args .n) (omega arith), s .pre .0 .len)
+proposal-at-requires : tie.Need-proposal-at-requires Inv-loop μ-loop
+proposal-at-requires c κs = let s = c .before .before .before in omega (arith, line-end (c .before .loop .c) (s .args .count) (s .args .n) (omega arith), s .pre .0 .len)
 
 hold-box-requires : tie.Need-hold-box-requires Inv-loop μ-loop
 hold-box-requires c κs =
     let s = c .before .before .before .before .before in
     let h = c .before .before .before in (
-      (s .pre .0 .few, s .pre .1, ap length (c .before .line .ensures) ∙ length-rowOf (s .args .n) (s .args .count) (s .args .proposals .now) (h .loop .c) (s .pre .0 .len) (omega arith)),
+      (s .pre .0 .few, s .pre .1, ap length (c .before .proposal-at .ensures) ∙ length-rowOf (s .args .n) (s .args .count) (s .args .proposals .now) (h .loop .c) (s .pre .0 .len) (omega arith)),
       omega (arith, h .loop .inv .1),
     )
 
@@ -48,7 +48,7 @@ loop-again c =
     let v = boxVerdict (s .args .n) (s .args .bounds .now) (proposal (s .args .n) (s .args .proposals .now) (h .loop .c)) in
     let e : c .before .before .hold-box .last .1 .1 .1 .1 .0 ≡ withVerdict (h .loop .verdicts) (h .loop .c) v =
     c .before .before .hold-box .ensures
-    ∙ ap (λ (x : List ℤ). withVerdict (h .loop .verdicts) (h .loop .c) (boxVerdict (s .args .n) (s .args .bounds .now) x)) (c .before .before .before .before .line .ensures) in (
+    ∙ ap (λ (x : List ℤ). withVerdict (h .loop .verdicts) (h .loop .c) (boxVerdict (s .args .n) (s .args .bounds .now) x)) (c .before .before .before .before .proposal-at .ensures) in (
       omega arith,
       subst (λ (X : List ℕ). length X ≡ 2 * s .args .count) (sym e) (length-told (h .loop .verdicts) (h .loop .c) v ∙ h .loop .inv .1),
       subst (λ (X : List ℕ). (d : ℕ) → d < h .loop .c + 1 → Says X d (boxVerdict (s .args .n) (s .args .bounds .now) (proposal (s .args .n) (s .args .proposals .now) d)))
@@ -70,7 +70,7 @@ hold-boxes-spec =
     Inv-loop
     μ-loop
     loop-holds
-    line-requires
+    proposal-at-requires
     hold-box-requires
     add-c
     loop-less

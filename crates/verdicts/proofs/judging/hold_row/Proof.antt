@@ -33,8 +33,8 @@ abbrev μ-loop : tie.MeasureT-loop
 loop-holds : tie.Need-loop-holds Inv-loop μ-loop
 loop-holds c = (omega arith, halfway-start _ _)
 
-line-requires : tie.Need-line-requires Inv-loop μ-loop
-line-requires c κs = let s = c .before .before .before .before in omega (arith, line-end (c .before .loop .c) (s .args .count) (s .args .n) (omega arith), s .pre .0 .lent .len)
+proposal-at-requires : tie.Need-proposal-at-requires Inv-loop μ-loop
+proposal-at-requires c κs = let s = c .before .before .before .before in omega (arith, line-end (c .before .loop .c) (s .args .count) (s .args .n) (omega arith), s .pre .0 .lent .len)
 
 hold-one-requires : tie.Need-hold-one-requires Inv-loop μ-loop
 hold-one-requires c κs =
@@ -44,8 +44,8 @@ hold-one-requires c κs =
     let k : h .loop .c < s .args .count = omega arith in
     let l = s .pre .0 .len in (
       (
-        (λ e. subst (λ (j : ℕ). Holdable j A (now (c .before .line .result))) (sym l)
-            (subst (Holdable (s .args .n) A) (sym (c .before .line .ensures)) (s .pre .0 .small (h .loop .c) k (sym (h .loop .inv .1 .rest (2 * h .loop .c) (omega arith)) ∙ e)))),
+        (λ e. subst (λ (j : ℕ). Holdable j A (now (c .before .proposal-at .result))) (sym l)
+            (subst (Holdable (s .args .n) A) (sym (c .before .proposal-at .ensures)) (s .pre .0 .small (h .loop .c) k (sym (h .loop .inv .1 .rest (2 * h .loop .c) (omega arith)) ∙ e)))),
         subst (λ (j : ℕ). Steps j A (s .args .steps .now)) (sym l) (s .pre .1),
       ),
       omega (arith, h .loop .inv .1 .len, s .pre .0 .lent .room),
@@ -67,7 +67,7 @@ loop-again c =
       halfway-more (heldAt (s .args .n) (s .args .coefs .now) b (s .args .kind) (s .args .i) (s .args .proposals .now)) (h .loop .inv .1) (s .pre .0 .told (h .loop .c) k)
           (omega (arith, s .pre .0 .lent .room)) (λ v t. c .before .before .hold-one .ensures v t
           ∙ ap₂ (λ (j : ℕ) (x : List ℤ). withVerdict (h .loop .verdicts) (h .loop .c) (held (s .args .i) (meets j (rowWith (s .args .coefs .now) b (s .args .kind)) x) v))
-          (s .pre .0 .len) (c .before .before .before .before .line .ensures)),
+          (s .pre .0 .len) (c .before .before .before .before .proposal-at .ensures)),
     )
 
 same-length : tie.Need-same-length Inv-loop μ-loop
@@ -91,7 +91,7 @@ hold-row-spec =
     Inv-loop
     μ-loop
     loop-holds
-    line-requires
+    proposal-at-requires
     hold-one-requires
     add-c
     loop-less

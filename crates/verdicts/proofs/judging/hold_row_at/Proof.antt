@@ -2,37 +2,23 @@
 use lib.IntN.{ℤ}
 use lib.ListN.{getD}
 use mathlib.Core.List.{List}
-use mathlib.Core.Path.{ap₂, subst, sym}
+use mathlib.Core.Path.{ap₂}
 use mir.Facts.{toZ-ofZ}
 use mir.Syntax.{w32}
 use Rattle.model.specs.Rows.{rowWith}
-use Rattle.proposals.specs.Holding.{Pending}
 use Rattle.proposals.specs.Proposals.{proposal}
 use Rattle.proposals.specs.Telling.{held}
 use Rattle.proposals.specs.Verdict.{meets}
-use Rattle.verdicts.proofs.JudgeLaws.{lent-steps}
 use Rattle.proposals.proofs.TellingLaws.{tells-as}
 use borrow.Author.Needs.{needs}
 use Rattle.verdicts.proofs.judging.hold_row_at.Statement.{statement}
 use Rattle.verdicts.proofs.judging.hold_row_at.Tie as tie
 
-mul-start : tie.Need-mul-start
-mul-start c = search needs
+coefficients-requires : tie.Need-coefficients-requires
+coefficients-requires c κs = search needs
 
-add-end : tie.Need-add-end
-add-end c = search needs
-
-line-requires : tie.Need-line-requires
-line-requires c κs = search needs
-
-sub-hold-row : tie.Need-sub-hold-row
-sub-hold-row c = search needs
-
-part-hold-row-start : tie.Need-part-hold-row-start
-part-hold-row-start c = search needs
-
-part-hold-row-end : tie.Need-part-hold-row-end
-part-hold-row-end c = search needs
+row-bytes-requires : tie.Need-row-bytes-requires
+row-bytes-requires c κs = search needs
 
 mul-hold-row : tie.Need-mul-hold-row
 mul-hold-row c = search needs
@@ -48,11 +34,9 @@ cast-hold-row c = search needs
 
 hold-row-requires : tie.Need-hold-row-requires
 hold-row-requires c κs =
-    let s = c .before .before .before .before .before .before .before .before in
-    let e = c .before .before .before .before .line .ensures in (
-      subst (λ (A : List ℤ). Pending (s .args .n) (s .args .count) A (s .args .proposals .now) (s .args .verdicts .now)) (sym e) (s .pre .1),
-      lent-steps (s .args .i) e (s .pre .0 .2),
-    )
+    let row = c .before .before .before .before in
+    let s = row .before .before .before .before in
+    rw (row .coefficients .ensures, c .before .before .before .row-bytes .ensures) (s .pre .1, s .pre .0 .2 .good)
 
 same-length : tie.Need-same-length
 same-length c = search needs
@@ -60,21 +44,18 @@ same-length c = search needs
 returns : tie.Need-returns
 returns c f t =
     let d = c .before .before in
-    let s = d .before .before .before .before .before .before .before .before .before in
-    let b = toZ-ofZ {w = w32} (record { sfits = d .before .before .before .hold-row-arg2 .given }) in
+    let row = d .before .before .before .before .before in
+    let s = row .before .before .before .before in
+    let b = toZ-ofZ {w = w32} (record { sfits = d .before .before .before .hold-row-arg .given }) in
     tells-as (λ k. ap₂ (λ (A : List ℤ) (z : ℤ). held (s .args .i) (meets (s .args .n) (rowWith A z (getD (s .args .kinds .now) (s .args .i) 0)) (proposal (s .args .n) (s .args .proposals .now) k)) (f k))
-    (d .before .before .before .before .before .line .ensures) b) (d .hold-row .ensures f t)
+    (row .coefficients .ensures) b) (d .hold-row .ensures f t)
 
 pub hold-row-at-spec : {M : Type 1} → statement M
 hold-row-at-spec =
     tie.close
     (tie.spec
-    mul-start
-    add-end
-    line-requires
-    sub-hold-row
-    part-hold-row-start
-    part-hold-row-end
+    coefficients-requires
+    row-bytes-requires
     mul-hold-row
     shared-slice-copy-out-hold-row
     shared-slice-read-hold-row

@@ -1,0 +1,13 @@
+pub mod Accepted
+pub mod RowChange
+pub mod ImplicationLaws
+pub mod Tally
+pub mod LowestLaws
+pub mod PropagateLaws
+pub mod ProbeLaws
+pub mod CallLaws
+pub mod Preserved
+pub mod ClassLaws
+pub mod Convergence
+pub mod RestAnswer
+pub mod Reachability

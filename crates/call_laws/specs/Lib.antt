@@ -1,0 +1,3 @@
+pub mod Fixpoint
+pub mod Points
+pub mod Convergence

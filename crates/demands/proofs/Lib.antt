@@ -1,0 +1,15 @@
+pub mod Demand1
+pub mod Passes
+pub mod Greatest
+pub mod Endings
+pub mod Untouched
+pub mod Demand2
+pub mod Demand3
+pub mod ListedLaws
+pub mod CallLists
+pub mod Measure
+pub mod Unmoved
+pub mod Solvers
+pub mod PassesCorners
+pub mod MeasureCorners
+pub mod RestCorners

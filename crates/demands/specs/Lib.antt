@@ -1,0 +1,11 @@
+pub mod Demand1
+pub mod Passes
+pub mod Demand2
+pub mod TwoRuns
+pub mod TwoLists
+pub mod Measure
+pub mod Unmoved
+pub mod Solvers
+pub mod PassesCorners
+pub mod MeasureCorners
+pub mod RestCorners
