@@ -74,7 +74,7 @@ module _ (s : State) (v : ValidModel (s .model)) where
       let u = lowest-fails (spansAt n m A B) n h in
       let f = not-not (isFree B k) (not-or-l (not (isFree B k)) (sidesSpan n m A B k) u) in
       record {
-        quiet = fixpoint-test n m A B (valid-nonEmpty (v .box) t) .0 q;
+        fixpoint = fixpoint-test n m A B (valid-nonEmpty (v .box) t) .0 q;
         variable = h;
         free = f;
         fails = λ z. T-not (sidesSpan n m A B k) (not-or-r (not (isFree B k)) (sidesSpan n m A B k) u) (spans t k f .1 z);
@@ -99,7 +99,7 @@ module _ (s : State) (v : ValidModel (s .model)) where
 
   at-rest-variable : AtRest s → (k : ℕ) → MovedByVariable s k → ⊥
   unfolding ProbingFixpoint
-  at-rest-variable a k q = ⊎-elim (not-empty (q .quiet .nonEmpty)) (λ f. q .fails (f .spans k (q .variable) (q .free))) a
+  at-rest-variable a k q = ⊎-elim (not-empty (q .fixpoint .nonEmpty)) (λ f. q .fails (f .spans k (q .variable) (q .free))) a
 
   one-row : (r i : ℕ) → MovedByRow s r → MovedByRow s i → r ≡ i
   one-row r i p q = go (decLt r i) (decLt i r)
@@ -124,9 +124,9 @@ module _ (s : State) (v : ValidModel (s .model)) where
   one-answer atRest (byVariable k) p q = absurd (at-rest-variable p k q)
   one-answer (byRow r) atRest p q = absurd (at-rest-row q r p)
   one-answer (byRow r) (byRow i) p q = ap byRow (one-row r i p q)
-  one-answer (byRow r) (byVariable k) p q = absurd (p .changes (q .quiet .same r (p .row)))
+  one-answer (byRow r) (byVariable k) p q = absurd (p .changes (q .fixpoint .same r (p .row)))
   one-answer (byVariable k) atRest p q = absurd (at-rest-variable q k p)
-  one-answer (byVariable k) (byRow r) p q = absurd (q .changes (p .quiet .same r (q .row)))
+  one-answer (byVariable k) (byRow r) p q = absurd (q .changes (p .fixpoint .same r (q .row)))
   one-answer (byVariable k) (byVariable j) p q = ap byVariable (one-variable k j p q)
 
 pub rest-answer : RestAnswered
@@ -139,7 +139,7 @@ rest-answer s v a = (
 pub rest-probe-moves : ProbeMoves
 unfolding ProbeMoves LargestBudget
 rest-probe-moves s v k q =
-    probe-moves (s .model .n) (s .model .m) (s .model .rows) (s .model .box) (v .some) (q .quiet .nonEmpty) (width-limit (s .model) v .1) k (s .table) (q .variable) (q .free) (q .fails)
+    probe-moves (s .model .n) (s .model .m) (s .model .rows) (s .model .box) (v .some) (q .fixpoint .nonEmpty) (width-limit (s .model) v .1) k (s .table) (q .variable) (q .free) (q .fails)
 
 -- ---- the yes or no
 

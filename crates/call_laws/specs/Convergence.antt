@@ -81,7 +81,7 @@ pub record MovedByRow (s : State) (r : ℕ) : Type 0 where
 -- "or, if none does, the lowest free 0-1 variable whose two sides fail 01's test": of variable k
 pub record MovedByVariable (s : State) (k : ℕ) : Type 0 where
   -- "if none does"
-  pub quiet : let M = s .model in Fixpoint (M .n) (M .m) (M .rows) (M .box)
+  pub fixpoint : let M = s .model in Fixpoint (M .n) (M .m) (M .rows) (M .box)
   pub variable : k < s .model .n
   pub free : T (isFree (s .model .box) k)
   pub fails : let M = s .model in SidesSpan (M .n) (M .m) (M .rows) (M .box) k → ⊥

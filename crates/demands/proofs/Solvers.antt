@@ -22,7 +22,7 @@ use Rattle.call_laws.proofs.Preserved.{run-preserves}
 use Rattle.call_laws.proofs.ProbeLaws.{probe-ind}
 use Rattle.call_laws.proofs.PropagateLaws.{propagate-infeasible-box}
 use Rattle.demands.specs.Passes.{enoughBudget}
-use Rattle.demands.specs.Solvers.{NothingMovesRests, SolversAgree}
+use Rattle.demands.specs.Solvers.{NothingLeftRests, SolversAgree}
 use Rattle.demands.specs.TwoRuns.{Demand3}
 use Rattle.demands.proofs.Demand3.{demand-3, handed-in-valid}
 use Rattle.demands.proofs.Passes.{total-width-is}
@@ -51,9 +51,9 @@ module _ (n m : ℕ) (A : Rows) (B : List ℤ) (h : 0 < n) (p : NonEmpty n B) (b
       (λ _ x _ e. absurd (side-moves n m A B k kn f budget 0 x e))
       (λ _ x y e. span-iff budget n m A B h p enough k f .0 (x, y, e))
 
-pub nothing-moves-rests : NothingMovesRests
-unfolding NothingMovesRests ProbingFixpoint
-nothing-moves-rests s v w = ⊎-elim
+pub nothing-left-rests : NothingLeftRests
+unfolding NothingLeftRests ProbingFixpoint
+nothing-left-rests s v w = ⊎-elim
     (λ (e : s .model .box ≡ emptyBox (s .model .n)). inl e)
     (λ p.
     let M = s .model in
@@ -66,9 +66,9 @@ nothing-moves-rests s v w = ⊎-elim
     (v .model .box .shape)
 
 pub solvers-agree : SolversAgree
-unfolding SolversAgree Demand3 NothingMovesRests
+unfolding SolversAgree Demand3 NothingLeftRests
 solvers-agree s before one two g p1 p2 w1 w2 =
     let t = run s before in
     let v = run-preserves s before .valid (handed-in-valid s g) in
-    demand-3 s before one two g p1 p2 .sameEnd (nothing-moves-rests (run t one) (run-preserves t one .valid v) w1) .1
-    (nothing-moves-rests (run t two) (run-preserves t two .valid v) w2)
+    demand-3 s before one two g p1 p2 .sameEnd (nothing-left-rests (run t one) (run-preserves t one .valid v) w1) .1
+    (nothing-left-rests (run t two) (run-preserves t two .valid v) w2)

@@ -41,13 +41,13 @@ within-rhs {z} b = within! 1_000_000_000 z (omega zarith)
 
 -- a right side and its kind, read back
 module _ (x kind : ℕ) (z : ℤ) (b : Between minRhs maxRhs z) (e : pos x ≡ z +ℤ pos 1_000_000_000) where
-  pub side-small : x ≤ 2_000_000_000
-  side-small = omega (zarith, b, e, add-parts z (pos 1_000_000_000))
+  pub rhs-small : x ≤ 2_000_000_000
+  rhs-small = omega (zarith, b, e, add-parts z (pos 1_000_000_000))
 
   pub rhs-packed : kind < 2 → (rhsOf (x * 2 + kind) ≡ z) × ((x * 2 + kind) % 2 ≡ kind)
   rhs-packed h =
       let d : (x * 2 + kind) / 2 ≡ x = digits-div x h in (
-        rhs-inside (x * 2 + kind) (omega (arith, d, side-small))
+        rhs-inside (x * 2 + kind) (omega (arith, d, rhs-small))
             ∙ rw d (omega (zarith, e, add-parts z (pos 1_000_000_000), sub-parts (pos x) (pos 1_000_000_000))),
         digits-mod x h,
       )

@@ -61,7 +61,7 @@ pub fn pack_rows(n: usize, m: usize, coefs: &[i32], ws: &mut [u32])
 pub fn pack_rhs(m: usize, rhs: &[i32], kinds: &[u8], ws: &mut [u32])
     requires { ⌜ (m ≤ maxRows) × (length (now rhs) ≡ m) × ((i : ℕ) → Between minRhs maxRhs (at (now rhs) i))
         × (length (now kinds) ≡ m) × ((i : ℕ) → getD (now kinds) i 0 < 2) × (length (now ws) ≡ workspaceLen) ⌝ }
-    ensures sides { λ _.
+    ensures rhs_packed { λ _.
         ⌜ ((r : ℕ) → r < m → (rhsOf (rhsWord (now (ws .exit)) r) ≡ at (now (rhs .entry)) r)
         × (rhsWord (now (ws .exit)) r % 2 ≡ getD (now (kinds .entry)) r 0)) ⌝ }
     ensures others { λ _. ⌜ SameBut 264 384 (now (ws .entry)) (now (ws .exit)) ⌝ }

@@ -67,8 +67,8 @@ pub fn write_row(r: u32, b: i32, coefs: &[i32], buf: &mut [u8], at: usize) -> us
 {
     let letter = write_byte(b'r', buf, at);
     let row = write_natural(r, buf, letter);
-    let side = write_integer(b, buf, row);
-    let end = write_integers(coefs, buf, side);
+    let rhs = write_integer(b, buf, row);
+    let end = write_integers(coefs, buf, rhs);
     write_byte(b'\n', buf, end)
 }
 

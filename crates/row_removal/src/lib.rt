@@ -39,7 +39,7 @@ fn clear_row(coefs: &mut [i32], b: &mut i32) -> RowRemoval
         ⌜ removalOutcome r
         ≡ cond (eqZ (now (b .entry)) (pos 0) && sameList A (zeroRow (length A))) unchanged changed ⌝ }
     ensures row { λ r. ⌜ now (coefs .exit) ≡ zeroRow (length (now (coefs .entry))) ⌝ }
-    ensures side { λ r. ⌜ now (b .exit) ≡ pos 0 ⌝ }
+    ensures rhs_zero { λ r. ⌜ now (b .exit) ≡ pos 0 ⌝ }
 {
     let old = *b;
     *b = 0;

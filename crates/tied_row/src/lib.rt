@@ -46,15 +46,15 @@ fn row_fits(coefs: &[i32], b: i32, k: usize, j: usize, w: u32) -> bool
     ensures { λ r. ⌜ r ≡ rowFits k j w (now (coefs .entry)) b ⌝ }
 {
     let a = tied_coef(w, coefs[k], coefs[j]);
-    let side = tied_rhs(w, coefs[j], b);
-    ((-MAX_COEF <= a) & (a <= MAX_COEF)) & ((-MAX_RHS <= side) & (side <= MAX_RHS))
+    let rhs = tied_rhs(w, coefs[j], b);
+    ((-MAX_COEF <= a) & (a <= MAX_COEF)) & ((-MAX_RHS <= rhs) & (rhs <= MAX_RHS))
 }
 
 // Puts it into one row; `b` is its right side.
 fn tie_row(coefs: &mut [i32], b: &mut i32, k: usize, j: usize, w: u32)
     requires { ⌜ SmallRow (now coefs) (now b) k j ⌝ }
     ensures row { λ r. ⌜ now (coefs .exit) ≡ tiedCoefs k j w (now (coefs .entry)) ⌝ }
-    ensures side { λ r. ⌜ now (b .exit) ≡ tiedRhs j w (now (coefs .entry)) (now (b .entry)) ⌝ }
+    ensures rhs_tied { λ r. ⌜ now (b .exit) ≡ tiedRhs j w (now (coefs .entry)) (now (b .entry)) ⌝ }
 {
     let aj = coefs[j];
     let ak = coefs[k];
@@ -95,7 +95,7 @@ fn tie_row_at(n: usize, coefs: &mut [i32], rhs: &mut [i32], i: usize, k: usize, 
     ensures row { λ r.
         let C = now (coefs .entry) in
         ⌜ now (coefs .exit) ≡ splice C (tiedCoefs k j w (rowOf n C i)) (i * n) ⌝ }
-    ensures side { λ r.
+    ensures rhs_tied { λ r.
         let C = now (coefs .entry) in
         ⌜ now (rhs .exit) ≡ set (now (rhs .entry)) i (tiedRhs j w (rowOf n C i) (at (now (rhs .entry)) i)) ⌝ }
 {
@@ -108,7 +108,7 @@ fn tie_row_at(n: usize, coefs: &mut [i32], rhs: &mut [i32], i: usize, k: usize, 
 pub fn tie_rows(n: usize, m: usize, coefs: &mut [i32], rhs: &mut [i32], k: usize, j: usize, w: u32)
     requires { ⌜ SmallRows n m (rowsOf (now coefs) (now rhs) []) × ((k < n) × (j < n)) ⌝ }
     ensures rows { λ r. ⌜ now (coefs .exit) ≡ tieCoefsTo m n k j w (now (coefs .entry)) ⌝ }
-    ensures sides { λ r. ⌜ now (rhs .exit) ≡ tieRhsTo m n j w (now (coefs .entry)) (now (rhs .entry)) ⌝ }
+    ensures rhs_tied { λ r. ⌜ now (rhs .exit) ≡ tieRhsTo m n j w (now (coefs .entry)) (now (rhs .entry)) ⌝ }
 {
     let mut i = 0;
     while i < m {

@@ -14,7 +14,7 @@ use Rattle.packed_row.specs.Words.{rhsOf}
 use Rattle.prepared_model.specs.Layout.{rhsWord}
 use Rattle.prepared_model.specs.SameBut.{SameBut}
 use Rattle.prepared_model.proofs.KeptLaws.{same-more, same-none, same-wider}
-use Rattle.pack.proofs.PackLaws.{rhs-packed, side-small, within-rhs}
+use Rattle.pack.proofs.PackLaws.{rhs-packed, rhs-small, within-rhs}
 use Rattle.pack.proofs.pack_rhs.Statement.{statement}
 use Rattle.pack.proofs.pack_rhs.Tie as tie
 
@@ -47,7 +47,7 @@ mul-ws c =
     let h = c .before .before .before in
     let b = h .before .before .before .pre .2 (h .loop .r) in
     let f = within-fits w32 tt (within-rhs b) in
-    let small = side-small (c .raised .result) 0 _ b (simp toZ-ofZ at (c .raised .ensures)) in
+    let small = rhs-small (c .raised .result) 0 _ b (simp toZ-ofZ at (c .raised .ensures)) in
     omega arith
 
 shared-slice-read-ws : tie.Need-shared-slice-read-ws Inv-loop μ-loop
@@ -64,7 +64,7 @@ add-ws c =
     let s = h .before .before .before in
     let b = s .pre .2 (h .loop .r) in
     let f = within-fits w32 tt (within-rhs b) in
-    let small = side-small (c .before .raised .result) 0 _ b (simp toZ-ofZ at (c .before .raised .ensures)) in
+    let small = rhs-small (c .before .raised .result) 0 _ b (simp toZ-ofZ at (c .before .raised .ensures)) in
     omega (arith, s .pre .4 (h .loop .r))
 
 add-ws-2 : tie.Need-add-ws-2 Inv-loop μ-loop
