@@ -9,41 +9,41 @@ use Rattle.integer.proofs.Parts.{add_parts, fit-in, fits, le-false, le-true, one
 use Rattle.integer.proofs.ceil_div.Statement.{statement}
 use Rattle.integer.proofs.ceil_div.Tie as tie
 
-div-result : tie.Need-nonzero-div-result
+div-result : tie.Need-nonzero_div-result
 div-result c =
     let fp = c.before.ranges.p in
     let fg = c.before.ranges.g in
     (of_z-pos w64 c.before.requires, simp to_z-of_z (quot_fits _ c.before.requires fp))
 
-positive : (c : tie.Else1) → pos 0 <ℤ c.before.args.p
+positive : (c : tie.Else-p-le0) → pos 0 <ℤ c.before.args.p
 positive c =
     let fp = c.before.ranges.p in
-    le-false c.before.args.p (pos 0) (simp to_z-of_z at c.if1.false)
+    le-false c.before.args.p (pos 0) (simp to_z-of_z at c.if-p-le0.false)
 
-previous-fits : (c : tie.Else1) → SFits w64 (c.before.args.p -ℤ pos 1)
+previous-fits : (c : tie.Else-p-le0) → SFits w64 (c.before.args.p -ℤ pos 1)
 previous-fits c =
     let p = c.before.args.p in
     fits w64 _ (omega (zarith, positive c, sub_parts p (pos 1), c.before.ranges.p))
 
-last_fits : (c : tie.Else1) → SFits w64 (quot_z (c.before.args.p -ℤ pos 1) c.before.args.g +ℤ pos 1)
+last_fits : (c : tie.Else-p-le0) → SFits w64 (quot_z (c.before.args.p -ℤ pos 1) c.before.args.g +ℤ pos 1)
 last_fits c =
     let p = c.before.args.p in
     let q = quot_z (p -ℤ pos 1) c.before.args.g in
     fits w64 _ (omega (zarith, positive c, sub_parts p (pos 1), fit-in c.before.ranges.p, quot-parts (p -ℤ pos 1) c.before.requires, add_parts q (pos 1), one-part-zero (p -ℤ pos 1)))
 
-sub-result : tie.Need-overflow-sub-result
+sub-result : tie.Need-overflow_sub-result
 sub-result c =
     let fp = c.before.ranges.p in
     simp to_z-of_z (previous-fits c)
 
-div-result-2 : tie.Need-nonzero-div-result-2
+div-result-2 : tie.Need-nonzero_div-result-else-p-le0
 div-result-2 c =
     let fp = c.before.ranges.p in
     let fg = c.before.ranges.g in
     let fn = previous-fits c in
     (of_z-pos w64 c.before.requires, simp to_z-of_z (quot_fits _ c.before.requires fn))
 
-add-result : tie.Need-overflow-add-result
+add-result : tie.Need-overflow_add-result
 add-result c =
     let fp = c.before.ranges.p in
     let fg = c.before.ranges.g in
@@ -51,15 +51,15 @@ add-result c =
     let fq = quot_fits _ c.before.requires fn in
     simp to_z-of_z (last_fits c)
 
-returns : tie.Need-returns
+returns : tie.Need-returns-then-p-le0
 returns c =
     let fp = c.before.ranges.p in
     let fg = c.before.ranges.g in
     let fq = quot_fits _ c.before.requires fp in
-    let h : c.before.args.p ≤ℤ pos 0 = le-true c.before.args.p (pos 0) (simp to_z-of_z at c.if1.true) in
+    let h : c.before.args.p ≤ℤ pos 0 = le-true c.before.args.p (pos 0) (simp to_z-of_z at c.if-p-le0.true) in
     simp to_z-of_z (quot-ceil h c.before.requires)
 
-returns-2 : tie.Need-returns-2
+returns-2 : tie.Need-returns-else-p-le0
 returns-2 c =
     let fp = c.before.ranges.p in
     let fg = c.before.ranges.g in
@@ -68,6 +68,6 @@ returns-2 c =
     let fl = last_fits c in
     simp to_z-of_z (quot-ceil-pos (positive c) c.before.requires)
 
-pub ceil-div-spec : {M : Type 1} → statement M
-ceil-div-spec =
+pub ceil_div_spec : {M : Type 1} → statement M
+ceil_div_spec =
     tie.close (tie.spec div-result sub-result div-result-2 add-result returns returns-2)

@@ -10,41 +10,41 @@ use Rattle.integer.proofs.DivisionLaws.{quot_fits, quot-parts, of_z-pos, quot-fl
 use Rattle.integer.proofs.floor_div.Statement.{statement}
 use Rattle.integer.proofs.floor_div.Tie as tie
 
-div-result : tie.Need-nonzero-div-result
+div-result : tie.Need-nonzero_div-result
 div-result c =
     let fp = c.before.ranges.p in
     let fg = c.before.ranges.g in
     (of_z-pos w64 c.before.requires, simp to_z-of_z (quot_fits _ c.before.requires fp))
 
-negative : (c : tie.Else1) → c.before.args.p <ℤ pos 0
+negative : (c : tie.Else-p-ge0) → c.before.args.p <ℤ pos 0
 negative c =
     let fp = c.before.ranges.p in
-    le-false (pos 0) c.before.args.p (simp to_z-of_z at c.if1.false)
+    le-false (pos 0) c.before.args.p (simp to_z-of_z at c.if-p-ge0.false)
 
-next_fits : (c : tie.Else1) → SFits w64 (c.before.args.p +ℤ pos 1)
+next_fits : (c : tie.Else-p-ge0) → SFits w64 (c.before.args.p +ℤ pos 1)
 next_fits c =
     let p = c.before.args.p in
     fits w64 _ (omega (zarith, negative c, add_parts p (pos 1), c.before.ranges.p))
 
-last_fits : (c : tie.Else1) → SFits w64 (quot_z (c.before.args.p +ℤ pos 1) c.before.args.g -ℤ pos 1)
+last_fits : (c : tie.Else-p-ge0) → SFits w64 (quot_z (c.before.args.p +ℤ pos 1) c.before.args.g -ℤ pos 1)
 last_fits c =
     let p = c.before.args.p in
     let q = quot_z (p +ℤ pos 1) c.before.args.g in
     fits w64 _ (omega (zarith, negative c, add_parts p (pos 1), c.before.ranges.p, quot-parts (p +ℤ pos 1) c.before.requires, sub_parts q (pos 1), one-part-zero (p +ℤ pos 1)))
 
-add-result : tie.Need-overflow-add-result
+add-result : tie.Need-overflow_add-result
 add-result c =
     let fp = c.before.ranges.p in
     simp to_z-of_z (next_fits c)
 
-div-result-2 : tie.Need-nonzero-div-result-2
+div-result-2 : tie.Need-nonzero_div-result-else-p-ge0
 div-result-2 c =
     let fp = c.before.ranges.p in
     let fg = c.before.ranges.g in
     let fn = next_fits c in
     (of_z-pos w64 c.before.requires, simp to_z-of_z (quot_fits _ c.before.requires fn))
 
-sub-result : tie.Need-overflow-sub-result
+sub-result : tie.Need-overflow_sub-result
 sub-result c =
     let fp = c.before.ranges.p in
     let fg = c.before.ranges.g in
@@ -52,15 +52,15 @@ sub-result c =
     let fq = quot_fits _ c.before.requires fn in
     simp to_z-of_z (last_fits c)
 
-returns : tie.Need-returns
+returns : tie.Need-returns-then-p-ge0
 returns c =
     let fp = c.before.ranges.p in
     let fg = c.before.ranges.g in
     let fq = quot_fits _ c.before.requires fp in
-    let h : pos 0 ≤ℤ c.before.args.p = le-true (pos 0) c.before.args.p (simp to_z-of_z at c.if1.true) in
+    let h : pos 0 ≤ℤ c.before.args.p = le-true (pos 0) c.before.args.p (simp to_z-of_z at c.if-p-ge0.true) in
     simp to_z-of_z (quot-floor h c.before.requires)
 
-returns-2 : tie.Need-returns-2
+returns-2 : tie.Need-returns-else-p-ge0
 returns-2 c =
     let fp = c.before.ranges.p in
     let fg = c.before.ranges.g in
@@ -69,6 +69,6 @@ returns-2 c =
     let fl = last_fits c in
     simp to_z-of_z (quot-floor-neg (negative c) c.before.requires)
 
-pub floor-div-spec : {M : Type 1} → statement M
-floor-div-spec =
+pub floor_div_spec : {M : Type 1} → statement M
+floor_div_spec =
     tie.close (tie.spec div-result add-result div-result-2 sub-result returns returns-2)
