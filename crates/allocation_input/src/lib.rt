@@ -1,5 +1,7 @@
 // The input of the program `allocations` (02, C-21) and what is printed for it, defined; where the book ends in an
 // input, and what stands behind it.
+#![tactic(auto)]
+
 ghost use Rattle.std.specs.Prelude.{not, ◌≡◌, ◌≤◌, length};
 ghost use Rattle.model.specs.Checks.{first};
 ghost use Rattle.allocation_input.specs.Input.{book_end, count_at, first_end, max_input, no_split};

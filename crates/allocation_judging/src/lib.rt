@@ -1,5 +1,7 @@
 // From an input of `allocations` to the verdicts of its proposals, in memory: the checks in their order, and the
 // proposals held against the book.
+#![tactic(auto)]
+
 ghost use Rattle.std.specs.Prelude.{◌≡◌, ◌≤◌, length};
 ghost use Rattle.allocation_input.specs.Judging.{Answers, Holdable, Room, Splits, verdicts_of};
 ghost use Rattle.allocation_input.specs.Input.{max_input};

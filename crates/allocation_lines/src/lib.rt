@@ -1,4 +1,6 @@
 // The line that `allocations` prints for each proposal: `inside`, `variable J` or `row I`.
+#![tactic(auto)]
+
 ghost use Rattle.std.specs.Prelude.{◌++◌, ◌≡◌, ℕ, ◌*◌, ◌+◌, ◌≤◌, pos, length};
 ghost use Rattle.proposals.specs.Proposals.{case_of, number_of, numbers};
 ghost use Rattle.proposals.specs.Verdict.{Verdict};

@@ -3,6 +3,8 @@
 // `refused N`. What it prints for an input is `output` of it. No contract can say which bytes are read or written; that
 // the input is kept as it came, that the verdicts are those that each proposal alone would get, and that all lines are
 // handed to standard output are proved. A read or a write that fails is told on standard error.
+#![tactic(auto)]
+
 mod buffers;
 
 ghost use Rattle.std.specs.Prelude.{true, ◌≡◌, List, ℕ, ◌*◌, ◌≤◌, length};

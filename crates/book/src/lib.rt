@@ -5,6 +5,8 @@
 // book or a model that fails a check is refused by the check's number, and then nothing is written. Reading a written
 // book returns the same model, and writing a book that was read returns the same bytes. `layout` has what both
 // editions share: the trailer.
+#![tactic(auto)]
+
 pub mod layout;
 pub mod writing;
 

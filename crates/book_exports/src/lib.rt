@@ -1,5 +1,7 @@
 // The calls on books as C is told of them: behind one check more, of the answer's length, and with the answer written
 // into its places.
+#![tactic(auto)]
+
 ghost use Rattle.std.specs.Prelude.{◌≡◌};
 ghost use Rattle.book.specs.Answers.{book_written, bounds_read, coefs_read, kinds_read, rhs_read, write_call};
 ghost use Rattle.exports.specs.Exports.{book_exported, lent_to, read_export, trailer_export};

@@ -1,4 +1,6 @@
 // Reading a book: every check over the book's bytes, and only then the numbers into the lent buffers.
+#![tactic(auto)]
+
 ghost use Rattle.std.specs.Prelude.{◌≡◌, ℕ, ◌*◌, ◌≤◌, length};
 ghost use Rattle.model.specs.Checks.{box_checks, first, in_range, number_checks};
 ghost use Rattle.model.specs.Limits.{max_coef, max_variables, min_coef};

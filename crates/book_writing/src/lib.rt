@@ -1,4 +1,6 @@
 // Writing a model as a book: every check over the model and the lent book, and only then the bytes.
+#![tactic(auto)]
+
 ghost use Rattle.std.specs.Prelude.{[], ◌≡◌, ◌*◌, eqb, length};
 ghost use Rattle.model.specs.Checks.{first, size_checks};
 ghost use Rattle.model.specs.Model.{model_of};

@@ -1,6 +1,8 @@
 // Checks 6, 7 and 23 of the bounds. Most boxes pass, and a loop for each check is two too many then: one loop asks of
 // each variable whether its bounds are in range, in order and no more than 4,096 apart, and where all are, the three
 // checks are passed. Any other box, the empty one too, is looked at check by check.
+#![tactic(auto)]
+
 ghost use Rattle.std.specs.Prelude.{◌≡◌, ◌/◌, ◌+ℤ◌, length};
 ghost use Rattle.integer.specs.Index.{all};
 ghost use Rattle.integer.specs.Order.{min_z};

@@ -1,4 +1,6 @@
 // What is done with a box as a whole, wherever a box stands: in a model, beside one, or for a side of a probe.
+#![tactic(auto)]
+
 ghost use Rattle.std.specs.Prelude.{◌≡◌, ℕ, ◌*◌, ◌+◌, ◌<◌, ◌≤◌, length};
 ghost use Rattle.integer.specs.Order.{max_z, min_z};
 ghost use Rattle.model.specs.Box.{empty_box, hull as hulled, is_empty, is_free, same_list};

@@ -1,6 +1,8 @@
 // One buffer of a model: its length, and what its numbers must be. The tests require nothing but what they say, and
 // answer for every length. `in_range`, `is_ordered`, `is_narrow` and `is_bits` go to the buffer's end and keep a
 // flag: a loop without a branch for each number is compiled to take 4 to 16 numbers at a time.
+#![tactic(auto)]
+
 ghost use Rattle.std.specs.Prelude.{true, ◌≡◌, ◌*◌, eqb};
 ghost use Rattle.model.specs.Box.{is_empty};
 ghost use Rattle.model.specs.Checks.{in_range, ordered, narrow, bits};

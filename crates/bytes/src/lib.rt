@@ -1,4 +1,6 @@
 // Numbers of 16 and 32 bits in a slice of bytes, the lowest byte first; 32 bits also in two's complement.
+#![tactic(auto)]
+
 ghost use Rattle.std.specs.Prelude.{◌≡◌, ◌+◌, ◌≤◌, length};
 ghost use Rattle.bytes.specs.Bytes.{bits_of, bytes_of, integer_at, integer_bytes, number_at};
 ghost use Rattle.bytes.specs.Pieces.{overwrite};

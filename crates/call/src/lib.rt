@@ -1,4 +1,6 @@
 // A call by value, its own checks, and how it counts.
+#![tactic(auto)]
+
 ghost use Rattle.std.specs.Prelude.{[], ◌≡◌, ◌+◌, ◌<◌, ◌^◌};
 ghost use Rattle.row.specs.Answers.{propagated_row_of, removal_outcome, tightening_outcome};
 ghost use Rattle.semantics.specs.Run.{count_call};

@@ -1,6 +1,8 @@
 // A call list as records (01's run sheet): the calls that `flat_list` reads from flat numbers, one struct each.
 // No function over a slice of structs is covered, so reading a record and the loop over them are proved by hand; all
 // else is in covered functions.
+#![tactic(auto)]
+
 ghost use Rattle.std.specs.Prelude.{◌≡◌, ◌<◌, length, get_or};
 ghost use Rattle.semantics.specs.CallList.{run_list};
 ghost use Rattle.model.specs.Rows.{rows_of};

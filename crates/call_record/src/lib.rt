@@ -1,5 +1,7 @@
 // The records of a call list (01's run sheet), defined, and one of them run: the answer with one record more.
 // `call_list` runs a whole list by it.
+#![tactic(auto)]
+
 ghost use Rattle.std.specs.Prelude.{◌≡◌};
 ghost use Rattle.model.specs.Rows.{rows_of};
 ghost use Rattle.model.specs.State.{state_of};

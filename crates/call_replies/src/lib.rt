@@ -1,4 +1,6 @@
 // The reply to each answer of the six calls, of a list, of the rounds and of a book.
+#![tactic(auto)]
+
 ghost use Rattle.std.specs.Prelude.{◌≡◌};
 ghost use Rattle.book.specs.Answers.{sizes_answer};
 ghost use Rattle.flat_list.specs.ListAnswers.{list_answer};

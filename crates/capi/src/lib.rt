@@ -2,6 +2,8 @@
 // count. A function returns 0 or the number of the failed check, and writes the twelve places of its answer. It makes
 // one check more than the open call has, of the answer's length, and nothing else happens here; the rest call and those
 // on books and prepared models are handed on to functions with the same contract.
+#![tactic(auto)]
+
 pub mod allocations;
 pub mod books;
 pub mod clique_rows;

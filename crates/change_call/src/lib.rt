@@ -1,6 +1,8 @@
 // The open calls that may change a row: coefficient tightening and the removal of a redundant row. What holds of the
 // open calls of `reducer` holds of these: any input, refused by the number of the first check that fails, then
 // unchanged.
+#![tactic(auto)]
+
 ghost use Rattle.std.specs.Prelude.{[], ◌≡◌};
 ghost use Rattle.semantics.specs.Perform.{perform};
 ghost use Rattle.semantics.specs.Call.{call_of};

@@ -1,6 +1,8 @@
 // A clique, grown from one literal. A flag says of each literal whether it is still a candidate: joined to all that
 // were taken so far. So a literal's turn is one look at its flag, and the table is read when a literal is taken, of
 // the candidates only.
+#![tactic(auto)]
+
 ghost use Rattle.std.specs.Prelude.{◌≡◌, ◌*◌, ◌+◌, ◌<◌, ◌≤◌, length, set};
 ghost use Rattle.model.specs.Limits.{max_literals};
 ghost use Rattle.cliques.specs.Cliques.{clique_row, coef_of, grow as grown, joined, meant_at_zero, opposite as opposite_of};

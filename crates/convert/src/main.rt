@@ -3,6 +3,8 @@
 // `output` of it. No contract can say which bytes are read or written; that the input is kept as it came, that the
 // bytes in the buffer are those that `output` gives, and that all of them are handed to standard output are proved. A
 // read or a write that fails is told on standard error, and then nothing more is written.
+#![tactic(auto)]
+
 mod buffers;
 mod conversion;
 

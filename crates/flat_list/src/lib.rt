@@ -1,5 +1,7 @@
 // Call lists (01's run sheet): many calls on one model. The model and the table are checked once, before the first
 // record; each call leaves them valid, so only a record's own checks are made after that (`records`).
+#![tactic(auto)]
+
 ghost use Rattle.std.specs.Prelude.{[], ◌≡◌};
 ghost use Rattle.semantics.specs.CallList.{ran, run_list};
 ghost use Rattle.model.specs.Rows.{rows_of};

@@ -1,5 +1,7 @@
 // One record of a flat call list (01's run sheet), four numbers: read, and what it did told as a byte (D-67), which is
 // defined here; and the checks of a list. `flat_list` runs the records.
+#![tactic(auto)]
+
 ghost use Rattle.std.specs.Prelude.{◌≡◌, ◌/◌, ◌<◌, length, set};
 ghost use Rattle.call.specs.Calls.{call_on};
 ghost use Rattle.call.specs.Classes.{class_is};

@@ -1,5 +1,7 @@
 // The program `floor` (02, C-23): a book on standard input, rounds until one changes nothing, or None, and the pages of
 // what is left of the model.
+#![tactic(auto)]
+
 ghost use Rattle.std.specs.Prelude.{true, ◌≡◌};
 ghost use Rattle.reduce_book.specs.Printed.{Printed};
 ghost use Rattle.reduction.specs.declared.Form.TheVariants.{Paper};

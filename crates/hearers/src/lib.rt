@@ -1,5 +1,7 @@
 // The sets of rows that hear of a variable, gathered from a model and written into a workspace: for each variable those
 // that hear a bound of it rise and those that hear one fall.
+#![tactic(auto)]
+
 ghost use Rattle.std.specs.Prelude.{true, ◌≡◌, ℕ, ◌*◌, ◌+◌, ◌<◌, ◌≤◌, eqb, length};
 ghost use Rattle.prepared_model.specs.Layout.{fall_of, rise_of, workspace_len};
 ghost use Rattle.prepared_model.specs.SameBut.{SameBut};

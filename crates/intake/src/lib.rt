@@ -2,6 +2,8 @@
 // takes in one piece after the other, however they arrive. `sizes` makes checks 1 to 4 of the whole input from its last
 // 16 bytes and its length alone, so the number is right also where the input is longer than any book, and an input that
 // is accepted fits a buffer of MAX_BOOK bytes. `is_too_long` says from when on no more of an input need be read.
+#![tactic(auto)]
+
 mod checking;
 mod input;
 

@@ -1,5 +1,7 @@
 // Whole numbers. Division rounded towards minus and plus infinity, as the bounds of a variable need it; the laws of ℤ
 // that every proof above cites stand in proofs/.
+#![tactic(auto)]
+
 ghost use Rattle.std.specs.Prelude.{◌≡◌, pos, ◌<ℤ◌};
 ghost use Rattle.integer.specs.Division.{floor_div, ceil_div};
 

@@ -1,5 +1,7 @@
 // A row that is propagated or tested by what is known of it (crate `row_marks`): one not visited yet is read whole, any
 // other by its steps. `clean` finds the rows that are clean in a box.
+#![tactic(auto)]
+
 ghost use Rattle.std.specs.Prelude.{◌≡◌, ℕ, ◌*◌, ◌<◌};
 ghost use Rattle.model.specs.Rows.{row_at, rows_of};
 ghost use Rattle.row.specs.Answers.{propagated_row_of};

@@ -1,5 +1,7 @@
 // A matrix in memory: m rows of n numbers, one after the other. Row r is opened here for reading, where it stands: its
 // coefficients, and the bytes of a table that has one for each coefficient.
+#![tactic(auto)]
+
 ghost use Rattle.std.specs.Prelude.{◌≡◌, ◌*◌, ◌+◌, ◌≤◌, drop, length, take};
 ghost use Rattle.model.specs.Rows.{row_of};
 

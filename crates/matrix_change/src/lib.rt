@@ -1,5 +1,7 @@
 // Row r of a matrix that a call may change: the rule is lent its coefficients, right side and kind in place, and every
 // other row stays as it was.
+#![tactic(auto)]
+
 ghost use Rattle.std.specs.Prelude.{◌≡◌, ◌*◌, ◌+◌, ◌<◌, ◌≤◌, length};
 ghost use Rattle.model.specs.Rows.{row_at, row_of, rows_of, set_row};
 ghost use Rattle.row.specs.Activity.{max_activity};

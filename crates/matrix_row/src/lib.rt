@@ -1,5 +1,7 @@
 // Row r of a matrix, for callers with plain slices, which need no proof by hand: propagated, or tested whether that
 // would move anything, where it stands.
+#![tactic(auto)]
+
 ghost use Rattle.std.specs.Prelude.{◌≡◌};
 ghost use Rattle.model.specs.Rows.{row_at, rows_of};
 ghost use Rattle.row.specs.Answers.{propagated_row_of};

@@ -1,4 +1,6 @@
 // Row r of a matrix, as a view (`row_view`): its coefficients where they stand, with its right side and its kind.
+#![tactic(auto)]
+
 ghost use Rattle.std.specs.Prelude.{◌≡◌};
 ghost use Rattle.model.specs.Rows.{row_at, row_with, rows_of};
 ghost use Rattle.matrix_view.specs.RowIn.{RowIn};

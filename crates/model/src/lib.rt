@@ -2,6 +2,8 @@
 // coefs: row after row, m · n; rhs and kinds: m; table: 4n² bytes. Here are its limits, and no code: what a model, a
 // box, a row and a point are, and which checks a model passes. The checks are made in `buffer_checks` and
 // `model_checks`.
+#![tactic(auto)]
+
 pub const MAX_VARIABLES: usize = 128;
 
 pub const MAX_ROWS: usize = 120;

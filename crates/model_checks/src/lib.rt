@@ -1,5 +1,7 @@
 // The checks that a model in memory passes before anything reads it, in the one order. They write nothing and require
 // nothing: each answers for every n, m and buffer length.
+#![tactic(auto)]
+
 ghost use Rattle.std.specs.Prelude.{◌≡◌};
 ghost use Rattle.model.specs.Checks.{first, none, table as lent, size_checks};
 ghost use Rattle.model.specs.Checks.{length_checks, box_checks, number_checks, model_fault};

@@ -1,4 +1,6 @@
 // One proposed allocation (02, C-21): against the box, against a row.
+#![tactic(auto)]
+
 ghost use Rattle.std.specs.Prelude.{◌≡◌, ◌*◌, ◌+◌, ◌≤◌, length};
 ghost use Rattle.model.specs.Point.{dot};
 ghost use Rattle.model.specs.Rows.{row_with};

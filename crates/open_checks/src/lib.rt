@@ -1,5 +1,7 @@
 // The checks of an open call, in 01's order: those of the model that it is lent, then those of its own fields (12 to
 // 15). Each call knows its kind, so no number of a kind is looked at here: 11 is the check of a list's record.
+#![tactic(auto)]
+
 ghost use Rattle.std.specs.Prelude.{[], ◌≡◌};
 ghost use Rattle.semantics.specs.CallChecks.{call_fault};
 ghost use Rattle.semantics.specs.Call.{call_of};

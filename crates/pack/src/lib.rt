@@ -1,5 +1,7 @@
 // The rows of a model, written into a workspace: of each row the words that `packed_row` reads, and its right side and
 // kind in one number.
+#![tactic(auto)]
+
 ghost use Rattle.std.specs.Prelude.{◌≡◌, ℕ, ◌*◌, ◌+◌, ◌%◌, ◌<◌, ◌≤◌, drop, get_or, length, take};
 ghost use Rattle.model.specs.Box.{at};
 ghost use Rattle.model.specs.Limits.{max_coef, max_rhs, max_rows, max_variables, min_coef, min_rhs};

@@ -1,6 +1,8 @@
 // Propagate a row (01's visit) that is packed in words, one for each variable: the coefficient and the number of zeros
 // that follow it. A sweep goes from coefficient to coefficient, and no index is read from the words: whatever they are,
 // it stays in the row and ends. Crate `sweep` does the same with steps beside the coefficients.
+#![tactic(auto)]
+
 ghost use Rattle.std.specs.Prelude.{cond, ◌≡◌, ◌*◌, ◌+◌, ◌<◌, ◌*ℤ◌, pos, length};
 ghost use Rattle.std.specs.Int.Signed.{lt_z};
 ghost use Rattle.integer.specs.Order.{max_z};

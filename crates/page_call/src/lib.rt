@@ -2,6 +2,8 @@
 // writes them; both are open: they require nothing, refuse by the number of the first check that fails, and then write
 // nothing. `pages_needed` and `write_all` do the same for one whose state is valid, with nothing checked and nothing
 // refused. What the pages are is `pages` of crate `pages`, and what is read from them its theorem `floor-pages`.
+#![tactic(auto)]
+
 mod count;
 pub mod open;
 mod sheet;

@@ -2,6 +2,8 @@
 // `width`, which reads the bounds. `plan_lengths` reads the trailer alone, `plan_passes` the bounds and the list; none
 // of them reads a row, and none makes a pass. All three are open: they require nothing, and refuse by the number of the
 // first check that fails.
+#![tactic(auto)]
+
 pub mod bounds;
 
 pub use bounds::width;

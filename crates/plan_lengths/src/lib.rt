@@ -1,4 +1,6 @@
 // The lengths of the buffers that n and m fix, from the trailer alone (02, C-17).
+#![tactic(auto)]
+
 ghost use Rattle.std.specs.Prelude.{◌≡◌, ◌≤◌};
 ghost use Rattle.plan.specs.Answers.{lengths_answer, lengths_call};
 ghost use Rattle.plan.specs.Lengths.{lengths_for, lengths_of};

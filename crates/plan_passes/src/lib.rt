@@ -1,4 +1,6 @@
 // An upper limit on the passes that a call list makes, whatever the rows are (02, C-17).
+#![tactic(auto)]
+
 ghost use Rattle.std.specs.Prelude.{◌≡◌, ℕ, ◌≤◌, length};
 ghost use Rattle.semantics.specs.Call.{kind_of};
 ghost use Rattle.demands.specs.Passes.{call_limit, lesser as lesser_of, pass_limit};

@@ -1,4 +1,6 @@
 // What the calls that tell size and passes beforehand say.
+#![tactic(auto)]
+
 ghost use Rattle.std.specs.Prelude.{◌≡◌, length};
 ghost use Rattle.plan.specs.Answers.{lengths_answer, passes_answer, width_answer};
 ghost use Rattle.plan.specs.Lengths.{lengths_of};

@@ -1,5 +1,7 @@
 // Prepares a model for many calls: it is checked once and written into a lent workspace of 32-bit numbers, which holds
 // all that the prepared calls read.
+#![tactic(auto)]
+
 mod writing;
 
 ghost use Rattle.std.specs.Prelude.{◌≡◌, eqb, length};

@@ -1,6 +1,8 @@
 // The box that the workspace knows becomes the lent one, and the rows that hear of a bound that differs are to be
 // looked at too. Most bounds are the same: blocks of variables are copied and compared with what the workspace keeps,
 // each in a loop without a branch, and only where one differs its variables are looked at one by one.
+#![tactic(auto)]
+
 ghost use Rattle.std.specs.Prelude.{true, ◌≡◌, ℕ, ◌*◌, ◌+◌, ◌<◌, ◌≤◌, get_or, length};
 ghost use Rattle.model.specs.Box.{at};
 ghost use Rattle.model.specs.Limits.{max_box, max_variables};

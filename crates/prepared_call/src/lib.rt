@@ -3,6 +3,8 @@
 // box before the call. Of any workspace: `refused`, and `accepted` as far as it does not ask for a prepared one. Of one
 // that is prepared for the rows A, whichever they are: `defined`, the answer, the counts and the box are those of
 // `perform` on the model with the lent box, and `prepared`, it still is prepared for them.
+#![tactic(auto)]
+
 mod core;
 
 ghost use Rattle.core.specs.Prelude.{◌≡◌, true, [], length};

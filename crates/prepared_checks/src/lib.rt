@@ -1,5 +1,7 @@
 // The checks of the prepared calls, in 01's order: those of what a call is lent, then its own. The rows were checked
 // when they were prepared.
+#![tactic(auto)]
+
 ghost use Rattle.std.specs.Prelude.{◌&&◌, ◌≡◌, ◌*◌, ◌≤◌, eqb, length};
 ghost use Rattle.prepared_model.specs.Layout.{is_ours, variables_of};
 ghost use Rattle.model.specs.Limits.{max_variables};

@@ -1,5 +1,7 @@
 // The two calls on a prepared model as C is told of them: behind one check more, of the answer's length, and with the
 // answer written into its places.
+#![tactic(auto)]
+
 ghost use Rattle.prepared_exports.specs.PreparedSaid.{ProbeSaid, PropagateSaid};
 
 use prepared_call::propagate;

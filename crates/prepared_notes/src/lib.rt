@@ -1,5 +1,7 @@
 // Which rows are to be looked at once a box has become another: those that hear of a bound that moved. The box that the
 // rows know, `old`, becomes the new one as the moves are noted.
+#![tactic(auto)]
+
 ghost use Rattle.std.specs.Prelude.{false, ◌≡◌, ℕ, ◌*◌, ◌+◌, ◌<◌, length};
 ghost use Rattle.model.specs.Box.{lower, upper, with_bounds};
 ghost use Rattle.prepared_model.specs.Layout.{fall_of, rise_of, workspace_len};

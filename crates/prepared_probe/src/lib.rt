@@ -3,6 +3,8 @@
 // one that is prepared for the rows A, whichever they are: `defined`, the answer, the counts, the box and the table are
 // those of `perform`, `reasons`, which row moved which bound of a side last, and `prepared`, it still is. What the
 // answer means is then that of `probe_call::probe` (`promised-ends`), what the reasons mean `probe-reasons-mean`.
+#![tactic(auto)]
+
 mod core;
 
 ghost use Rattle.core.specs.Prelude.{◌≡◌, true, not, T, length};

@@ -1,5 +1,7 @@
 // Propagate all rows (01's settle) of a prepared model: the passes are those of `row_passes`, but only rows are looked
 // at that may move a bound.
+#![tactic(auto)]
+
 pub mod pass;
 pub mod reasons;
 mod search;

@@ -1,5 +1,7 @@
 // What the calls on a prepared model say in the C interface: the reply to a propagation, with the row that was
 // infeasible in a place of its own, and that of any probe, with a row for each side.
+#![tactic(auto)]
+
 ghost use Rattle.std.specs.Prelude.{◌≡◌, length};
 ghost use Rattle.prepared_call.specs.PreparedCall.{infeasible_row, prepared_answer};
 ghost use Rattle.reducer.specs.OpenCalls.{probe_answer};

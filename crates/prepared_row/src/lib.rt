@@ -1,5 +1,7 @@
 // A row of a prepared model, read from its workspace: it is propagated, the rows that hear of a bound that it moved are
 // to be looked at, and it is put down as the row that moved it last (`reasons`).
+#![tactic(auto)]
+
 mod reasons;
 
 ghost use Rattle.std.specs.Prelude.{◌≡◌, ℕ, ◌%◌, ◌<◌, ◌≤◌, length};

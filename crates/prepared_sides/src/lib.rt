@@ -1,5 +1,7 @@
 // The two sides of a probe of a prepared model, each with its reasons, and what they come to; the workspace is only
 // read.
+#![tactic(auto)]
+
 ghost use Rattle.std.specs.Prelude.{◌⊎◌, ◌≡◌, ℕ, ◌*◌, ◌<◌, T, pos, length};
 ghost use Rattle.model.specs.Box.{is_free};
 ghost use Rattle.model.specs.Rows.{Rows};

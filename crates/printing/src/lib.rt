@@ -1,6 +1,8 @@
 // What is left of a book's model, or `none`, on standard output, in few writes: as a report, or as pages. `printed`
 // counts the bytes that were written: so a contract can say that an answer's text is printed once, and whole. No kind
 // is printed (`left-kindless`), so none is lent: the states here have rows without kinds.
+#![tactic(auto)]
+
 ghost use Rattle.std.specs.Prelude.{true, [], ◌≡◌, ◌*◌, length};
 ghost use Rattle.model.specs.Rows.{rows_of};
 ghost use Rattle.model.specs.State.{state_of};

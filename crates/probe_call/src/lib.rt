@@ -1,5 +1,7 @@
 // The open call that probes a variable (01's probe), for any input. What holds of the open calls of `reducer` holds of
 // it: any input, refused by the number of the first check that fails, then unchanged.
+#![tactic(auto)]
+
 ghost use Rattle.std.specs.Prelude.{◌≡◌};
 ghost use Rattle.semantics.specs.Perform.{perform};
 ghost use Rattle.semantics.specs.Call.{call_of};

@@ -1,4 +1,6 @@
 // One side of a probe: the box with the variable fixed, propagated by what is known of the rows of the box.
+#![tactic(auto)]
+
 ghost use Rattle.std.specs.Prelude.{◌≡◌, ◌⊎◌, ℕ, ◌*◌, ◌<◌, T, pos, length};
 ghost use Rattle.model.specs.Box.{is_free};
 ghost use Rattle.model.specs.Valid.{ValidModel};

@@ -1,5 +1,7 @@
 // An accepted probe, which lists and rounds make: how it counts, what it leaves, and whether the budget of a side was
 // spent. It leaves the model valid.
+#![tactic(auto)]
+
 ghost use Rattle.std.specs.Prelude.{◌||◌, ◌≡◌};
 ghost use Rattle.probe_side.specs.Marked.{Marked};
 ghost use Rattle.model.specs.Rows.{rows_of};

@@ -1,5 +1,7 @@
 // Probe a free binary variable (01's probe): propagate with it at 0 and at 1, and keep what both sides say. Of a model
 // that passed the checks.
+#![tactic(auto)]
+
 ghost use Rattle.std.specs.Prelude.{◌≡◌, ◌||◌, ◌*◌, ◌<◌, T, length, take};
 ghost use Rattle.model.specs.Box.{is_empty, is_free};
 ghost use Rattle.model.specs.Limits.{max_box};

@@ -1,5 +1,7 @@
 // How propagating all rows (01's settle) ends: its answer, the bounds moved so far, and the search for a row that would
 // still change the box (`search`). Crate `row_passes` makes the passes.
+#![tactic(auto)]
+
 pub mod search;
 
 ghost use Rattle.std.specs.Prelude.{◌≡◌, ◌+◌, ◌<◌, ◌^◌};

@@ -1,5 +1,7 @@
 // The program `reduce` (01, "Book"; 02, C-20): a book on standard input, rounds until one changes nothing, or None, and
 // what is left of the model.
+#![tactic(auto)]
+
 ghost use Rattle.std.specs.Prelude.{true, ◌≡◌};
 ghost use Rattle.reduce_book.specs.Printed.{Printed};
 ghost use Rattle.reduction.specs.declared.Form.TheVariants.{Report};

@@ -1,4 +1,6 @@
 // The program `reduce8` (02, C-20): `reduce` with at most 8 rounds, as it was before.
+#![tactic(auto)]
+
 ghost use Rattle.std.specs.Prelude.{true, ◌≡◌};
 ghost use Rattle.reduce_book.specs.Printed.{Printed};
 ghost use Rattle.reduction.specs.declared.Form.TheVariants.{Report};

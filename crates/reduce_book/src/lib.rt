@@ -4,6 +4,8 @@
 // the input is kept as it came, that the answer is the one that `output_as` gives, that its text is written into a
 // buffer and that as many bytes as it has are handed to standard output are proved. A read or a write that fails is
 // told on standard error, and then nothing more is printed; the code has no other way to end without its text.
+#![tactic(auto)]
+
 ghost use Rattle.std.specs.Prelude.{true, ◌≡◌, List, ℕ, ◌≤◌, length};
 ghost use Rattle.model.specs.Limits.{max_rows, max_variables};
 ghost use Rattle.model.specs.Rows.{rows_of};

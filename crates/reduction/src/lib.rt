@@ -1,5 +1,7 @@
 // From a book to an answer, in memory: the text of the answer, in either form, is `output_as` of the book. `buffers` has
 // the buffers of the largest book.
+#![tactic(auto)]
+
 pub mod buffers;
 
 ghost use Rattle.std.specs.Prelude.{◌≡◌};

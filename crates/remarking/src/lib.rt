@@ -1,5 +1,7 @@
 // The marks of a box that moved: as the old box becomes the new one, the rows that read a bound that moved are clean no
 // more (crate `row_marks`).
+#![tactic(auto)]
+
 ghost use Rattle.std.specs.Prelude.{true, ◌≡◌, ℕ, ◌*◌, ◌+◌, ◌<◌, ◌≤◌, length, get_or, set};
 ghost use Rattle.model.specs.Box.{at, lower, upper, with_bounds};
 ghost use Rattle.row_index.specs.Index.{ColumnSigns, sign_of};

@@ -1,6 +1,8 @@
 // The text that `reduce` prints, defined, and which of its lines have text: the lines are counted from 0 (`line_at`); a
 // row that is all zero and a byte of the table that is not 1 are lines without text. The lines are written in
 // `report_line` and `report_chunk`.
+#![tactic(auto)]
+
 ghost use Rattle.std.specs.Prelude.{◌≡◌, ℕ, ◌+◌, ◌-◌, ◌<◌, ◌≤◌, get_or, length};
 ghost use Rattle.model.specs.Rows.{row_with};
 ghost use Rattle.report.specs.Report.{is_zero_row};

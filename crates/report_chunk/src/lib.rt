@@ -1,6 +1,8 @@
 // A report line by line (`line_at`), and in chunks that fit a buffer: `fill` writes as many lines as have room and says
 // where to go on. A program prints a report by `fill`, writing out, and `fill` again from there. No kind is printed
 // (`report-kindless`), so none is lent: the states here have rows without kinds.
+#![tactic(auto)]
+
 ghost use Rattle.std.specs.Prelude.{[], ◌≡◌, ◌+◌, ◌*◌, ◌<◌, ◌≤◌, length};
 ghost use Rattle.model.specs.Limits.{max_rows, max_variables};
 ghost use Rattle.model.specs.Rows.{row_at, rows_of};

@@ -1,5 +1,7 @@
 // The lines of a report, and `refused` and `none`, which stand alone: each is written into a buffer at a position, and
 // the position after it is answered.
+#![tactic(auto)]
+
 ghost use Rattle.std.specs.Prelude.{◌+◌, ◌≤◌, length};
 ghost use Rattle.report.specs.Report.{refused_line, none_line, reduced_line, variable_line, row_line, implication_line};
 ghost use Rattle.report.specs.Report.{max_row_line, max_short_line};

@@ -1,4 +1,6 @@
 // The probing fixpoint (01's rest): a box that no row and no probe carried to its end would change.
+#![tactic(auto)]
+
 ghost use Rattle.std.specs.Prelude.{◌≡◌, ℕ, ◌*◌, ◌<◌, ◌≤◌, T, length, []};
 ghost use Rattle.probe_side.specs.Marked.{Marked};
 ghost use Rattle.model.specs.Box.{NonEmpty, hull as hulled, is_free, same_list};

@@ -1,5 +1,7 @@
 // The open call that tests for the probing fixpoint (01's rest call), for any input. `meaning`: what a yes means;
 // `found`: what a no means.
+#![tactic(auto)]
+
 ghost use Rattle.std.specs.Prelude.{[], ◌↔◌, ◌≡◌};
 ghost use Rattle.semantics.specs.RestTest.{at_rest, rest_fault};
 ghost use Rattle.call_laws.specs.Points.{AtRest};

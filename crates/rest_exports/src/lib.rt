@@ -1,5 +1,7 @@
 // The rest call as C is told of it: behind one check more, of the answer's length, and with the answer written into
 // its places.
+#![tactic(auto)]
+
 ghost use Rattle.std.specs.Prelude.{[], ◌≡◌};
 ghost use Rattle.exports.specs.Exports.{exported, rest_export};
 ghost use Rattle.model.specs.Rows.{rows_of};

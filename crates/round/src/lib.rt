@@ -1,6 +1,8 @@
 // One round of `reduce`: propagate, remove redundant rows, tighten coefficients and probe. The model and the table are
 // valid before it, and each call leaves them valid. Its calls are direct ones, made by the step of their kind, and pass
 // their checks: a list would refuse those that change a row.
+#![tactic(auto)]
+
 ghost use Rattle.std.specs.Prelude.{◌≡◌};
 ghost use Rattle.probe_side.specs.Marked.{Marked};
 ghost use Rattle.model.specs.Valid.{ValidState};

@@ -1,6 +1,8 @@
 // The phases of a round that change rows: redundant rows are removed, coefficients are tightened. The model is valid
 // before them, and each call leaves it valid. Their calls are direct ones, made by the function of their kind, and pass
 // their checks: a list would refuse them.
+#![tactic(auto)]
+
 ghost use Rattle.std.specs.Prelude.{◌≡◌, ◌&&◌, [], ◌*◌, ◌+◌, ◌<◌};
 ghost use Rattle.model.specs.Box.{at, is_free};
 ghost use Rattle.row.specs.Tightening.{may_tighten};

@@ -1,5 +1,6 @@
 // One round of `reduce` and its rounds (01, "Book"; 02, C-20 and C-24), by definition: why they end, and what they
 // promise. No code stands here: crate `round` makes one round, `rounds_call` all of them.
+#![tactic(auto)]
 
 // How the rounds ended, with the number of rounds made and whether the budget of a probe's side was spent in the last
 // of them: refused N; at None; after a round that changed nothing; at the limit.

@@ -1,5 +1,7 @@
 // The rounds of `reduce`, open to others: any n and m, any buffers with any contents. The model and the table are
 // checked once; each call leaves them valid.
+#![tactic(auto)]
+
 ghost use Rattle.std.specs.Prelude.{◌≡◌};
 ghost use Rattle.semantics.specs.Run.{run as ran};
 ghost use Rattle.model.specs.Rows.{rows_of};

@@ -1,5 +1,7 @@
 // The rounds of `reduce` on a valid model and table, which each call leaves valid: rounds are made until one changes
 // nothing.
+#![tactic(auto)]
+
 ghost use Rattle.std.specs.Prelude.{false, ◌≡◌};
 ghost use Rattle.semantics.specs.Run.{run as ran};
 ghost use Rattle.model.specs.Rows.{rows_of};

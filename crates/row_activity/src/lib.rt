@@ -1,5 +1,7 @@
 // Row sums: the least and the greatest value of a row's left side over the box, and its widest term. At most 128 terms
 // of 10^6 · 32,768 each, so the sums stay far within an i64.
+#![tactic(auto)]
+
 ghost use Rattle.std.specs.Prelude.{◌≡◌, length};
 ghost use Rattle.integer.specs.Order.{max_z};
 ghost use Rattle.integer.specs.Range.{Within};

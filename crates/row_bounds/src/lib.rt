@@ -1,4 +1,6 @@
 // The bounds that one row implies, from its minimum activity: of one variable, and of all in one sweep.
+#![tactic(auto)]
+
 ghost use Rattle.std.specs.Prelude.{not, ◌≡◌, ◌<◌, ◌+◌, ◌*◌, pos, ◌<ℤ◌, length};
 ghost use Rattle.model.specs.Box.{lower, upper, with_bounds};
 ghost use Rattle.row.specs.Moved.{moved_bounds};

@@ -2,6 +2,8 @@
 // 0, row by row, and the signs of the coefficients, column by column. Each row's steps and each column's signs are
 // made where they are first needed, so that a call that ends after its first pass pays for none. Both arrays are 0
 // at first; a step and a sign never are.
+#![tactic(auto)]
+
 ghost use Rattle.std.specs.Prelude.{◌≡◌, ◌⊎◌, ℕ, ◌*◌, ◌+◌, ◌<◌, ◌≤◌, length, get_or};
 ghost use Rattle.model.specs.Box.{at};
 ghost use Rattle.model.specs.Limits.{max_variables};

@@ -4,6 +4,8 @@
 // bound where its coefficient is above 0 and the upper one where it is below; an = row, by its two forms, reads both.
 // So a clean row's answer, Unchanged, is exact. A row that read a moved bound is dirty, 2; 0 is a row that was not
 // propagated yet.
+#![tactic(auto)]
+
 ghost use Rattle.std.specs.Prelude.{false, true, ◌≡◌, ℕ, ◌*◌, ◌+◌, ◌<◌, ◌≤◌, length, get_or};
 ghost use Rattle.model.specs.Box.{lower, upper};
 ghost use Rattle.row_marks.specs.Marks.{reads};

@@ -2,6 +2,8 @@
 // budget's passes are made or a row is infeasible. Each row is read in place through its view. What is known of the
 // rows from earlier visits is kept beside the box while a call runs: their index and which of them are clean (crate
 // `row_marks`).
+#![tactic(auto)]
+
 ghost use Rattle.std.specs.Prelude.{◌≡◌, ◌+◌, ◌<◌, ◌≤◌, length};
 ghost use Rattle.model.specs.Valid.{ValidModel};
 ghost use Rattle.model.specs.Rows.{rows_of};

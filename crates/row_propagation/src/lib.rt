@@ -1,4 +1,6 @@
 // Propagate a row (01's visit): one sweep tells whether anything moves, a second one moves it.
+#![tactic(auto)]
+
 ghost use Rattle.std.specs.Prelude.{◌≡◌, ◌<◌, ◌+◌, length};
 ghost use Rattle.model.specs.Rows.{row_with};
 ghost use Rattle.row.specs.Answers.{BothForms, both_forms, propagated_row_of};

@@ -1,4 +1,6 @@
 // Remove a redundant row (01's drop): a row of a model that passed the checks, its box empty or not.
+#![tactic(auto)]
+
 ghost use Rattle.std.specs.Prelude.{◌&&◌, cond, false, not, ◌≡◌, length, pos};
 ghost use Rattle.integer.specs.Order.{eq_z};
 ghost use Rattle.model.specs.Box.{is_empty, same_list};

@@ -1,5 +1,7 @@
 // Sets of rows, as bits: row r is bit r % 32 of word r / 32, and four words hold the 120 rows of the largest model.
 // What a pass has to look at is one set, and a bound that moves adds the rows that hear of it, whatever their number.
+#![tactic(auto)]
+
 ghost use Rattle.std.specs.Prelude.{◌≡◌, ℕ, ◌<◌, ◌≤◌, max, length};
 ghost use Rattle.row_set.specs.Bits.{bit_at};
 

@@ -1,4 +1,6 @@
 // Tighten a coefficient (01's sharpen) of a row of a model that passed the checks, its box empty or not.
+#![tactic(auto)]
+
 ghost use Rattle.std.specs.Prelude.{◌≡◌, ◌<◌, length};
 ghost use Rattle.integer.specs.Range.{Within};
 ghost use Rattle.model.specs.Limits.{coef_size};

@@ -1,6 +1,8 @@
 // One row, read in place (01, "Row sums"): a view of its n coefficients in the matrix, with its right side and kind. No
 // function over a struct that holds a reference is covered, so each is thin and proved by hand: it takes the view apart
 // and leaves the work to a function over plain slices.
+#![tactic(auto)]
+
 ghost use Rattle.std.specs.Prelude.{◌≡◌, length};
 ghost use Rattle.model.specs.Rows.{row_with};
 ghost use Rattle.row.specs.Activity.{min_activity, max_activity};

@@ -3,6 +3,8 @@
 // `writing::length` says how long that is. They require nothing: what fails a check is refused by the check's number,
 // and then nothing is written. Reading a written book returns the same model, and writing a book that was read returns
 // the same bytes.
+#![tactic(auto)]
+
 pub mod reading;
 pub mod writing;
 

@@ -1,6 +1,8 @@
 // A book of one edition turned into one of the other (02, C-18): the layout's checks of the book that is read, then its
 // model, which is checked by the call that writes it. The model stands in local buffers of the largest model's size.
 // What is open here requires nothing; converting there and back gives the same bytes.
+#![tactic(auto)]
+
 ghost use Rattle.std.specs.Prelude.{◌≡◌, ◌*◌, length};
 ghost use Rattle.book.specs.Answers.{book_written, write_answer, write_call, written};
 ghost use Rattle.book.specs.Book.{HoldsModel, bounds_of, coefs_of, kinds_of, model_in, rhs_of};

@@ -2,3 +2,4 @@
 // rows of different lengths, each its right side, its kind, its count and an entry for each coefficient that is not 0.
 // No code stands here: `sparse_checks` checks the layout, crate `sparse_reading` has the other checks of a book and its
 // numbers, `sparse_writing` the bytes of rows. What is open to users stands in crates `sparse` and `sparse_conversion`.
+#![tactic(auto)]

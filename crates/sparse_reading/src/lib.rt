@@ -1,5 +1,7 @@
 // Checks 1 to 4, 19 and 20 of a sparse book in turn; past them the checks over its numbers, one row at a time, and the
 // numbers themselves into lent buffers.
+#![tactic(auto)]
+
 ghost use Rattle.std.specs.Prelude.{◌≡◌, ◌+◌, ◌*◌, ◌≤◌, pos, length, replicate};
 ghost use Rattle.bytes.specs.Pieces.{joined, list_of};
 ghost use Rattle.book.specs.Book.{bounds_of};

@@ -1,4 +1,6 @@
 // The bytes of sparse rows: a row's right side, kind and count, and an entry for each coefficient that is not 0.
+#![tactic(auto)]
+
 ghost use Rattle.std.specs.Prelude.{[], ◌≡◌, ◌+◌, ◌*◌, ◌<◌, ◌≤◌, length};
 ghost use Rattle.model.specs.Limits.{max_rows, max_variables};
 ghost use Rattle.bytes.specs.Bytes.{pair_count};

@@ -1,5 +1,7 @@
 // One call of a list: its own checks, then what its kind asks for, on a model that passed its checks. Each call leaves
 // the model valid, so a list of calls checks the model once.
+#![tactic(auto)]
+
 ghost use Rattle.std.specs.Prelude.{◌≡◌};
 ghost use Rattle.model.specs.Rows.{rows_of};
 ghost use Rattle.model.specs.Valid.{ValidState};

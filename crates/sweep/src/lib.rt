@@ -1,5 +1,7 @@
 // Propagate a row (01's visit) by its steps: each sweep passes over the coefficients that are 0, which add nothing and
 // move nothing.
+#![tactic(auto)]
+
 ghost use Rattle.std.specs.Prelude.{◌≡◌, length};
 ghost use Rattle.row.specs.Activity.{min_activity, widest_term};
 ghost use Rattle.row.specs.Answers.{propagated_row_of};

@@ -1,5 +1,7 @@
 // Drives every open call on a model through each of its answers and each refusal that can apply to it, at the
 // boundaries; then call lists, as records and as numbers. The cases are in `stdin`.
+#![tactic(auto)]
+
 fn main() {
     test_cases::run();
 }

@@ -5,6 +5,8 @@
 // Crate `test_points` has the models and their points; `rooms` is the room for a model, `attempt` one call on it,
 // `runs` two runs, `moved` what the counts are held against, and `lies` mistakes to be found. Proved is only that all
 // this is safe and ends.
+#![tactic(auto)]
+
 mod attempt;
 mod family;
 mod lies;

@@ -1,5 +1,7 @@
 // The text of a test: lines read as words and numbers (`words`), the fronts of buffers that they fill (`parts`), and
 // what is written, words, numbers and models (`print`, `rows`). Proved is only that all this is safe and ends.
+#![tactic(auto)]
+
 pub mod parts;
 pub mod print;
 pub mod rows;

@@ -1,2 +1,4 @@
 // Numbers and bytes as text, written into a lent buffer.
+#![tactic(auto)]
+
 pub mod number;

@@ -1,6 +1,8 @@
 // The call that ties j to k (02, C-19), open like those of the reducer: any n and m, any buffers with any contents, any
 // k and j. `ties` has a place for each variable: 0 for no tie, or 1 plus the number of the literal of k that holds just
 // when j is 1.
+#![tactic(auto)]
+
 ghost use Rattle.std.specs.Prelude.{[], ◌≡◌, ◌<◌, ◌≤◌, ◌*◌, length};
 ghost use Rattle.model.specs.Rows.{rows_of};
 ghost use Rattle.model.specs.Valid.{ValidTable};

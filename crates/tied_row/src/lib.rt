@@ -1,5 +1,7 @@
 // Rows with j put as k (w = 0) or as 1 − k (w = 1), in place: one row, and all rows of a model that passed the checks
 // (02, C-19: "puts that into every row, zeroes j's column").
+#![tactic(auto)]
+
 ghost use Rattle.std.specs.Prelude.{cond, [], ◌≡◌, ◌*◌, ◌+◌, ◌<◌, ◌≤◌, eqb, ◌-ℤ◌, length, set};
 ghost use Rattle.integer.specs.Range.{Within};
 ghost use Rattle.model.specs.Box.{at};

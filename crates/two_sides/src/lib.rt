@@ -1,5 +1,7 @@
 // What the two sides of a probe come to: the side that survives, their hull, and what they say in the implication
 // table (`implications`).
+#![tactic(auto)]
+
 mod implications;
 
 ghost use Rattle.std.specs.Prelude.{◌≡◌, cond, false, [], ℕ, ◌*◌, ◌<◌, ◌≤◌, get_or, length, take};

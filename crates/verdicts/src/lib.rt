@@ -2,6 +2,8 @@
 // decides alone where it is not met; then the rows are read once, upwards, and each row is held against every proposal
 // that has no verdict yet. `check_allocations` is open: it requires nothing, and refuses by the number of the first
 // check that fails.
+#![tactic(auto)]
+
 mod call;
 mod judging;
 

@@ -1,5 +1,7 @@
 // The workspace of a prepared model: a lent buffer of 32-bit numbers. Whatever it holds, what is read from it is in
 // range; whether it was written by us is asked of its length and head alone.
+#![tactic(auto)]
+
 ghost use Rattle.std.specs.Prelude.{◌≡◌, ℕ, ◌*◌, ◌+◌, ◌<◌, ◌≤◌, neg_ℤ, pos, ◌+ℤ◌, drop, get_or, length, take, ◌≤ℤ◌};
 ghost use Rattle.model.specs.Box.{at};
 ghost use Rattle.model.specs.Limits.{max_bound, max_box, max_rhs, min_bound};

@@ -20,87 +20,87 @@ use Rattle.row_activity.proofs.minimum_activity.Tie as tie
 abbrev term_at : List ℤ → List ℤ → ℕ → ℤ
 term_at A B j = min_term (at A j) (lower B j) (upper B j)
 
-abbrev invariant-loop : tie.invariant-loop
+abbrev invariant-loop : tie.invariant-loop-j
 invariant-loop coefs bounds sum₀ j₀ sum j = (j ≤ length coefs) × (to_z w64 sum ≡ total j (term_at coefs bounds))
 
-abbrev decreases-loop : tie.decreases-loop
+abbrev decreases-loop : tie.decreases-loop-j
 decreases-loop coefs bounds sum₀ j₀ sum j = length coefs - j
 
-loop-holds : tie.Need-loop-init invariant-loop decreases-loop
+loop-holds : tie.Need-loop-j-init invariant-loop decreases-loop
 unfolding total
 loop-holds c = (omega arith, refl)
 
-mul-term : tie.Need-overflow-mul-term invariant-loop decreases-loop
+mul-term : tie.Need-offset_bounds-coefs-j invariant-loop decreases-loop
 mul-term c = omega arith
 
-shared-slice-copy-out-term : tie.Need-shared-slice-copy-out-term invariant-loop decreases-loop
+shared-slice-copy-out-term : tie.Need-bounds-coefs-j invariant-loop decreases-loop
 shared-slice-copy-out-term c = omega arith
 
-mul-term-2 : tie.Need-overflow-mul-term-2 invariant-loop decreases-loop
+mul-term-2 : tie.Need-overflow_mul-j invariant-loop decreases-loop
 mul-term-2 c = omega arith
 
-mul-term-3 : tie.Need-overflow-mul-term-3 invariant-loop decreases-loop
+mul-term-3 : tie.Need-offset_bounds-bounds-j invariant-loop decreases-loop
 mul-term-3 c = omega arith
 
-shared-slice-copy-out-term-2 : tie.Need-shared-slice-copy-out-term-2 invariant-loop decreases-loop
+shared-slice-copy-out-term-2 : tie.Need-bounds-bounds-j invariant-loop decreases-loop
 shared-slice-copy-out-term-2 c = omega arith
 
-mul-term-4 : tie.Need-overflow-mul-term-4 invariant-loop decreases-loop
+mul-term-4 : tie.Need-overflow_mul-j-in-loop-j invariant-loop decreases-loop
 mul-term-4 c = omega arith
 
-add_term : tie.Need-overflow-add-term invariant-loop decreases-loop
+add_term : tie.Need-overflow_add-j invariant-loop decreases-loop
 add_term c = omega arith
 
-mul-term-5 : tie.Need-overflow-mul-term-5 invariant-loop decreases-loop
+mul-term-5 : tie.Need-offset_bounds-bounds-j-in-loop-j invariant-loop decreases-loop
 mul-term-5 c = omega arith
 
-shared-slice-copy-out-term-3 : tie.Need-shared-slice-copy-out-term-3 invariant-loop decreases-loop
+shared-slice-copy-out-term-3 : tie.Need-bounds-bounds-j-in-loop-j invariant-loop decreases-loop
 shared-slice-copy-out-term-3 c = omega arith
 
-term-requires : tie.Need-term-requires invariant-loop decreases-loop
+term-requires : tie.Need-term-sum-requires invariant-loop decreases-loop
 term-requires c κs =
     let v = c.before.before.before.before.before.requires in
-    let j = c.before.before.before.before.loop.j in
+    let j = c.before.before.before.before.loop-j.j in
     let fa = within-fits w32 tt (coefs-small v j) in
     let fl = within-fits w32 tt (bounds-small v (2 * j)) in
     let fu = within-fits w32 tt (bounds-small v (2 * j + 1)) in
     simp to_z-of_z (coefs-small v j, (bounds-small v (2 * j), bounds-small v (2 * j + 1)))
 
 -- what the turn adds
-module _ (c : tie.After-term invariant-loop decreases-loop) where
-  abbrev head : tie.At-loop invariant-loop decreases-loop
+module _ (c : tie.After-term-sum invariant-loop decreases-loop) where
+  abbrev head : tie.At-loop-j invariant-loop decreases-loop
   head = c.before.before.before.before.before
 
-  next : to_z w64 (of_z w64 c.term.result) ≡ term_at head.before.args.coefs.now head.before.args.bounds.now head.loop.j
+  next : to_z w64 (of_z w64 c.term-sum.result) ≡ term_at head.before.args.coefs.now head.before.args.bounds.now head.loop-j.j
   next =
-      let v = head.before.pre in
-      let j = head.loop.j in
+      let v = head.before.requires in
+      let j = head.loop-j.j in
       let fa = within-fits w32 tt (coefs-small v j) in
       let fl = within-fits w32 tt (bounds-small v (2 * j)) in
       let fu = within-fits w32 tt (bounds-small v (2 * j + 1)) in
-      to_z-of_z {w = w64} (record { sfits = c.term.type-inv }) ∙ simp to_z-of_z at c.term.ensures
+      to_z-of_z {w = w64} (record { sfits = c.term-sum.type_inv }) ∙ simp to_z-of_z at c.term-sum.ensures
 
-add-sum : tie.Need-overflow-add-sum invariant-loop decreases-loop
-add-sum c = turn-fits (min-terms (head c).before.requires) (head c).loop.j (head c).loop.invariant.1 (next c) (omega arith)
+add-sum : tie.Need-overflow_add-sum invariant-loop decreases-loop
+add-sum c = turn-fits (min-terms (head c).before.requires) (head c).loop-j.j (head c).loop-j.invariant.1 (next c) (omega arith)
 
-add-j : tie.Need-overflow-add-j invariant-loop decreases-loop
+add-j : tie.Need-overflow_add-j-in-loop-j invariant-loop decreases-loop
 add-j c = omega arith
 
-loop-less : tie.Need-loop-smaller invariant-loop decreases-loop
+loop-less : tie.Need-loop-j-smaller invariant-loop decreases-loop
 loop-less c = omega arith
 
-loop-again : tie.Need-loop-preserved invariant-loop decreases-loop
-loop-again c = (omega arith, to_z-of_z (add-sum c) ∙ turn (min-terms (head c).before.requires) (head c).loop.j (head c).loop.invariant.1 (next c))
+loop-again : tie.Need-loop-j-preserved invariant-loop decreases-loop
+loop-again c = (omega arith, to_z-of_z (add-sum c) ∙ turn (min-terms (head c).before.requires) (head c).loop-j.j (head c).loop-j.invariant.1 (next c))
 
 returns : tie.Need-returns invariant-loop decreases-loop
 unfolding min_activity
 returns c =
     let A = c.before.before.args.coefs.now in
-    let end : c.before.loop.j ≡ length A = omega arith in
-    c.before.loop.invariant.1 ∙ ap (λ (i : ℕ). total i (term_at A c.before.before.args.bounds.now)) end
+    let end : c.before.loop-j.j ≡ length A = omega arith in
+    c.before.loop-j.invariant.1 ∙ ap (λ (i : ℕ). total i (term_at A c.before.before.args.bounds.now)) end
 
-pub minimum-activity-spec : {M : Type 1} → statement M
-minimum-activity-spec =
+pub minimum_activity_spec : {M : Type 1} → statement M
+minimum_activity_spec =
     tie.close
     (tie.spec
     invariant-loop

@@ -32,38 +32,38 @@ a-high-fits s = within-fits w64 tt (within-mul s.requires.0 s.requires.1.1)
 
 ruleset decode = (to_z-of_z, wide, a-fits, low_fits, high_fits, a-low-fits, a-high-fits)
 
-cast-result : tie.Need-overflow-cast-result
+cast-result : tie.Need-overflow_cast-result
 cast-result c = simp decode (wide (a-fits c.before))
 
-cast-result-2 : tie.Need-overflow-cast-result-2
+cast-result-2 : tie.Need-overflow_cast-result-then-a-gt0
 cast-result-2 c = simp decode (wide (low_fits c.before))
 
-mul-result : tie.Need-overflow-mul-result
+mul-result : tie.Need-overflow_mul-result
 mul-result c = simp decode (a-low-fits c.before)
 
-cast-result-3 : tie.Need-overflow-cast-result-3
+cast-result-3 : tie.Need-overflow_cast-result-else-a-gt0
 cast-result-3 c = simp decode (wide (a-fits c.before))
 
-cast-result-4 : tie.Need-overflow-cast-result-4
+cast-result-4 : tie.Need-overflow_cast-result-else-a-gt0-2
 cast-result-4 c = simp decode (wide (high_fits c.before))
 
-mul-result-2 : tie.Need-overflow-mul-result-2
+mul-result-2 : tie.Need-overflow_mul-result-else-a-gt0
 mul-result-2 c = simp decode (a-high-fits c.before)
 
-returns : tie.Need-returns
+returns : tie.Need-returns-then-a-gt0
 unfolding min_term
 returns c =
-    let t : lt_z (pos 0) c.before.args.a ≡ true = simp decode at c.if1.true in
+    let t : lt_z (pos 0) c.before.args.a ≡ true = simp decode at c.if-a-gt0.true in
     simp (t, decode)
 
-returns-2 : tie.Need-returns-2
+returns-2 : tie.Need-returns-else-a-gt0
 unfolding min_term
 returns-2 c =
-    let t : lt_z (pos 0) c.before.args.a ≡ false = simp decode at c.if1.false in
+    let t : lt_z (pos 0) c.before.args.a ≡ false = simp decode at c.if-a-gt0.false in
     simp (t, decode)
 
-pub term-spec : {M : Type 1} → statement M
-term-spec =
+pub term_spec : {M : Type 1} → statement M
+term_spec =
     tie.close
     (tie.spec
     cast-result
