@@ -25,9 +25,9 @@ use Rattle.book.proofs.AcceptLaws.{Head, decoded-lengths, decoded-sizes, head-nu
 use Rattle.book.proofs.AnswerLaws.{accepted-by, becomes, refused-by}
 use Rattle.intake.specs.Intake.{Held}
 use Rattle.intake.proofs.CheckLaws.{accepted}
-use Rattle.bytes.specs.Bytes.{integers_at, number_at}
-use Rattle.bytes.specs.Pieces.{part}
-use Rattle.bytes.proofs.ByteLaws.{length-integers_at}
+use Rattle.little_endian.specs.Bytes.{integers_at, number_at}
+use Rattle.little_endian.specs.Pieces.{part}
+use Rattle.little_endian.proofs.ByteLaws.{length-integers_at}
 use Rattle.proposals.specs.Call.{allocation_checks, allocation_fault, verdicts_left}
 use Rattle.proposals.specs.Proposals.{max_proposals, numbers, proposal}
 use Rattle.proposals.specs.Verdict.{verdict}

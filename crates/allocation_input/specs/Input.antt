@@ -4,7 +4,7 @@ use Rattle.model.specs.Checks.{Check, first, must}
 use Rattle.model.specs.Model.{Model}
 use Rattle.book.specs.Book.{decode}
 use Rattle.book.specs.BookChecks.{head_checks, model_number_checks}
-use Rattle.bytes.specs.Bytes.{integers_at, number_at}
+use Rattle.little_endian.specs.Bytes.{integers_at, number_at}
 use Rattle.proposals.specs.Proposals.{max_proposals}
 use Rattle.semantics.specs.Lowest.{lowest}
 

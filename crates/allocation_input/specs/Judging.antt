@@ -5,7 +5,7 @@ use Rattle.model.specs.Model.{Model}
 use Rattle.model.specs.Rows.{Rows}
 use Rattle.book.specs.Book.{decode}
 use Rattle.book.specs.BookChecks.{head_checks}
-use Rattle.bytes.specs.Bytes.{integers_at}
+use Rattle.little_endian.specs.Bytes.{integers_at}
 use Rattle.proposals.specs.Proposals.{max_proposals, numbers, proposal}
 use Rattle.proposals.specs.Verdict.{verdict}
 use Rattle.allocation_input.specs.Input.{book_end, input_fault, max_input, model_of_input, proposal_checks}

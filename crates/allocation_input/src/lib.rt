@@ -9,7 +9,7 @@ ghost use Rattle.model.specs.Limits.{max_variables};
 ghost use Rattle.allocation_input.specs.Input.{proposal_checks, whole_end};
 
 use book::layout::{VARIABLES, head_fault, trailer_u16};
-use bytes::read_u32;
+use little_endian::read_u32;
 
 #[derive(Drop)]
 pub enum Answer {

@@ -14,7 +14,7 @@ use allocation_input::{Answer, book_end, count_behind, proposals_fault};
 use book::SizesAnswer;
 use book::layout::{ROWS, VARIABLES, head_fault, trailer_u16};
 use book_reading::read;
-use bytes::integers::read_integers;
+use little_endian::integers::read_integers;
 use model::{MAX_BOX, MAX_MATRIX, MAX_ROWS};
 use verdicts::check_allocations;
 

@@ -14,10 +14,10 @@ use Rattle.model.specs.Box.{at}
 use Rattle.model.specs.Checks.{bits, in_range}
 use Rattle.model.proofs.CheckLaws.{bits-test}
 use Rattle.book.specs.Book.{bounds_of, coefs_of, kinds_of, rhs_of, row_place}
-use Rattle.bytes.specs.Bytes.{integer_at, integers_at}
-use Rattle.bytes.specs.Pieces.{joined}
-use Rattle.bytes.proofs.ByteLaws.{at-integers_at, length-integers_at}
-use Rattle.bytes.proofs.PieceLaws.{get_d-grid, get_d-list_of, length-grid, length-list_of}
+use Rattle.little_endian.specs.Bytes.{integer_at, integers_at}
+use Rattle.little_endian.specs.Pieces.{joined}
+use Rattle.little_endian.proofs.ByteLaws.{at-integers_at, length-integers_at}
+use Rattle.little_endian.proofs.PieceLaws.{get_d-grid, get_d-list_of, length-grid, length-list_of}
 
 module _ (n m : ℕ) (bs : List ℕ) where
   pub length-bounds_of : length (bounds_of n bs) ≡ 2 * n

@@ -11,10 +11,10 @@ use Rattle.model.specs.Model.{Model}
 use Rattle.model.specs.Rows.{Row, row_at}
 use Rattle.model.proofs.RowsLaws.{at-row_of}
 use Rattle.book.specs.Book.{book_length, bound_bytes, bounds_offset, encode, length_given, row_bytes, row_bytes_at, row_place, rows, rows_offset, trailer_bytes, trailer_of, variables}
-use Rattle.bytes.specs.Bytes.{bytes_of, integer_bytes, number_at}
-use Rattle.bytes.specs.Pieces.{joined, overwrite, part}
-use Rattle.bytes.proofs.ByteLaws.{length-integer_bytes, number-bytes}
-use Rattle.bytes.proofs.PieceLaws.{length-joined, overwrite-all, overwrite-next, part-joined, part_left, part-part, part_right, part-whole, piece-within}
+use Rattle.little_endian.specs.Bytes.{bytes_of, integer_bytes, number_at}
+use Rattle.little_endian.specs.Pieces.{joined, overwrite, part}
+use Rattle.little_endian.proofs.ByteLaws.{length-integer_bytes, number-bytes}
+use Rattle.little_endian.proofs.PieceLaws.{length-joined, overwrite-all, overwrite-next, part-joined, part_left, part-part, part_right, part-whole, piece-within}
 
 -- the limits of n and m keep every place within 32 bits
 pub place-below : (n i : ℕ) → n ≤ 128 → i ≤ 120 → row_place n i ≤ 62_944

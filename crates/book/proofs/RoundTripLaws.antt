@@ -20,15 +20,15 @@ use Rattle.model.proofs.RowsLaws.{at-row_of}
 use Rattle.book.specs.Answers.{Answer, book_written, bounds_read, coefs_read, kinds_read, read_call, read_fault, refused, rhs_read, sizes_are, unless, write_call, write_fault, written}
 use Rattle.book.specs.Book.{book_length, bound_bytes, bounds_of, bounds_offset, coefs_of, decode, encode, kinds_of, length_given, model_in, rhs_of, row_bytes, row_bytes_at, row_place, rows, rows_offset, trailer_bytes, trailer_of, variables}
 use Rattle.book.specs.BookChecks.{book_fault}
-use Rattle.bytes.specs.Bytes.{Bytes, bits_of, bytes_of, integer_bytes, integers_at}
-use Rattle.bytes.specs.Pieces.{joined, part}
+use Rattle.little_endian.specs.Bytes.{Bytes, bits_of, bytes_of, integer_bytes, integers_at}
+use Rattle.little_endian.specs.Pieces.{joined, part}
 use Rattle.book.specs.RoundTrips.{FirstEdition, OneBook, OneModel, ReadsWritten, WritesRead}
 use Rattle.book.proofs.AcceptLaws.{Head, book-test, read-passed, write-passed}
 use Rattle.book.proofs.AnswerLaws.{becomes}
-use Rattle.bytes.proofs.ByteLaws.{bytes-number_at, integer-read, integer-written}
+use Rattle.little_endian.proofs.ByteLaws.{bytes-number_at, integer-read, integer-written}
 use Rattle.book.proofs.DecodeLaws.{at-bounds_of, at-coefs_of, at-rhs_of, kind-none, length-kinds_of}
 use Rattle.book.proofs.EncodeLaws.{bound-encode, coef-encode, length-below, length-encode, rhs-encode, trailer-bounds, trailer-encode, trailer-length, trailer-m, trailer-n, trailer-rows}
-use Rattle.bytes.proofs.PieceLaws.{grid-all, joined-cong, joined-parts, list_of-all, part-add, part-whole, piece-within}
+use Rattle.little_endian.proofs.PieceLaws.{grid-all, joined-cong, joined-parts, list_of-all, part-add, part-whole, piece-within}
 
 -- ---- the bytes of a book are bytes
 

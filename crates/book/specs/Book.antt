@@ -3,8 +3,8 @@ use Rattle.std.specs.Prelude.{◌*◌, ◌+◌, ◌-◌, ◌≤◌, ℕ, ℤ, dr
 use Rattle.model.specs.Box.{at}
 use Rattle.model.specs.Model.{Model, model_of}
 use Rattle.model.specs.Rows.{Row, Rows, row_at, rows_of}
-use Rattle.bytes.specs.Bytes.{bytes_of, integer_at, integer_bytes, integers_at, number_at}
-use Rattle.bytes.specs.Pieces.{joined, list_of}
+use Rattle.little_endian.specs.Bytes.{bytes_of, integer_at, integer_bytes, integers_at, number_at}
+use Rattle.little_endian.specs.Pieces.{joined, list_of}
 use Rattle.model.specs.Limits.{max_rows, max_variables}
 
 -- "length of the book, 32 bits, 8n + m(4 + 4n) + 16"

@@ -5,7 +5,7 @@ use Rattle.model.specs.Rows.{is_equality, row_at}
 use Rattle.model.specs.Valid.{ValidModel}
 use Rattle.book.specs.Book.{decode, encode}
 use Rattle.book.specs.BookChecks.{book_fault}
-use Rattle.bytes.specs.Bytes.{Bytes}
+use Rattle.little_endian.specs.Bytes.{Bytes}
 
 -- a book that the checks accept
 pub record Accepted (bs : List ℕ) : Type 0 where

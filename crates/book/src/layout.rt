@@ -3,11 +3,11 @@ ghost use Rattle.std.specs.Prelude.{◌≡◌, ◌<◌, ◌≤◌, length};
 ghost use Rattle.model.specs.Checks.{first};
 ghost use Rattle.book.specs.Answers.{sizes_answer, trailer_call};
 ghost use Rattle.book.specs.Book.{book_length, row_place, trailer_bytes, trailer_of, variables, rows};
-ghost use Rattle.bytes.specs.Bytes.{number_at};
+ghost use Rattle.little_endian.specs.Bytes.{number_at};
 ghost use Rattle.model.specs.Limits.{max_rows, max_variables};
 ghost use Rattle.book.specs.BookChecks.{given_length_checks, head_checks, layout_checks};
 
-use bytes::{read_u16, read_u32, write_u16, write_u32};
+use little_endian::{read_u16, read_u32, write_u16, write_u32};
 use model_checks::size_fault;
 
 pub const TRAILER: usize = 16;

@@ -12,7 +12,7 @@ ghost use Rattle.book.specs.Book.{HoldsModel, bounds_of, coefs_of, encode, kinds
 
 use book::SizesAnswer;
 use book::layout::{ROWS, VARIABLES, head_fault, row_place, trailer_u16};
-use bytes::integers::{are_in_range, read_integers};
+use little_endian::integers::{are_in_range, read_integers};
 use model::{MAX_COEF, MAX_RHS, MAX_VARIABLES};
 
 // Checks 6, 7 and 23 over the book's bounds.

@@ -8,12 +8,12 @@ ghost use Rattle.model.specs.Rows.{rows_of};
 ghost use Rattle.book.specs.Answers.{book_written, write_answer, write_call, write_fault, written};
 ghost use Rattle.book.specs.Book.{HoldsModel, book_length, decode, row_bytes_at};
 ghost use Rattle.book.specs.BookChecks.{book_fault, first_edition_checks, inequalities};
-ghost use Rattle.bytes.specs.Pieces.{joined, overwrite};
+ghost use Rattle.little_endian.specs.Pieces.{joined, overwrite};
 
 use book::layout::{TRAILER, book_length, row_place, write_trailer};
 use book::writing::WriteAnswer;
-use bytes::integers::write_integers;
-use bytes::write_i32;
+use little_endian::integers::write_integers;
+use little_endian::write_i32;
 use matrix::coefficients;
 use model_checks::{model_fault, size_fault};
 

@@ -14,10 +14,10 @@ use Rattle.model.proofs.CheckLaws.{fails, first-none, past}
 use Rattle.book.specs.Answers.{Answer, refused, sizes_are, unless}
 use Rattle.book.specs.Book.{length_given, rows, trailer_of, variables}
 use Rattle.book.specs.BookChecks.{given_length_checks, head_checks, layout_checks, offset_checks}
-use Rattle.bytes.specs.Bytes.{Bytes}
+use Rattle.little_endian.specs.Bytes.{Bytes}
 use Rattle.book.proofs.AcceptLaws.{layout-test}
 use Rattle.book.proofs.AnswerLaws.{accepted-by, refused-by}
-use Rattle.bytes.proofs.ByteLaws.{number_at-below, part_bytes}
+use Rattle.little_endian.proofs.ByteLaws.{number_at-below, part_bytes}
 use Rattle.book.proofs.EncodeLaws.{length-below, trailer-part}
 use Rattle.intake.specs.Checks.{SizedBook, TooLong, head_call, input_call, input_checks, too_long}
 use Rattle.intake.specs.Intake.{last_bytes}

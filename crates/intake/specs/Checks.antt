@@ -5,7 +5,7 @@ use Rattle.model.specs.Limits.{max_rows, max_variables}
 use Rattle.book.specs.Answers.{Answer, refused, sizes_are, unless}
 use Rattle.book.specs.Book.{book_length, rows, trailer_of, variables}
 use Rattle.book.specs.BookChecks.{given_length_checks, head_checks, layout_checks}
-use Rattle.bytes.specs.Bytes.{Bytes}
+use Rattle.little_endian.specs.Bytes.{Bytes}
 
 -- 1. The input has under 16 bytes. 5 where t is not as long as a trailer. Then 2, 3 and 4.
 unfoldable pub input_checks : List ℕ → ℕ → List Check

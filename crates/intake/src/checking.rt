@@ -2,12 +2,12 @@
 ghost use Rattle.std.specs.Prelude.{false, true, ◌≡◌, List, ℕ, ◌<◌, length};
 ghost use Rattle.book.specs.Answers.{sizes_answer, sizes_are};
 ghost use Rattle.book.specs.Book.{length_given};
-ghost use Rattle.bytes.specs.Bytes.{byte_count};
+ghost use Rattle.little_endian.specs.Bytes.{byte_count};
 ghost use Rattle.intake.specs.Intake.{last_bytes};
 ghost use Rattle.intake.specs.Checks.{SizedBook, TooLong, head_call, input_call, too_long};
 
 use book::{SizesAnswer, trailer};
-use bytes::BYTE;
+use little_endian::BYTE;
 
 const TRAILER: usize = 16;
 

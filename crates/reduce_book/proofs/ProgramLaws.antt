@@ -12,7 +12,7 @@ use Rattle.model.proofs.CheckLaws.{first-stop}
 use Rattle.book.specs.Answers.{refused, sizes_are}
 use Rattle.book.specs.Book.{decode, model_in, rows, trailer_of, variables}
 use Rattle.book.specs.BookChecks.{book_checks, book_fault, head_checks, model_number_checks}
-use Rattle.bytes.specs.Bytes.{Bytes}
+use Rattle.little_endian.specs.Bytes.{Bytes}
 use Rattle.intake.specs.Checks.{head_call}
 use Rattle.intake.specs.Intake.{Held}
 use Rattle.intake.proofs.CheckLaws.{accepted}

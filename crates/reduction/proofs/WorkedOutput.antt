@@ -25,8 +25,8 @@ use Rattle.semantics.specs.Call.{call_of, has_budget, has_row, has_table, has_va
 use Rattle.model.specs.State.{state_of, with_box, with_row}
 use Rattle.book.specs.Book.{book_length, bounds_of, coefs_of, decode, kinds_of, model_in, rhs_of, row_place, trailer_of}
 use Rattle.book.specs.BookChecks.{book_checks, book_fault, given_length_checks, head_checks, layout_checks, offset_checks}
-use Rattle.bytes.specs.Bytes.{integer_at, integers_at, number_at, number_of, signed_of}
-use Rattle.bytes.specs.Pieces.{joined}
+use Rattle.little_endian.specs.Bytes.{integer_at, integers_at, number_at, number_of, signed_of}
+use Rattle.little_endian.specs.Pieces.{joined}
 use Rattle.rounds.specs.Round.{and_then, any_change, is_change, probe_call, probes, propagate_call, removals, remove_call, round, tighten_call, tighten_row, tightenings, unless_empty, upwards}
 use Rattle.rounds.specs.Rounds.{after, rounds_fault, rounds_from, run_rounds}
 use Rattle.text.specs.Fields.{field, fields}

@@ -12,7 +12,7 @@ ghost use Rattle.sparse_calls.specs.SparseCalls.{sparse_written};
 use book::layout::{TRAILER, write_trailer};
 use book::writing::WriteAnswer;
 use buffer_checks::is_product;
-use bytes::integers::write_integers;
+use little_endian::integers::write_integers;
 use model_checks::{model_fault, size_fault};
 use sparse_calls::LengthAnswer;
 use sparse_writing::{sparse_length, write_rows};

@@ -10,7 +10,7 @@ use native.Mathlib.Omega.{arith}
 use Rattle.model.specs.Checks.{Check, box_checks, first, length_checks, model_checks, model_fault, must, none, number_checks, size_checks, table_byte_checks, table_length_checks}
 use Rattle.model.specs.Model.{Model}
 use Rattle.model.proofs.CheckLaws.{first-append, first-go, first-zero-append, stops}
-use Rattle.bytes.specs.Bytes.{Bytes}
+use Rattle.little_endian.specs.Bytes.{Bytes}
 use Rattle.book.specs.Answers.{refused, write_fault, written}
 use Rattle.book.specs.Book.{book_length, decode}
 use Rattle.book.specs.BookChecks.{book_checks, book_fault, first_edition_checks, head_checks, model_number_checks, write_checks}

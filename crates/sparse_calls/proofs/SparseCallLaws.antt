@@ -15,7 +15,7 @@ use Rattle.model.specs.Model.{Model, model_of}
 use Rattle.model.specs.Rows.{Rows, rows_of}
 use Rattle.model.specs.Valid.{ValidModel}
 use Rattle.model.proofs.CheckLaws.{LengthsFit, first-go, first-none, first-stop, first-zero-append, fits-fault-none, length-test}
-use Rattle.bytes.specs.Bytes.{Bytes}
+use Rattle.little_endian.specs.Bytes.{Bytes}
 use Rattle.book.specs.Answers.{lent, refused, sizes_are, written}
 use Rattle.book.specs.Book.{rows, trailer_of, variables}
 use Rattle.book.specs.BookChecks.{model_number_checks}

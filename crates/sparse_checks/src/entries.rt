@@ -1,11 +1,11 @@
 // The entries of the rows: 19, a column not below n or not above the one before, and 20, a zero coefficient.
 ghost use Rattle.std.specs.Prelude.{◌≡◌, ◌+◌, ◌*◌, ◌≤◌, length};
-ghost use Rattle.bytes.specs.Pieces.{joined};
+ghost use Rattle.little_endian.specs.Pieces.{joined};
 ghost use Rattle.model.specs.Checks.{first};
 ghost use Rattle.sparse_layout.specs.SparseBook.{HoldsRows, count_at};
 ghost use Rattle.sparse_layout.specs.SparseChecks.{all_entry_checks, entry_checks};
 
-use bytes::{read_i32, read_u16};
+use little_endian::{read_i32, read_u16};
 
 // How many entries the row at p has.
 pub fn row_count(book: &[u8], p: usize) -> u16

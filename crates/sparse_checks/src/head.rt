@@ -9,7 +9,7 @@ use crate::entries::row_count;
 use book::layout::{
     ROWS, TRAILER, VARIABLES, given_length_fault, rows_of, trailer_u16, variables_of,
 };
-use bytes::read_u32;
+use little_endian::read_u32;
 use model_checks::size_fault;
 
 // Checks 3 and 4 of the trailer's bytes, 4 of the offsets only: the number of the first that fails, else 0.

@@ -17,7 +17,7 @@ ghost use Rattle.sparse_calls.specs.SparseCalls.{to_sparse_written};
 
 use book::layout::{ROWS, VARIABLES, head_fault, trailer_u16};
 use book::writing::WriteAnswer;
-use bytes::integers::read_integers;
+use little_endian::integers::read_integers;
 use model::{MAX_BOX, MAX_MATRIX, MAX_ROWS};
 use sparse_calls::LengthAnswer;
 use sparse_reading::{layout_fault, read_numbers};

@@ -13,9 +13,9 @@ use native.Mathlib.Omega.{arith}
 use Rattle.integer.proofs.Tests.{both, eqb-test, ltb-test, test-false, test-true}
 use Rattle.model.specs.Checks.{Check, first, size_checks}
 use Rattle.model.proofs.CheckLaws.{ends, fails, first-none, first-zero-append, goes, numbered, past, stops}
-use Rattle.bytes.specs.Bytes.{Bytes, integer_at, number_at}
-use Rattle.bytes.specs.Pieces.{joined}
-use Rattle.bytes.proofs.ByteLaws.{number_at-below}
+use Rattle.little_endian.specs.Bytes.{Bytes, integer_at, number_at}
+use Rattle.little_endian.specs.Pieces.{joined}
+use Rattle.little_endian.proofs.ByteLaws.{number_at-below}
 use Rattle.book.specs.Book.{bounds_offset, length_given, rows, rows_offset, trailer_of, variables}
 use Rattle.book.specs.BookChecks.{given_length_checks}
 use Rattle.book.proofs.AcceptLaws.{size-passed}

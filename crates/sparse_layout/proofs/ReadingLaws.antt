@@ -14,10 +14,10 @@ use Rattle.integer.proofs.Tests.{bool-ext, cond_ind}
 use Rattle.model.specs.Checks.{bits, in_range}
 use Rattle.model.specs.Valid.{Between}
 use Rattle.model.proofs.CheckLaws.{in_range-test}
-use Rattle.bytes.specs.Bytes.{integer_at, integers_at}
-use Rattle.bytes.specs.Pieces.{joined, list_of}
-use Rattle.bytes.proofs.ByteLaws.{at-integers_at, length-integers_at}
-use Rattle.bytes.proofs.PieceLaws.{get_d-list_of, length-list_of}
+use Rattle.little_endian.specs.Bytes.{integer_at, integers_at}
+use Rattle.little_endian.specs.Pieces.{joined, list_of}
+use Rattle.little_endian.proofs.ByteLaws.{at-integers_at, length-integers_at}
+use Rattle.little_endian.proofs.PieceLaws.{get_d-list_of, length-list_of}
 use Rattle.book.proofs.DecodeLaws.{all-cong}
 use Rattle.sparse_layout.specs.SparseBook.{column_at, dense_at, value_at}
 use Rattle.sparse_layout.proofs.RowLaws.{Entries, dense-hit, dense-miss}

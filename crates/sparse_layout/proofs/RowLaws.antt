@@ -12,10 +12,10 @@ use mir.Val.{SFits}
 use native.Mathlib.Decide.{ℕ_discrete}
 use native.Mathlib.Omega.{arith}
 use Rattle.integer.proofs.Tests.{T→false, T→true, decide, eq→eq_z, eq_z→eq, eqb-test, test-false, test-true}
-use Rattle.bytes.specs.Bytes.{Bytes, bytes_of, integer_at, integer_bytes, number_at}
-use Rattle.bytes.specs.Pieces.{joined, part}
-use Rattle.bytes.proofs.ByteLaws.{bytes-number_at, integer-read, integer-written, length-bytes_of, length-integer_bytes, number-bytes}
-use Rattle.bytes.proofs.PieceLaws.{get_d-list_of, joined-cong, length_part, part-add}
+use Rattle.little_endian.specs.Bytes.{Bytes, bytes_of, integer_at, integer_bytes, number_at}
+use Rattle.little_endian.specs.Pieces.{joined, part}
+use Rattle.little_endian.proofs.ByteLaws.{bytes-number_at, integer-read, integer-written, length-bytes_of, length-integer_bytes, number-bytes}
+use Rattle.little_endian.proofs.PieceLaws.{get_d-list_of, joined-cong, length_part, part-add}
 use Rattle.model.specs.Box.{at}
 use Rattle.model.specs.Rows.{Row}
 use Rattle.sparse_layout.specs.SparseBook.{column_at, count_at, dense_at, entry_bytes, entry_of, is_zero, kind_at, nonzeros, row_in, sparse_row_bytes, value_at}

@@ -6,8 +6,8 @@ use mathlib.Core.List.{List, [], ◌++◌, append-nil}
 use mathlib.Core.Path.{◌∙◌, ◌≡◌, ap, refl, sym}
 use native.Mathlib.Decide.{ℕ_discrete}
 use native.Mathlib.Omega.{arith}
-use Rattle.bytes.specs.Pieces.{joined, part}
-use Rattle.bytes.proofs.PieceLaws.{part-add, part_left, part_right, part-whole}
+use Rattle.little_endian.specs.Pieces.{joined, part}
+use Rattle.little_endian.proofs.PieceLaws.{part-add, part_left, part_right, part-whole}
 
 module _ {ℓ} {A : Type ℓ} where
   pub joined-zero : (f : ℕ → List A) → joined 0 f ≡ []

@@ -15,8 +15,8 @@ use Rattle.model.specs.Limits.{max_rows, max_variables}
 use Rattle.model.specs.Rows.{row_at, row_of}
 use Rattle.model.specs.Valid.{ValidModel}
 use Rattle.model.proofs.CheckLaws.{first-none, first-zero-append, length-test, numbered, size-test}
-use Rattle.bytes.specs.Pieces.{joined}
-use Rattle.bytes.proofs.PieceLaws.{get_d-list_of, length-grid, length-list_of, part-joined}
+use Rattle.little_endian.specs.Pieces.{joined}
+use Rattle.little_endian.proofs.PieceLaws.{get_d-list_of, length-grid, length-list_of, part-joined}
 use Rattle.book.specs.Book.{bounds_offset, length_given, rows, rows_offset, trailer_of, variables}
 use Rattle.book.specs.BookChecks.{given_length_checks, model_number_checks}
 use Rattle.book.proofs.AcceptLaws.{valid-checks}

@@ -4,8 +4,8 @@ use Rattle.integer.specs.Index.{all}
 use Rattle.integer.specs.Order.{eq_z}
 use Rattle.model.specs.Box.{box_of, empty_box, is_empty, same_list}
 use Rattle.model.specs.Checks.{bits, box_checks, first, in_range, narrow, number_checks, ordered, size_checks}
-use Rattle.bytes.specs.Bytes.{bytes_of, integer_at, integers_at, number_at, number_of, signed_of}
-use Rattle.bytes.specs.Pieces.{joined}
+use Rattle.little_endian.specs.Bytes.{bytes_of, integer_at, integers_at, number_at, number_of, signed_of}
+use Rattle.little_endian.specs.Pieces.{joined}
 use Rattle.book.specs.Book.{bounds_of, trailer_bytes, trailer_of}
 use Rattle.book.specs.BookChecks.{given_length_checks}
 use Rattle.sparse_layout.specs.SparseBook.{column_at, count_at, decode_sparse, dense_at, is_zero, kind_at, row_start, sparse_coefs_of, sparse_kinds_of, sparse_model_in, sparse_rhs_of, value_at}

@@ -10,10 +10,10 @@ use Rattle.integer.proofs.Tests.{cond_ind}
 use Rattle.model.specs.Box.{at}
 use Rattle.model.specs.Model.{Model}
 use Rattle.model.specs.Rows.{Row, Rows, row_at}
-use Rattle.bytes.specs.Bytes.{Bytes, bits_of, bytes_of, integer_bytes}
-use Rattle.bytes.specs.Pieces.{joined, overwrite, part}
-use Rattle.bytes.proofs.ByteLaws.{length-integer_bytes}
-use Rattle.bytes.proofs.PieceLaws.{overwrite-all, overwrite-next, part-joined, part_left, part_right}
+use Rattle.little_endian.specs.Bytes.{Bytes, bits_of, bytes_of, integer_bytes}
+use Rattle.little_endian.specs.Pieces.{joined, overwrite, part}
+use Rattle.little_endian.proofs.ByteLaws.{length-integer_bytes}
+use Rattle.little_endian.proofs.PieceLaws.{overwrite-all, overwrite-next, part-joined, part_left, part_right}
 use Rattle.book.specs.Book.{bound_bytes, trailer_bytes, trailer_of}
 use Rattle.book.proofs.EncodeLaws.{length-bound_bytes, length-trailer_bytes}
 use Rattle.book.proofs.RoundTripLaws.{bytes-append, bytes-bytes_of, bytes-joined}

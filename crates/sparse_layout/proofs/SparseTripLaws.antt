@@ -17,10 +17,10 @@ use Rattle.model.specs.Model.{Model}
 use Rattle.model.specs.Rows.{row_at, row_of}
 use Rattle.model.specs.Valid.{ValidModel}
 use Rattle.model.proofs.RowsLaws.{at-row_of}
-use Rattle.bytes.specs.Bytes.{Bytes, integer_bytes, integers_at}
-use Rattle.bytes.specs.Pieces.{joined, part}
-use Rattle.bytes.proofs.ByteLaws.{integer-read, integer-written}
-use Rattle.bytes.proofs.PieceLaws.{grid-all, joined-cong, joined-parts, length_part, list_of-all, part-add}
+use Rattle.little_endian.specs.Bytes.{Bytes, integer_bytes, integers_at}
+use Rattle.little_endian.specs.Pieces.{joined, part}
+use Rattle.little_endian.proofs.ByteLaws.{integer-read, integer-written}
+use Rattle.little_endian.proofs.PieceLaws.{grid-all, joined-cong, joined-parts, length_part, list_of-all, part-add}
 use Rattle.book.specs.Book.{book_length, bound_bytes, bounds_of, decode, encode, length_given, rows, trailer_bytes, trailer_of, variables}
 use Rattle.book.proofs.DecodeLaws.{at-bounds_of}
 use Rattle.book.proofs.EncodeLaws.{trailer-bounds, trailer-length, trailer-m, trailer-n, trailer-rows}

@@ -18,10 +18,10 @@ use Rattle.model.specs.Model.{Model, model_of}
 use Rattle.model.specs.Rows.{Row, Rows, row_at, rows_of}
 use Rattle.model.proofs.BitTests.{eq-bits}
 use Rattle.model.proofs.RowsLaws.{at-row_of}
-use Rattle.bytes.specs.Bytes.{bytes_of, integer_bytes}
-use Rattle.bytes.specs.Pieces.{joined, list_of, overwrite}
-use Rattle.bytes.proofs.ByteLaws.{length-bytes_of, length-integer_bytes}
-use Rattle.bytes.proofs.PieceLaws.{get_d-list_of, length-list_of, length-overwrite, overwrite-next, overwrite-one}
+use Rattle.little_endian.specs.Bytes.{bytes_of, integer_bytes}
+use Rattle.little_endian.specs.Pieces.{joined, list_of, overwrite}
+use Rattle.little_endian.proofs.ByteLaws.{length-bytes_of, length-integer_bytes}
+use Rattle.little_endian.proofs.PieceLaws.{get_d-list_of, length-list_of, length-overwrite, overwrite-next, overwrite-one}
 use Rattle.sparse_layout.specs.SparseBook.{column_at, dense_at, entry_bytes, entry_of, is_zero, nonzeros, rows_length, sparse_length, sparse_row_bytes, sparse_row_bytes_at, value_at}
 use Rattle.sparse_layout.proofs.RowLaws.{dense-hit, dense-miss, dense-none, entry-none, entry-some, length-entries, length-row, nonzeros-cong, zero_test}
 use Rattle.sparse_layout.proofs.SpanLaws.{part-span}

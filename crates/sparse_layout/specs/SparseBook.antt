@@ -5,8 +5,8 @@ use Rattle.integer.specs.Order.{eq_z}
 use Rattle.model.specs.Box.{at}
 use Rattle.model.specs.Model.{Model, model_of}
 use Rattle.model.specs.Rows.{Row, Rows, row_at, row_with, rows_of}
-use Rattle.bytes.specs.Bytes.{bytes_of, integer_at, integer_bytes, number_at}
-use Rattle.bytes.specs.Pieces.{joined, list_of}
+use Rattle.little_endian.specs.Bytes.{bytes_of, integer_at, integer_bytes, number_at}
+use Rattle.little_endian.specs.Pieces.{joined, list_of}
 use Rattle.book.specs.Book.{bound_bytes, bounds_of, rows, trailer_bytes, trailer_of, variables}
 use Rattle.model.specs.Limits.{max_rows, max_variables}
 

@@ -1,6 +1,6 @@
 -- Cases of the checks of a sparse book: two variables from 0 to 1 and one row, by its bytes.
 use Rattle.std.specs.Prelude.{◌+◌, ℕ, length, List, [], ◌++◌, ◌∷◌, ◌≡◌}
-use Rattle.bytes.specs.Bytes.{bytes_of}
+use Rattle.little_endian.specs.Bytes.{bytes_of}
 use Rattle.book.specs.Book.{trailer_bytes}
 use Rattle.sparse_layout.specs.SparseChecks.{sparse_fault}
 

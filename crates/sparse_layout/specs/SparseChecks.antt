@@ -1,7 +1,7 @@
 -- The checks of a sparse book (02, C-18), by their numbers and in their order: 1, 2, 3, 4, 19 or 20, 6, 7, 23, 8, 9, 16.
 use Rattle.std.specs.Prelude.{◌*◌, ◌-◌, suc, zero, ℕ, eqb, leb, ltb, length, Bool, ◌&&◌, not, true, List, [], ◌++◌, ◌∷◌}
 use Rattle.model.specs.Checks.{Check, first, must, size_checks}
-use Rattle.bytes.specs.Pieces.{joined}
+use Rattle.little_endian.specs.Pieces.{joined}
 use Rattle.book.specs.Book.{bounds_offset, rows, rows_offset, trailer_of, variables}
 use Rattle.book.specs.BookChecks.{given_length_checks, model_number_checks}
 use Rattle.sparse_layout.specs.SparseBook.{column_at, count_at, decode_sparse, is_zero, row_start, value_at}

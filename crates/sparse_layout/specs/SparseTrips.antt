@@ -2,7 +2,7 @@
 use Rattle.std.specs.Prelude.{ℕ, List, ◌≡◌}
 use Rattle.model.specs.Model.{Model}
 use Rattle.model.specs.Valid.{ValidModel}
-use Rattle.bytes.specs.Bytes.{Bytes}
+use Rattle.little_endian.specs.Bytes.{Bytes}
 use Rattle.book.specs.Book.{decode, encode}
 use Rattle.book.specs.RoundTrips.{Accepted, FirstEdition}
 use Rattle.sparse_layout.specs.SparseBook.{decode_sparse, encode_sparse}

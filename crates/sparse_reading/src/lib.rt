@@ -3,7 +3,7 @@
 #![tactic(auto)]
 
 ghost use Rattle.std.specs.Prelude.{◌≡◌, ◌+◌, ◌*◌, ◌≤◌, pos, length, replicate};
-ghost use Rattle.bytes.specs.Pieces.{joined, list_of};
+ghost use Rattle.little_endian.specs.Pieces.{joined, list_of};
 ghost use Rattle.book.specs.Book.{bounds_of};
 ghost use Rattle.model.specs.Checks.{first, number_checks};
 ghost use Rattle.sparse_layout.specs.SparseBook.{HoldsRows, count_at, dense_at, sparse_coefs_of, sparse_kinds_of};
@@ -13,8 +13,8 @@ ghost use Rattle.sparse_layout.specs.SparseChecks.{sparse_layout_checks};
 
 use book::layout::{ROWS, VARIABLES, trailer_u16};
 use book_reading::bounds_fault;
-use bytes::integers::{are_in_range, read_integers};
-use bytes::{read_i32, read_u16};
+use little_endian::integers::{are_in_range, read_integers};
+use little_endian::{read_i32, read_u16};
 use model::{MAX_COEF, MAX_RHS};
 use sparse_checks::entries::{entries_fault, row_count};
 use sparse_checks::head::head_fault;

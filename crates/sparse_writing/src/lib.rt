@@ -3,15 +3,15 @@
 
 ghost use Rattle.std.specs.Prelude.{[], ◌≡◌, ◌+◌, ◌*◌, ◌<◌, ◌≤◌, length};
 ghost use Rattle.model.specs.Limits.{max_rows, max_variables};
-ghost use Rattle.bytes.specs.Bytes.{pair_count};
-ghost use Rattle.bytes.specs.Pieces.{joined, overwrite};
+ghost use Rattle.little_endian.specs.Bytes.{pair_count};
+ghost use Rattle.little_endian.specs.Pieces.{joined, overwrite};
 ghost use Rattle.model.specs.Box.{at as nth};
 ghost use Rattle.model.specs.Model.{model_of};
 ghost use Rattle.model.specs.Rows.{row_with, rows_of};
 ghost use Rattle.sparse_layout.specs.SparseBook.{entry_bytes, entry_of, nonzeros as how_many, rows_length};
 ghost use Rattle.sparse_layout.specs.SparseBook.{sparse_length, sparse_row_bytes, sparse_row_bytes_at};
 
-use bytes::{write_i32, write_u16};
+use little_endian::{write_i32, write_u16};
 use matrix::coefficients;
 
 // How many numbers of xs are not 0.

@@ -1,6 +1,6 @@
 -- What is held of standard input once it is read.
 use Rattle.std.specs.Prelude.{ℕ, List, ◌++◌, ◌≡◌}
-use Rattle.bytes.specs.Bytes.{Bytes}
+use Rattle.little_endian.specs.Bytes.{Bytes}
 use Rattle.book.specs.Answers.{refused}
 use Rattle.intake.specs.Checks.{head_call}
 use Rattle.intake.specs.Intake.{Held}

@@ -4,7 +4,7 @@ use Prim.Native.Nat.{ℕ}
 use mathlib.Core.Path.{◌∙◌, ap, sym}
 use Rattle.model.specs.Rows.{Rows, rows_of}
 use Rattle.book.specs.Answers.{sizes_answer}
-use Rattle.bytes.specs.Bytes.{integers_at}
+use Rattle.little_endian.specs.Bytes.{integers_at}
 use Rattle.allocation_input.proofs.InputLaws.{answered, read-model, read-refused}
 use borrow.Author.Rules.{rules}
 use Rattle.allocation_judging.proofs.hold_in.Statement.{statement}

@@ -9,7 +9,7 @@ use mathlib.Core.Path.{◌∙◌, ◌≡◌, ap, sym}
 use native.Mathlib.Omega.{arith}
 use Rattle.model.specs.Checks.{box_checks, first}
 use Rattle.book.specs.Book.{bounds_of}
-use Rattle.bytes.specs.Bytes.{integers_at}
+use Rattle.little_endian.specs.Bytes.{integers_at}
 use Rattle.book_reading.proofs.bounds_fault.Statement.{statement}
 use Rattle.book_reading.proofs.bounds_fault.Tie as tie
 

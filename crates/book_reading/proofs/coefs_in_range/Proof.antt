@@ -12,7 +12,7 @@ use Rattle.integer.proofs.Tests.{told-false, told-true}
 use Rattle.model.specs.Checks.{in_range}
 use Rattle.model.specs.Limits.{max_coef, min_coef}
 use Rattle.book.specs.Book.{coefs_of, row_place}
-use Rattle.bytes.specs.Bytes.{integers_at}
+use Rattle.little_endian.specs.Bytes.{integers_at}
 use Rattle.book.proofs.DecodeLaws.{in_range-joined}
 use Rattle.book.proofs.EncodeLaws.{row_within}
 use Rattle.book_reading.proofs.coefs_in_range.Statement.{statement}

@@ -11,7 +11,7 @@ use Rattle.model.specs.Checks.{Check, box_checks, first, in_range, number_checks
 use Rattle.model.specs.Limits.{max_coef, min_coef}
 use Rattle.model.proofs.CheckLaws.{ends, fails, goes, past, stops}
 use Rattle.book.specs.Book.{bounds_of, coefs_of, rhs_of, row_place}
-use Rattle.bytes.specs.Bytes.{integers_at}
+use Rattle.little_endian.specs.Bytes.{integers_at}
 use Rattle.book.proofs.DecodeLaws.{bits-kinds_of}
 use Rattle.book.proofs.EncodeLaws.{row_within}
 use Rattle.book_reading.proofs.number_fault.Statement.{statement}

@@ -10,7 +10,7 @@ use Rattle.model.specs.Rows.{Rows, rows_of}
 use Rattle.model.proofs.CheckLaws.{LengthsFit}
 use Rattle.book.specs.Answers.{bounds_read, coefs_read, kinds_read, read_call, read_fault, rhs_read, sizes_answer, sizes_are}
 use Rattle.book.specs.Book.{HoldsModel, bounds_of, coefs_of, decode, kinds_of, model_in, rhs_of, row_place}
-use Rattle.bytes.specs.Bytes.{Bytes, integers_at}
+use Rattle.little_endian.specs.Bytes.{Bytes, integers_at}
 use Rattle.book.proofs.AcceptLaws.{Head, head-holds, read-passed}
 use Rattle.book.proofs.AnswerLaws.{accepted-by, becomes, refused-by, stays}
 use Rattle.book.proofs.EncodeLaws.{row_within}

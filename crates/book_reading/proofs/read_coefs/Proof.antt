@@ -8,12 +8,12 @@ use mathlib.Core.List.{List}
 use mathlib.Core.Path.{◌∙◌, ◌≡◌, ap₂, refl}
 use native.Mathlib.Omega.{arith}
 use Rattle.book.specs.Book.{coefs_of, row_place}
-use Rattle.bytes.specs.Bytes.{integers_at}
-use Rattle.bytes.specs.Pieces.{joined, overwrite, part}
-use Rattle.bytes.proofs.ByteLaws.{length-integers_at}
+use Rattle.little_endian.specs.Bytes.{integers_at}
+use Rattle.little_endian.specs.Pieces.{joined, overwrite, part}
+use Rattle.little_endian.proofs.ByteLaws.{length-integers_at}
 use Rattle.book.proofs.DecodeLaws.{length-coefs_of}
 use Rattle.book.proofs.EncodeLaws.{row_within}
-use Rattle.bytes.proofs.PieceLaws.{length-joined, length_part, overwrite-all, overwrite-part, overwrite-start, overwrite-turn, piece-within}
+use Rattle.little_endian.proofs.PieceLaws.{length-joined, length_part, overwrite-all, overwrite-part, overwrite-start, overwrite-turn, piece-within}
 use Rattle.book_reading.proofs.read_coefs.Statement.{statement}
 use Rattle.book_reading.proofs.read_coefs.Tie as tie
 

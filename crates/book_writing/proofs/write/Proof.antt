@@ -12,12 +12,12 @@ use Rattle.model.specs.Rows.{rows_of}
 use Rattle.model.specs.Valid.{ValidModel}
 use Rattle.book.specs.Answers.{book_written, write_answer, write_call, write_fault, written}
 use Rattle.book.specs.Book.{book_length, bound_bytes, encode, row_bytes, row_bytes_at, trailer_bytes}
-use Rattle.bytes.specs.Bytes.{integer_bytes, integers_bytes}
-use Rattle.bytes.specs.Pieces.{joined, overwrite}
+use Rattle.little_endian.specs.Bytes.{integer_bytes, integers_bytes}
+use Rattle.little_endian.specs.Pieces.{joined, overwrite}
 use Rattle.book.proofs.AcceptLaws.{write-passed}
 use Rattle.book.proofs.AnswerLaws.{accepted-by, becomes, refused-by, stays}
 use Rattle.book.proofs.EncodeLaws.{book-assembled, length-below, length-trailer_bytes}
-use Rattle.bytes.proofs.PieceLaws.{length_part, overwrite-part}
+use Rattle.little_endian.proofs.PieceLaws.{length_part, overwrite-part}
 use Rattle.book.proofs.RoundTripLaws.{writes-back}
 use Rattle.book_writing.proofs.write.Statement.{statement}
 use Rattle.book_writing.proofs.write.Tie as tie

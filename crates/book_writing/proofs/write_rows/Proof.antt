@@ -13,11 +13,11 @@ use Rattle.model.specs.Rows.{row_at, row_of, rows_of}
 use Rattle.model.proofs.RowsLaws.{at-row_of}
 use Rattle.matrix.proofs.PartLaws.{part_length}
 use Rattle.book.specs.Book.{row_bytes, row_bytes_at, row_place}
-use Rattle.bytes.specs.Bytes.{integer_bytes, integers_bytes}
-use Rattle.bytes.specs.Pieces.{joined, overwrite}
-use Rattle.bytes.proofs.ByteLaws.{integers_bytes-part, length-integer_bytes}
+use Rattle.little_endian.specs.Bytes.{integer_bytes, integers_bytes}
+use Rattle.little_endian.specs.Pieces.{joined, overwrite}
+use Rattle.little_endian.proofs.ByteLaws.{integers_bytes-part, length-integer_bytes}
 use Rattle.book.proofs.EncodeLaws.{length-row_bytes, row_within}
-use Rattle.bytes.proofs.PieceLaws.{joined-cong, length-joined, overwrite-next, overwrite-start, overwrite-turn, piece-within}
+use Rattle.little_endian.proofs.PieceLaws.{joined-cong, length-joined, overwrite-next, overwrite-start, overwrite-turn, piece-within}
 use Rattle.book_writing.proofs.write_rows.Statement.{statement}
 use Rattle.book_writing.proofs.write_rows.Tie as tie
 

@@ -2,7 +2,7 @@
 use Prim.Native.Nat.{◌*◌, ◌+◌, ℕ}
 use mathlib.Core.Path.{◌∙◌, ap}
 use native.Mathlib.Omega.{arith}
-use Rattle.bytes.specs.Bytes.{integers_at}
+use Rattle.little_endian.specs.Bytes.{integers_at}
 use Rattle.book.specs.Book.{bounds_of, rhs_of, row_place}
 use Rattle.book.proofs.EncodeLaws.{row_within}
 use borrow.Author.Rules.{rules}

@@ -4,7 +4,7 @@ use Prim.Native.Nat.{◌*◌, ◌≤◌, ℕ}
 use mathlib.Core.Path.{◌∙◌, ap, ap₂, sym}
 use native.Mathlib.Nat.{mul-le-mul}
 use native.Mathlib.Omega.{arith}
-use Rattle.bytes.specs.Bytes.{Bytes}
+use Rattle.little_endian.specs.Bytes.{Bytes}
 use Rattle.book.specs.Answers.{lent, unless, write_answer, written}
 use Rattle.book.specs.Book.{decode, model_in}
 use Rattle.book.proofs.AcceptLaws.{Head, head-holds, head-test}

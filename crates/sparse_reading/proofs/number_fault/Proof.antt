@@ -13,8 +13,8 @@ use Rattle.integer.proofs.Tests.{told-false, told-true}
 use Rattle.model.specs.Checks.{Check, bits, box_checks, first, in_range, number_checks}
 use Rattle.model.specs.Limits.{max_coef, max_rhs, min_coef, min_rhs}
 use Rattle.model.proofs.CheckLaws.{ends, fails, flag-next, goes, past, stops}
-use Rattle.bytes.specs.Bytes.{integer_at, integers_at}
-use Rattle.bytes.proofs.ByteLaws.{number_at-byte}
+use Rattle.little_endian.specs.Bytes.{integer_at, integers_at}
+use Rattle.little_endian.proofs.ByteLaws.{number_at-byte}
 use Rattle.book.specs.Book.{bounds_of}
 use Rattle.book.proofs.DecodeLaws.{in_range-joined}
 use Rattle.sparse_layout.specs.SparseBook.{count_at, kind_at, row_in, row_start, sparse_coefs_of, sparse_kinds_of, sparse_rhs_of, sparse_rows_of}

@@ -7,8 +7,8 @@ use lib.ListN.{length}
 use mathlib.Core.List.{List}
 use mathlib.Core.Path.{◌∙◌, ◌≡◌, ap₂, refl, sym}
 use native.Mathlib.Omega.{arith}
-use Rattle.bytes.specs.Pieces.{list_of, overwrite, part}
-use Rattle.bytes.proofs.PieceLaws.{length-joined, length-list_of, length_part, overwrite-all, overwrite-part, overwrite-start, overwrite-turn, piece-within}
+use Rattle.little_endian.specs.Pieces.{list_of, overwrite, part}
+use Rattle.little_endian.proofs.PieceLaws.{length-joined, length-list_of, length_part, overwrite-all, overwrite-part, overwrite-start, overwrite-turn, piece-within}
 use Rattle.model.specs.Checks.{first}
 use Rattle.sparse_layout.specs.SparseBook.{count_at, dense_at, row_in, row_start, sparse_coefs_of}
 use Rattle.sparse_layout.specs.SparseChecks.{row_entry_checks}

@@ -4,9 +4,9 @@ use lib.ListN.{get_or, length, length-set}
 use mathlib.Core.List.{List, [], ◌∷◌}
 use mathlib.Core.Path.{◌∙◌, ◌≡◌, ap, ap₂, refl, sym}
 use native.Mathlib.Omega.{arith}
-use Rattle.bytes.specs.Pieces.{overwrite}
-use Rattle.bytes.proofs.ByteLaws.{number_at-byte}
-use Rattle.bytes.proofs.PieceLaws.{length-list_of, overwrite-all, overwrite-one, overwrite-start, overwrite-turn}
+use Rattle.little_endian.specs.Pieces.{overwrite}
+use Rattle.little_endian.proofs.ByteLaws.{number_at-byte}
+use Rattle.little_endian.proofs.PieceLaws.{length-list_of, overwrite-all, overwrite-one, overwrite-start, overwrite-turn}
 use Rattle.sparse_layout.specs.SparseBook.{count_at, kind_at, row_start, sparse_kinds_of}
 use Rattle.sparse_layout.proofs.CheckingLaws.{walk_inside, walk-next}
 use Rattle.sparse_layout.proofs.SparseAcceptLaws.{length-sparse_kinds}

@@ -2,7 +2,7 @@
 use Prim.Native.Nat.{ℕ}
 use mathlib.Core.Path.{◌∙◌, ap}
 use native.Mathlib.Omega.{arith}
-use Rattle.bytes.specs.Bytes.{integers_at}
+use Rattle.little_endian.specs.Bytes.{integers_at}
 use Rattle.book.specs.Book.{bounds_of}
 use Rattle.sparse_layout.specs.SparseBook.{sparse_kinds_of, sparse_rhs_of}
 use Rattle.sparse_layout.proofs.SparseTripLaws.{start-within}

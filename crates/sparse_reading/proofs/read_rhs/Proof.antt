@@ -8,9 +8,9 @@ use mir.Facts.{to_z-of_z}
 use mir.Syntax.{w32}
 use mir.Val.{SFits}
 use native.Mathlib.Omega.{arith}
-use Rattle.bytes.specs.Bytes.{integer_at}
-use Rattle.bytes.specs.Pieces.{overwrite}
-use Rattle.bytes.proofs.PieceLaws.{length-list_of, overwrite-all, overwrite-one, overwrite-start, overwrite-turn}
+use Rattle.little_endian.specs.Bytes.{integer_at}
+use Rattle.little_endian.specs.Pieces.{overwrite}
+use Rattle.little_endian.proofs.PieceLaws.{length-list_of, overwrite-all, overwrite-one, overwrite-start, overwrite-turn}
 use Rattle.sparse_layout.specs.SparseBook.{count_at, row_start, sparse_rhs_of}
 use Rattle.sparse_layout.proofs.CheckingLaws.{walk_inside, walk-next}
 use Rattle.sparse_layout.proofs.SparseAcceptLaws.{length-sparse_rhs}

@@ -4,7 +4,7 @@ use lib.IntN.{pos}
 use lib.ListN.{replicate}
 use mathlib.Core.Path.{◌∙◌, ap, ap₂, sym}
 use native.Mathlib.Omega.{arith}
-use Rattle.bytes.specs.Pieces.{joined, list_of}
+use Rattle.little_endian.specs.Pieces.{joined, list_of}
 use Rattle.model.specs.Checks.{first}
 use Rattle.sparse_layout.specs.SparseBook.{dense_at}
 use Rattle.sparse_layout.specs.SparseChecks.{entry_checks, row_entry_checks}

@@ -6,7 +6,7 @@ use mir.Facts.{to_z-of_z}
 use mir.Syntax.{w32}
 use mir.Val.{SFits, of_z, to_z}
 use native.Mathlib.Omega.{arith}
-use Rattle.bytes.specs.Pieces.{list_of}
+use Rattle.little_endian.specs.Pieces.{list_of}
 use Rattle.sparse_layout.specs.SparseBook.{column_at, dense_at, value_at}
 use Rattle.sparse_layout.proofs.CheckingLaws.{entry_value}
 use Rattle.sparse_layout.proofs.SparseAcceptLaws.{entries-test}

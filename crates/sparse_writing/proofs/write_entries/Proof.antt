@@ -6,8 +6,8 @@ use mir.Facts.{to_z-of_z}
 use mir.Syntax.{w32}
 use mir.Val.{SFits, of_z, to_z}
 use native.Mathlib.Omega.{arith}
-use Rattle.bytes.specs.Pieces.{joined, overwrite}
-use Rattle.bytes.proofs.PieceLaws.{joined-more, overwrite-start, overwrite-turn}
+use Rattle.little_endian.specs.Pieces.{joined, overwrite}
+use Rattle.little_endian.proofs.PieceLaws.{joined-more, overwrite-start, overwrite-turn}
 use Rattle.model.specs.Box.{at}
 use Rattle.sparse_layout.specs.SparseBook.{entry_bytes, entry_of}
 use Rattle.sparse_layout.proofs.RowLaws.{length-entries}

@@ -9,10 +9,10 @@ use mir.Facts.{to_z-of_z}
 use mir.Syntax.{w32}
 use mir.Val.{of_z, to_z}
 use native.Mathlib.Omega.{arith}
-use Rattle.bytes.specs.Bytes.{bytes_of, integer_bytes}
-use Rattle.bytes.specs.Pieces.{overwrite}
-use Rattle.bytes.proofs.ByteLaws.{length-bytes_of, length-integer_bytes}
-use Rattle.bytes.proofs.PieceLaws.{overwrite-next, overwrite-none}
+use Rattle.little_endian.specs.Bytes.{bytes_of, integer_bytes}
+use Rattle.little_endian.specs.Pieces.{overwrite}
+use Rattle.little_endian.proofs.ByteLaws.{length-bytes_of, length-integer_bytes}
+use Rattle.little_endian.proofs.PieceLaws.{overwrite-next, overwrite-none}
 use Rattle.sparse_layout.specs.SparseBook.{entry_of}
 use Rattle.sparse_layout.proofs.WritingLaws.{an-entry, entry_length, no-entry}
 use borrow.Author.Rules.{rules}

@@ -5,8 +5,8 @@ use lib.ListN.{length, length-set, set}
 use mathlib.Core.Path.{◌∙◌, ap}
 use mir.Facts.{to_z-of_z}
 use native.Mathlib.Omega.{arith}
-use Rattle.bytes.specs.Bytes.{bytes_of, integer_bytes}
-use Rattle.bytes.specs.Pieces.{overwrite}
+use Rattle.little_endian.specs.Bytes.{bytes_of, integer_bytes}
+use Rattle.little_endian.specs.Pieces.{overwrite}
 use Rattle.model.specs.Box.{at}
 use Rattle.model.specs.Rows.{row_with}
 use Rattle.sparse_layout.proofs.RowLaws.{nonzeros-le}

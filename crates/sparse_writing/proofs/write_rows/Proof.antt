@@ -7,8 +7,8 @@ use mir.Facts.{to_z-of_z}
 use mir.Syntax.{w32}
 use mir.Val.{SFits, of_z, to_z}
 use native.Mathlib.Omega.{arith}
-use Rattle.bytes.specs.Pieces.{joined, overwrite}
-use Rattle.bytes.proofs.PieceLaws.{overwrite-start, overwrite-turn, piece-within}
+use Rattle.little_endian.specs.Pieces.{joined, overwrite}
+use Rattle.little_endian.proofs.PieceLaws.{overwrite-start, overwrite-turn, piece-within}
 use Rattle.model.specs.Box.{at}
 use Rattle.model.specs.Rows.{row_at, row_of, row_with, rows_of}
 use Rattle.matrix.proofs.PartLaws.{part_length}

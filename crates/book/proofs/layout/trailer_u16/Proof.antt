@@ -3,7 +3,7 @@ use Prim.Native.Nat.{ℕ}
 use borrow.Author.Rules.{rules}
 use mathlib.Core.List.{List}
 use mathlib.Core.Path.{◌∙◌, ap}
-use Rattle.bytes.specs.Bytes.{number_at}
+use Rattle.little_endian.specs.Bytes.{number_at}
 use Rattle.book.proofs.EncodeLaws.{trailer-part}
 use Rattle.book.proofs.layout.trailer_u16.Statement.{statement}
 use Rattle.book.proofs.layout.trailer_u16.Tie as tie

@@ -3,8 +3,8 @@
 use Prim.Native.Nat.{◌*◌}
 use borrow.Author.Rules.{rules}
 use mathlib.Core.Path.{◌∙◌, ap}
-use Rattle.bytes.specs.Bytes.{bytes_of}
-use Rattle.bytes.specs.Pieces.{overwrite}
+use Rattle.little_endian.specs.Bytes.{bytes_of}
+use Rattle.little_endian.specs.Pieces.{overwrite}
 use Rattle.book.proofs.EncodeLaws.{trailer-written}
 use Rattle.book.proofs.layout.write_trailer.Statement.{statement}
 use Rattle.book.proofs.layout.write_trailer.Tie as tie

@@ -1,7 +1,7 @@
 -- `intake::checking::length_given`: four bytes, the lowest first. Assumes nothing.
 use borrow.Author.Rules.{rules}
 use native.Mathlib.Omega.{arith}
-use Rattle.bytes.proofs.ByteLaws.{number_at-add, number_at-byte}
+use Rattle.little_endian.proofs.ByteLaws.{number_at-add, number_at-byte}
 use Rattle.intake.proofs.checking.length_given.Statement.{statement}
 use Rattle.intake.proofs.checking.length_given.Tie as tie
 

@@ -7,7 +7,7 @@ use Rattle.model.specs.Checks.{first}
 use Rattle.model.specs.Model.{model_of}
 use Rattle.model.specs.Rows.{Rows, rows_of}
 use Rattle.model.proofs.CheckLaws.{LengthsFit}
-use Rattle.bytes.specs.Bytes.{Bytes}
+use Rattle.little_endian.specs.Bytes.{Bytes}
 use Rattle.book.specs.Answers.{sizes_answer, sizes_are}
 use Rattle.book.proofs.AnswerLaws.{accepted-by, becomes, refused-by, stays}
 use Rattle.book.specs.Book.{bounds_of}

@@ -13,13 +13,13 @@ use Rattle.model.specs.Valid.{ValidModel}
 use Rattle.book.specs.Answers.{write_answer, written}
 use Rattle.book.specs.Book.{bound_bytes, trailer_bytes}
 use Rattle.sparse_layout.specs.SparseBook.{encode_sparse, sparse_length, sparse_row_bytes, sparse_row_bytes_at}
-use Rattle.bytes.specs.Bytes.{integer_bytes, integers_bytes}
-use Rattle.bytes.specs.Pieces.{joined, overwrite}
+use Rattle.little_endian.specs.Bytes.{integer_bytes, integers_bytes}
+use Rattle.little_endian.specs.Pieces.{joined, overwrite}
 use Rattle.sparse_calls.specs.SparseCalls.{sparse_write_call, sparse_write_fault, sparse_written}
 use Rattle.book.proofs.AnswerLaws.{accepted-by, becomes, refused-by, stays}
 use Rattle.book.proofs.EncodeLaws.{length-trailer_bytes}
 use Rattle.sparse_layout.proofs.SparseEncodeLaws.{sparse-assembled, sparse_length-below}
-use Rattle.bytes.proofs.PieceLaws.{length_part, overwrite-part}
+use Rattle.little_endian.proofs.PieceLaws.{length_part, overwrite-part}
 use Rattle.sparse_calls.proofs.SparseCallLaws.{sparse-write-passed, sparse-writes-back}
 use Rattle.sparse.proofs.writing.write.Statement.{statement}
 use Rattle.sparse.proofs.writing.write.Tie as tie

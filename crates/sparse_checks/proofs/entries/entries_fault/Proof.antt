@@ -4,7 +4,7 @@ use Prim.Native.Nat.{◌*◌, ◌+◌, ◌-◌, ◌≤◌}
 use lib.ListN.{length}
 use mathlib.Core.Path.{◌∙◌, ◌≡◌, refl, sym}
 use native.Mathlib.Omega.{arith}
-use Rattle.bytes.specs.Pieces.{joined}
+use Rattle.little_endian.specs.Pieces.{joined}
 use Rattle.model.specs.Checks.{first}
 use Rattle.sparse_layout.specs.SparseBook.{count_at, row_start}
 use Rattle.sparse_layout.specs.SparseChecks.{all_entry_checks, row_entry_checks}

@@ -3,7 +3,7 @@
 use Prim.Native.Nat.{◌-◌, ◌≤◌}
 use mathlib.Core.Path.{◌∙◌, ◌≡◌, refl, sym}
 use native.Mathlib.Omega.{arith}
-use Rattle.bytes.specs.Pieces.{joined}
+use Rattle.little_endian.specs.Pieces.{joined}
 use Rattle.model.specs.Checks.{first}
 use Rattle.sparse_layout.specs.SparseChecks.{entry_checks}
 use Rattle.sparse_layout.proofs.CheckingLaws.{first-at, first_on}

@@ -10,7 +10,7 @@ use native.Mathlib.Omega.{arith}
 use Rattle.integer.proofs.Tests.{told-false, told-true}
 use Rattle.model.specs.Checks.{Check, first, must, size_checks}
 use Rattle.model.proofs.CheckLaws.{ends, fails, goes, past, stops}
-use Rattle.bytes.specs.Bytes.{Bytes}
+use Rattle.little_endian.specs.Bytes.{Bytes}
 use Rattle.book.specs.Book.{rows, trailer_of, variables}
 use Rattle.book.specs.BookChecks.{given_length_checks}
 use Rattle.book.proofs.EncodeLaws.{trailer-part}
