@@ -11,7 +11,7 @@ ghost use Rattle.allocation_input.specs.Input.{proposal_checks, whole_end};
 use book::layout::{VARIABLES, head_fault, trailer_u16};
 use little_endian::read_u32;
 
-#[derive(Drop)]
+#[derive(Clone, Copy)]
 pub enum Answer {
     // By the number of the first check that fails.
     Refused(u32),

@@ -17,7 +17,7 @@ pub const VARIABLES: usize = 8;
 
 pub const ROWS: usize = 10;
 
-#[derive(Drop)]
+#[derive(Clone, Copy)]
 pub enum SizesAnswer {
     // By the number of the first check that fails.
     Refused(u32),

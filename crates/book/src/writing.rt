@@ -1,6 +1,6 @@
 // What writing a book answers.
 
-#[derive(Drop)]
+#[derive(Clone, Copy)]
 pub enum WriteAnswer {
     // By the number of the first check that fails.
     Refused(u32),

@@ -15,7 +15,7 @@ pub mod checks;
 
 // A call by value: the four numbers of a call record (01: "kind, 1 visit, 2 settle, 3 probe, 4 sharpen, 5 drop; row;
 // variable; budget"). A field that the kind lacks is not looked at.
-#[derive(Drop)]
+#[derive(Clone, Copy)]
 pub struct Call {
     pub kind: u32,
     pub row: u32,
@@ -35,7 +35,7 @@ pub const TIGHTEN_COEFFICIENT: u32 = 4;
 pub const REMOVE_ROW: u32 = 5;
 
 // How a call counts: 01's refused, with the number of the check, None, changed (a bound, row or table byte), unchanged.
-#[derive(Drop)]
+#[derive(Clone, Copy)]
 pub enum CallClass {
     Refused(u32),
     Infeasible,
@@ -90,7 +90,7 @@ pub fn class_of_propagation(p: Propagation) -> CallClass
 }
 
 // The four counts of a call list; their sum is the number of its records.
-#[derive(Drop)]
+#[derive(Clone, Copy)]
 pub struct Counts {
     pub refused: usize,
     pub infeasible: usize,

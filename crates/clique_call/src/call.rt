@@ -9,7 +9,7 @@ use crate::listing::write_cliques;
 use buffer_checks::{is_bits, is_product};
 use model_checks::size_fault;
 
-#[derive(Drop)]
+#[derive(Clone, Copy)]
 pub enum CliquesAnswer {
     // By the number of the first check that fails.
     Refused(u32),

@@ -11,7 +11,7 @@ ghost use Rattle.row.specs.Redundancy.{zero_row};
 ghost use Rattle.clique_grow.specs.Candidates.{LentTable, all_ones, kept_to, still as still_of};
 
 // How many literals a clique has, and how many of them mean their variable at 0.
-#[derive(Drop)]
+#[derive(Clone, Copy)]
 pub struct Grown {
     pub size: usize,
     pub zeros: usize,

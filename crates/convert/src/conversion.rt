@@ -17,7 +17,7 @@ use sparse_reading::{layout_fault, number_fault};
 // What the first edition refuses by this check is read as a sparse book.
 const OTHER_EDITION: u32 = 4;
 
-#[derive(Drop)]
+#[derive(Clone, Copy)]
 pub enum Answer {
     // By the number of the first check that fails.
     Refused(u32),

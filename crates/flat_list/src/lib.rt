@@ -19,7 +19,7 @@ use records::run_records;
 mod records;
 
 // 01's answer of a run sheet: refused N as a whole, or the four counts.
-#[derive(Drop)]
+#[derive(Clone, Copy)]
 pub enum RunAnswer {
     Refused(u32),
     Ran(Counts),

@@ -12,14 +12,14 @@ use model_checks::{box_fault, size_fault};
 // The bytes of a page: 60 lines of 80 columns and a line feed each.
 pub const PAGE: usize = 4_860;
 
-#[derive(Drop)]
+#[derive(Clone, Copy)]
 pub enum CountAnswer {
     // By the number of the first check that fails.
     Refused(u32),
     Pages(usize),
 }
 
-#[derive(Drop)]
+#[derive(Clone, Copy)]
 pub enum PagesAnswer {
     // By the number of the first check that fails.
     Refused(u32),

@@ -9,7 +9,7 @@ pub mod bounds;
 pub use bounds::width;
 
 // n and m, and in elements the length of each buffer that they fix; `book` is that of a first-edition book.
-#[derive(Drop)]
+#[derive(Clone, Copy)]
 pub struct BufferLengths {
     pub n: usize,
     pub m: usize,
@@ -24,21 +24,21 @@ pub struct BufferLengths {
     pub book: usize,
 }
 
-#[derive(Drop)]
+#[derive(Clone, Copy)]
 pub enum LengthsAnswer {
     // By the number of the first check that fails.
     Refused(u32),
     Needed(BufferLengths),
 }
 
-#[derive(Drop)]
+#[derive(Clone, Copy)]
 pub enum WidthAnswer {
     // By the number of the first check that fails.
     Refused(u32),
     Told { width: u32, budget: u32 },
 }
 
-#[derive(Drop)]
+#[derive(Clone, Copy)]
 pub enum PassesAnswer {
     // By the number of the first check that fails.
     Refused(u32),

@@ -23,7 +23,7 @@ use prepared_checks::propagate_fault;
 
 // 01's settle: refused N, None, Settled, Spent, with the passes made and the number of bounds moved; None with the row
 // that was infeasible, `NO_ROW` where the lent box was empty.
-#[derive(Drop)]
+#[derive(Clone, Copy)]
 pub enum PreparedPropagation {
     Refused(u32),
     Infeasible(u32, u32, u32),

@@ -27,7 +27,7 @@ use probe_call::probe_answer;
 use reducer::calls::ProbeAnswer;
 
 // The answer of any probe, and of each side the row that was infeasible, `NO_ROW` where none was.
-#[derive(Drop)]
+#[derive(Clone, Copy)]
 pub struct PreparedProbe {
     pub answer: ProbeAnswer,
     pub row0: u32,

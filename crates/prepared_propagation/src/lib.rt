@@ -22,7 +22,7 @@ use crate::search::last_look;
 use propagation::Propagation;
 
 // How the passes ended, and the row that was infeasible, NO_ROW where none was.
-#[derive(Drop)]
+#[derive(Clone, Copy)]
 pub struct PreparedEnd {
     pub end: Propagation,
     pub row: u32,

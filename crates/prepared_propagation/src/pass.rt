@@ -12,7 +12,7 @@ use row::propagation::RowPropagation;
 use row_set::next_row;
 
 // Whether a row was infeasible, which ended the pass, the number of bounds moved, and that row.
-#[derive(Drop)]
+#[derive(Clone, Copy)]
 pub struct PassEnd {
     pub ended: bool,
     pub moved: u32,

@@ -27,7 +27,7 @@ use row_set::SET_WORDS;
 use two_sides::{Probing, join};
 
 // What the two sides come to, and of each the row that was infeasible, `NO_ROW` where none was.
-#[derive(Drop)]
+#[derive(Clone, Copy)]
 pub struct ProbedSides {
     pub probing: Probing,
     pub row0: u32,

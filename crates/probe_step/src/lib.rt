@@ -21,7 +21,7 @@ use probing::probe_marked;
 use two_sides::{Probing, Side};
 
 // What an accepted probe came to: its class, and whether the budget of a side was spent.
-#[derive(Drop)]
+#[derive(Clone, Copy)]
 pub struct ProbeStep {
     pub class: CallClass,
     pub spent: bool,

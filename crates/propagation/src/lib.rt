@@ -10,7 +10,7 @@ ghost use Rattle.std.specs.Prelude.{◌≡◌, ◌+◌, ◌<◌, ◌^◌};
 pub const MAX_BUDGET: u32 = 8_388_481;
 
 // 01's None, Settled and Spent, each with the passes made and the number of bounds moved.
-#[derive(Drop)]
+#[derive(Clone, Copy)]
 pub enum Propagation {
     Infeasible(u32, u32),
     Converged(u32, u32),
@@ -18,7 +18,7 @@ pub enum Propagation {
 }
 
 // The bounds that the rows of a propagation have moved so far, by value (02: "carries that sum for each side").
-#[derive(Drop)]
+#[derive(Clone, Copy)]
 pub struct Tally {
     pub moved: u32,
 }

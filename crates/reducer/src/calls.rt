@@ -18,7 +18,7 @@ use row::propagation::RowPropagation;
 use two_sides::Side;
 
 // 01's visit: refused N, None, Narrowed with the number of bounds moved, Same.
-#[derive(Drop)]
+#[derive(Clone, Copy)]
 pub enum PropagateRowAnswer {
     Refused(u32),
     Infeasible,
@@ -27,7 +27,7 @@ pub enum PropagateRowAnswer {
 }
 
 // 01's settle: refused N, None, Settled, Spent, with the passes made and the number of bounds moved.
-#[derive(Drop)]
+#[derive(Clone, Copy)]
 pub enum PropagateAnswer {
     Refused(u32),
     Infeasible(u32, u32),
@@ -37,7 +37,7 @@ pub enum PropagateAnswer {
 
 // 01's probe: refused N, None, Fixed with the surviving value, Both with the number of new table bytes; with the
 // reports of the sides at 0 and at 1.
-#[derive(Drop)]
+#[derive(Clone, Copy)]
 pub enum ProbeAnswer {
     Refused(u32),
     Infeasible(Side, Side),
@@ -46,7 +46,7 @@ pub enum ProbeAnswer {
 }
 
 // 01's sharpen: refused N, None, Sharpened, Same.
-#[derive(Drop)]
+#[derive(Clone, Copy)]
 pub enum TightenAnswer {
     Refused(u32),
     Infeasible,
@@ -55,7 +55,7 @@ pub enum TightenAnswer {
 }
 
 // 01's drop: refused N, None, Dropped, Same.
-#[derive(Drop)]
+#[derive(Clone, Copy)]
 pub enum RemoveAnswer {
     Refused(u32),
     Infeasible,
@@ -65,7 +65,7 @@ pub enum RemoveAnswer {
 
 // 01's rest call: refused N, yes, no. A no carries what was found: the lowest row whose propagation changes the box
 // or, if none does, the lowest free variable whose sides do not span it.
-#[derive(Drop)]
+#[derive(Clone, Copy)]
 pub enum RestAnswer {
     Refused(u32),
     Yes,

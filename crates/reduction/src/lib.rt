@@ -18,13 +18,13 @@ use book_reading::read;
 use rounds::RoundsAnswer;
 
 // What is printed of the model that is left: 01's report, or (02, C-23) its pages.
-#[derive(Drop)]
+#[derive(Clone, Copy)]
 pub enum Form {
     Report,
     Paper,
 }
 
-#[derive(Drop)]
+#[derive(Clone, Copy)]
 pub enum Answer {
     // By the number of the first check that fails.
     Refused(u32),

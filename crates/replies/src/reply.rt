@@ -10,7 +10,7 @@ pub const ANSWER: usize = 12;
 
 // The number of the failed check; or the first four numbers of the answer; or a probe's case, its value or new bytes,
 // and its sides. The other places are 0.
-#[derive(Drop)]
+#[derive(Clone, Copy)]
 pub enum Reply {
     Refused(u32),
     Numbers(u64, u64, u64, u64),

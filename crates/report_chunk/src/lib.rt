@@ -18,7 +18,7 @@ use report_line::{write_implication, write_reduced, write_row, write_variable};
 pub const MAX_LINE: usize = 1_562;
 
 // The lines up to `next` are written, the last of them up to byte `end` of the buffer.
-#[derive(Drop)]
+#[derive(Clone, Copy)]
 pub struct Chunk {
     pub next: usize,
     pub end: usize,

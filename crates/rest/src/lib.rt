@@ -22,7 +22,7 @@ use propagation::{MAX_BUDGET, Propagation};
 
 // 01's yes, and its no with what the search found: the lowest row whose propagation changes the box or, if none does,
 // the lowest free variable whose sides do not span it.
-#[derive(Drop)]
+#[derive(Clone, Copy)]
 pub enum Rest {
     AtRest,
     ByRow(u32),

@@ -23,7 +23,7 @@ use row_passes::propagate;
 const PASSES: u32 = 1_000;
 
 // What calls did: whether a bound, row or table byte changed, and whether the budget of a probe's side was spent.
-#[derive(Drop)]
+#[derive(Clone, Copy)]
 pub struct Made {
     pub changed: bool,
     pub spent: bool,

@@ -4,7 +4,7 @@
 
 // How the rounds ended, with the number of rounds made and whether the budget of a probe's side was spent in the last
 // of them: refused N; at None; after a round that changed nothing; at the limit.
-#[derive(Drop)]
+#[derive(Clone, Copy)]
 pub enum RoundsAnswer {
     Refused(u32),
     Infeasible(u64, bool),

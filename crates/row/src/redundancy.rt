@@ -1,7 +1,7 @@
 // What removing a redundant row answers.
 
 // 01's None, Dropped, Same.
-#[derive(Drop)]
+#[derive(Clone, Copy)]
 pub enum RowRemoval {
     Infeasible,
     Removed,

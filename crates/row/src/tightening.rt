@@ -1,7 +1,7 @@
 // What tightening a coefficient of a row answers.
 
 // 01's None, Sharpened, Same.
-#[derive(Drop)]
+#[derive(Clone, Copy)]
 pub enum CoefficientTightening {
     Infeasible,
     Tightened,

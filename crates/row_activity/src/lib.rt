@@ -67,7 +67,7 @@ pub fn wider(widest: i64, a: i32, low: i32, high: i32) -> i64
 }
 
 // Lmin and the width of the widest term, which together say whether a row moves anything: found in one sweep.
-#[derive(Drop)]
+#[derive(Clone, Copy)]
 pub struct Reach {
     pub least: i64,
     pub widest: i64,

@@ -3,7 +3,7 @@
 // the calls are made in `sparse` and `sparse_conversion`.
 #![tactic(auto)]
 
-#[derive(Drop)]
+#[derive(Clone, Copy)]
 pub enum LengthAnswer {
     // By the number of the first check that fails.
     Refused(u32),

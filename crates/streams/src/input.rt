@@ -6,7 +6,7 @@ ghost use Rattle.streams.specs.Input.{InputHeld, ended_at};
 use intake::{is_too_long, take_in};
 use libc::{EBADF, STDIN_FILENO};
 
-#[derive(Drop)]
+#[derive(Clone, Copy)]
 pub enum Input {
     // It ended after so many bytes.
     Length(usize),

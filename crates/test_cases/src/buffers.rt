@@ -7,7 +7,7 @@
 use test_text::words::{fill, fill_bytes, first, number, second};
 
 // n and m as the calls are told them, and how much of each buffer they are lent.
-#[derive(Drop)]
+#[derive(Clone, Copy)]
 pub struct Sizes {
     pub n: usize,
     pub m: usize,

@@ -10,7 +10,7 @@ use test_points::models::{boxes, put_model};
 use test_text::parts::bytes_part_mut;
 
 // What a call said: whether the model is infeasible; and whether the number of bounds that it moved is right.
-#[derive(Drop)]
+#[derive(Clone, Copy)]
 struct Said {
     infeasible: bool,
     moved: bool,

@@ -9,7 +9,7 @@ use reducer::calls::{
 use rest_call::is_probing_fixpoint;
 
 // The answer, whichever call it is of.
-#[derive(Drop)]
+#[derive(Clone, Copy)]
 pub enum Made {
     PropagatedRow(PropagateRowAnswer),
     Propagated(PropagateAnswer),

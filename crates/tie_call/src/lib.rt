@@ -17,7 +17,7 @@ use boxes::is_free;
 use tied_row::{rows_fit, tie_rows};
 
 // Refused N, Tied, Same.
-#[derive(Drop)]
+#[derive(Clone, Copy)]
 pub enum TieAnswer {
     Refused(u32),
     Tied,

@@ -20,7 +20,7 @@ use propagation::Propagation;
 use remarking::remark_all;
 
 // A side's passes, whether its budget was spent, and the number of bounds that its rows moved.
-#[derive(Drop)]
+#[derive(Clone, Copy)]
 pub struct Side {
     pub passes: u32,
     pub spent: bool,
@@ -28,7 +28,7 @@ pub struct Side {
 }
 
 // 01's None; Fixed with the surviving side's value; Both with the number of table bytes that went from 0 to 1.
-#[derive(Drop)]
+#[derive(Clone, Copy)]
 pub enum Probing {
     Infeasible(Side, Side),
     Fixed(u32, Side, Side),

@@ -20,44 +20,44 @@ use Rattle.buffer_checks.proofs.in_range.Tie as tie
 abbrev test : List ℤ → ℤ → ℤ → ℕ → Bool
 test xs low high i = le_z low (at xs i) && le_z (at xs i) high
 
-abbrev invariant-loop : tie.invariant-loop
+abbrev invariant-loop : tie.invariant-loop-i
 invariant-loop xs low high ok₀ i₀ ok i = (i ≤ length xs) × (ok ≡ all i (test xs (to_z w32 low) (to_z w32 high)))
 
-abbrev decreases-loop : tie.decreases-loop
+abbrev decreases-loop : tie.decreases-loop-i
 decreases-loop xs low high ok₀ i₀ ok i = length xs - i
 
-loop-holds : tie.Need-loop-init invariant-loop decreases-loop
+loop-holds : tie.Need-loop-i-init invariant-loop decreases-loop
 unfolding all
 loop-holds c = (omega arith, refl)
 
-mul-x : tie.Need-overflow-mul-x invariant-loop decreases-loop
+mul-x : tie.Need-offset_bounds-xs-i invariant-loop decreases-loop
 mul-x c = omega arith
 
-shared-slice-copy-out-x : tie.Need-shared-slice-copy-out-x invariant-loop decreases-loop
+shared-slice-copy-out-x : tie.Need-bounds-xs-i invariant-loop decreases-loop
 shared-slice-copy-out-x c = omega arith
 
-add-i : tie.Need-overflow-add-i invariant-loop decreases-loop
+add-i : tie.Need-overflow_add-i invariant-loop decreases-loop
 add-i c = omega arith
 
-loop-less : tie.Need-loop-smaller invariant-loop decreases-loop
+loop-less : tie.Need-loop-i-smaller invariant-loop decreases-loop
 loop-less c = omega arith
 
-loop-again : tie.Need-loop-preserved invariant-loop decreases-loop
+loop-again : tie.Need-loop-i-preserved invariant-loop decreases-loop
 loop-again c =
     let xs = c.before.before.before.args.xs.now in
-    let at-loop = c.before.before.loop in
-    let fx : SFits w32 (at xs at-loop.i) = record { sfits = c.x.given } in
+    let at-loop = c.before.before.loop-i in
+    let fx : SFits w32 (at xs at-loop.i) = record { sfits = c.x-1.given } in
     (omega arith, rw (to_z-of_z fx) (flag-next _ at-loop.i at-loop.invariant.1))
 
 returns : tie.Need-returns invariant-loop decreases-loop
 unfolding in_range
 returns c =
     let s = c.before.before in
-    let end : c.before.loop.i ≡ length s.args.xs.now = omega arith in
-    rw (end, to_z-of_z s.ranges.low, to_z-of_z s.ranges.high) at c.before.loop.invariant.1
+    let end : c.before.loop-i.i ≡ length s.args.xs.now = omega arith in
+    rw (end, to_z-of_z s.ranges.low, to_z-of_z s.ranges.high) at c.before.loop-i.invariant.1
 
-pub in-range-spec : {M : Type 1} → statement M
-in-range-spec =
+pub in_range_spec : {M : Type 1} → statement M
+in_range_spec =
     tie.close
     (tie.spec
     invariant-loop

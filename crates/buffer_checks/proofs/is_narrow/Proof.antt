@@ -32,69 +32,69 @@ difference B e j =
     let u = r (2 * j + 1) in
     within-fits w32 {m = 65_535} tt (within! 65_535 (upper B j -ℤ lower B j) (omega (zarith, sub_parts (upper B j) (lower B j))))
 
-abbrev invariant-loop : tie.invariant-loop
+abbrev invariant-loop : tie.invariant-loop-j
 invariant-loop bounds half ok₀ j₀ ok j = (j ≤ length bounds / 2) × (ok ≡ all j (test bounds))
 
-abbrev decreases-loop : tie.decreases-loop
+abbrev decreases-loop : tie.decreases-loop-j
 decreases-loop bounds half ok₀ j₀ ok j = length bounds / 2 - j
 
-loop-holds : tie.Need-loop-init invariant-loop decreases-loop
+loop-holds : tie.Need-loop-j-init invariant-loop decreases-loop
 unfolding all
 loop-holds c = (omega arith, refl)
 
-mul_ok : tie.Need-overflow-mul-ok invariant-loop decreases-loop
+mul_ok : tie.Need-overflow_mul-ok invariant-loop decreases-loop
 mul_ok c = omega arith
 
-add_ok : tie.Need-overflow-add-ok invariant-loop decreases-loop
+add_ok : tie.Need-overflow_add-ok invariant-loop decreases-loop
 add_ok c = omega arith
 
-mul-ok-2 : tie.Need-overflow-mul-ok-2 invariant-loop decreases-loop
+mul-ok-2 : tie.Need-offset_bounds-bounds-j invariant-loop decreases-loop
 mul-ok-2 c = omega arith
 
-shared-slice-copy-out-ok : tie.Need-shared-slice-copy-out-ok invariant-loop decreases-loop
+shared-slice-copy-out-ok : tie.Need-bounds-bounds-j invariant-loop decreases-loop
 shared-slice-copy-out-ok c = omega arith
 
-mul-ok-3 : tie.Need-overflow-mul-ok-3 invariant-loop decreases-loop
+mul-ok-3 : tie.Need-overflow_mul-ok-in-loop-j invariant-loop decreases-loop
 mul-ok-3 c = omega arith
 
-mul-ok-4 : tie.Need-overflow-mul-ok-4 invariant-loop decreases-loop
+mul-ok-4 : tie.Need-offset_bounds-bounds-j-in-loop-j invariant-loop decreases-loop
 mul-ok-4 c = omega arith
 
-shared-slice-copy-out-ok-2 : tie.Need-shared-slice-copy-out-ok-2 invariant-loop decreases-loop
+shared-slice-copy-out-ok-2 : tie.Need-bounds-bounds-j-in-loop-j invariant-loop decreases-loop
 shared-slice-copy-out-ok-2 c = omega arith
 
-sub-ok : tie.Need-overflow-sub-ok invariant-loop decreases-loop
+sub-ok : tie.Need-overflow_sub-ok invariant-loop decreases-loop
 sub-ok c =
     let s = c.before.before.before.before in
     let B = s.args.bounds.now in
-    let j = c.before.before.before.loop.j in
-    let fu : SFits w32 (upper B j) = record { sfits = c.before.ok.given } in
-    let fl : SFits w32 (lower B j) = record { sfits = c.ok2.given } in
+    let j = c.before.before.before.loop-j.j in
+    let fu : SFits w32 (upper B j) = record { sfits = c.before.ok-1.given } in
+    let fl : SFits w32 (lower B j) = record { sfits = c.ok-in-loop-j-1.given } in
     rw (to_z-of_z fu, to_z-of_z fl) (difference B s.requires j)
 
-add-j : tie.Need-overflow-add-j invariant-loop decreases-loop
+add-j : tie.Need-overflow_add-j invariant-loop decreases-loop
 add-j c = omega arith
 
-loop-less : tie.Need-loop-smaller invariant-loop decreases-loop
+loop-less : tie.Need-loop-j-smaller invariant-loop decreases-loop
 loop-less c = omega arith
 
-loop-again : tie.Need-loop-preserved invariant-loop decreases-loop
+loop-again : tie.Need-loop-j-preserved invariant-loop decreases-loop
 loop-again c =
     let s = c.before.before.before.before in
     let B = s.args.bounds.now in
-    let at-loop = c.before.before.before.loop in
-    let fu : SFits w32 (upper B at-loop.j) = record { sfits = c.before.ok.given } in
-    let fl : SFits w32 (lower B at-loop.j) = record { sfits = c.ok2.given } in
+    let at-loop = c.before.before.before.loop-j in
+    let fu : SFits w32 (upper B at-loop.j) = record { sfits = c.before.ok-1.given } in
+    let fl : SFits w32 (lower B at-loop.j) = record { sfits = c.ok-in-loop-j-1.given } in
     (omega arith, rw (to_z-of_z fu, to_z-of_z fl, to_z-of_z (difference B s.requires at-loop.j)) (flag-next _ at-loop.j at-loop.invariant.1))
 
 returns : tie.Need-returns invariant-loop decreases-loop
 unfolding narrow
 returns c =
-    let end : c.before.loop.j ≡ length c.before.before.args.bounds.now / 2 = omega arith in
-    rw end at c.before.loop.invariant.1
+    let end : c.before.loop-j.j ≡ length c.before.before.args.bounds.now / 2 = omega arith in
+    rw end at c.before.loop-j.invariant.1
 
-pub is-narrow-spec : {M : Type 1} → statement M
-is-narrow-spec =
+pub is_narrow_spec : {M : Type 1} → statement M
+is_narrow_spec =
     tie.close
     (tie.spec
     invariant-loop

@@ -9,10 +9,10 @@ use Rattle.integer.proofs.Tests.{bool-ext, eqb-test}
 use Rattle.buffer_checks.proofs.is_table_length.Statement.{statement}
 use Rattle.buffer_checks.proofs.is_table_length.Tie as tie
 
-returns : tie.Need-returns
+returns : tie.Need-returns-then-len-ne0
 returns c = let a = c.before.args in sym (ne_eqb a.len (4 * (a.n * a.n)) (λ h. omega arith))
 
-is-product-requires : tie.Need-is-product-requires
+is-product-requires : tie.Need-is_product-requires
 is-product-requires c κs = search rules
 
 quarter : (len k : ℕ) → len % 4 ≡ 0 → eqb (len / 4) k ≡ eqb len (4 * k)
@@ -21,10 +21,10 @@ quarter len k e =
     (λ t. (eqb-test len (4 * k)).1 (let q = (eqb-test (len / 4) k).0 t in omega arith))
     (λ t. (eqb-test (len / 4) k).1 (let q = (eqb-test len (4 * k)).0 t in omega arith))
 
-returns-2 : tie.Need-returns-2
+returns-2 : tie.Need-returns
 returns-2 c =
     let a = c.before.before.args in
-    c.is-product.ensures ∙ quarter a.len (a.n * a.n) c.before.if1.false
+    c.is_product.ensures ∙ quarter a.len (a.n * a.n) c.before.if-len-ne0.false
 
-pub is-table-length-spec : {M : Type 1} → statement M
-is-table-length-spec = tie.close (tie.spec returns is-product-requires returns-2)
+pub is_table_length_spec : {M : Type 1} → statement M
+is_table_length_spec = tie.close (tie.spec returns is-product-requires returns-2)

@@ -15,69 +15,69 @@ use Rattle.row_index.proofs.IndexLoops.{line-end}
 use Rattle.row_index.proofs.fill_signs.Statement.{statement}
 use Rattle.row_index.proofs.fill_signs.Tie as tie
 
-abbrev invariant-loop : tie.invariant-loop
+abbrev invariant-loop : tie.invariant-loop-r
 invariant-loop n m coefs j start signs₀ r₀ signs r =
     (r ≤ m)
     × (length signs ≡ length signs₀)
     × ((i : ℕ) → i < r → get_or signs (start + i) 0 ≡ sign_of (at coefs (i * n + j)))
     × ((q : ℕ) → (q < start) ⊎ (start + m ≤ q) → get_or signs q 0 ≡ get_or signs₀ q 0)
 
-abbrev decreases-loop : tie.decreases-loop
+abbrev decreases-loop : tie.decreases-loop-r
 decreases-loop n m coefs j start signs₀ r₀ signs r = m - r
 
-loop-holds : tie.Need-loop-init invariant-loop decreases-loop
+loop-holds : tie.Need-loop-r-init invariant-loop decreases-loop
 loop-holds c = (omega arith, refl, below_none _, (λ q h. refl))
 
-mul-sign : tie.Need-overflow-mul-sign invariant-loop decreases-loop
-mul-sign c = let h = c.before in let s = h.before.before in omega (arith, line-end h.loop.r s.args.m s.args.n (omega arith), mul-le-mul_right s.args.n h.loop.invariant.0)
+mul-sign : tie.Need-overflow_mul-r invariant-loop decreases-loop
+mul-sign c = let h = c.before in let s = h.before.before in omega (arith, line-end h.loop-r.r s.args.m s.args.n (omega arith), mul-le-mul_right s.args.n h.loop-r.invariant.0)
 
-add-sign : tie.Need-overflow-add-sign invariant-loop decreases-loop
-add-sign c = let h = c.before in let s = h.before.before in omega (arith, line-end h.loop.r s.args.m s.args.n (omega arith), mul-le-mul_right s.args.n h.loop.invariant.0)
+add-sign : tie.Need-overflow_add-r invariant-loop decreases-loop
+add-sign c = let h = c.before in let s = h.before.before in omega (arith, line-end h.loop-r.r s.args.m s.args.n (omega arith), mul-le-mul_right s.args.n h.loop-r.invariant.0)
 
-mul-sign-2 : tie.Need-overflow-mul-sign-2 invariant-loop decreases-loop
-mul-sign-2 c = let h = c.before in let s = h.before.before in omega (arith, line-end h.loop.r s.args.m s.args.n (omega arith), mul-le-mul_right s.args.n h.loop.invariant.0)
+mul-sign-2 : tie.Need-offset_bounds-coefs-r invariant-loop decreases-loop
+mul-sign-2 c = let h = c.before in let s = h.before.before in omega (arith, line-end h.loop-r.r s.args.m s.args.n (omega arith), mul-le-mul_right s.args.n h.loop-r.invariant.0)
 
-shared-slice-copy-out-sign : tie.Need-shared-slice-copy-out-sign invariant-loop decreases-loop
-shared-slice-copy-out-sign c = let h = c.before in let s = h.before.before in omega (arith, line-end h.loop.r s.args.m s.args.n (omega arith), mul-le-mul_right s.args.n h.loop.invariant.0)
+shared-slice-copy-out-sign : tie.Need-bounds-coefs-r invariant-loop decreases-loop
+shared-slice-copy-out-sign c = let h = c.before in let s = h.before.before in omega (arith, line-end h.loop-r.r s.args.m s.args.n (omega arith), mul-le-mul_right s.args.n h.loop-r.invariant.0)
 
 sign-requires : tie.Need-sign-requires invariant-loop decreases-loop
 sign-requires c κs = tt
 
-add-signs : tie.Need-overflow-add-signs invariant-loop decreases-loop
+add-signs : tie.Need-overflow_add-signs invariant-loop decreases-loop
 add-signs c = omega arith
 
-slice-write-signs : tie.Need-slice-write-signs invariant-loop decreases-loop
+slice-write-signs : tie.Need-bounds-signs-start invariant-loop decreases-loop
 slice-write-signs c = omega arith
 
-add_r : tie.Need-overflow-add-r invariant-loop decreases-loop
+add_r : tie.Need-overflow_add-r-in-loop-r invariant-loop decreases-loop
 add_r c = omega arith
 
-loop-less : tie.Need-loop-smaller invariant-loop decreases-loop
+loop-less : tie.Need-loop-r-smaller invariant-loop decreases-loop
 loop-less c = omega arith
 
-loop-again : tie.Need-loop-preserved invariant-loop decreases-loop
+loop-again : tie.Need-loop-r-preserved invariant-loop decreases-loop
 loop-again c =
     let h = c.before.before.before in
     let s = h.before.before in
-    let S = h.loop.signs in
-    let r = h.loop.r in
+    let S = h.loop-r.signs in
+    let r = h.loop-r.r in
     let start = s.args.start in (
       omega arith,
-      simp length-set h.loop.invariant.1,
+      simp length-set h.loop-r.invariant.1,
       below_more _ r
-          (λ i k. get_or-set_other S (start + r) (start + i) _ 0 (omega arith) ∙ h.loop.invariant.2 i k)
-          (get_or-set_same S (start + r) _ 0 (omega arith) ∙ c.sign.ensures ∙ ap sign_of (to_z-of_z {w = w32} (record { sfits = c.before.sign-arg.given }))),
-      (λ q k. get_or-set_other S (start + r) q _ 0 (⊎_elim (λ l. omega arith) (λ l. omega arith) k) ∙ h.loop.invariant.3 q k),
+          (λ i k. get_or-set_other S (start + r) (start + i) _ 0 (omega arith) ∙ h.loop-r.invariant.2 i k)
+          (get_or-set_same S (start + r) _ 0 (omega arith) ∙ c.sign.ensures ∙ ap sign_of (to_z-of_z {w = w32} (record { sfits = c.before.sign-arg-1.given }))),
+      (λ q k. get_or-set_other S (start + r) q _ 0 (⊎_elim (λ l. omega arith) (λ l. omega arith) k) ∙ h.loop-r.invariant.3 q k),
     )
 
-same_length : tie.Need-same-length invariant-loop decreases-loop
+same_length : tie.Need-shape_of-signs invariant-loop decreases-loop
 same_length c = omega arith
 
 returns : tie.Need-returns invariant-loop decreases-loop
-returns c = let i = c.before.loop.invariant in ((λ r k. i.2 r (omega arith)), i.3)
+returns c = let i = c.before.loop-r.invariant in ((λ r k. i.2 r (omega arith)), i.3)
 
-pub fill-signs-spec : {M : Type 1} → statement M
-fill-signs-spec =
+pub fill_signs_spec : {M : Type 1} → statement M
+fill_signs_spec =
     tie.close
     (tie.spec
     invariant-loop

@@ -17,7 +17,7 @@ use Rattle.row_index.proofs.IndexLoops.{good_more, zeros-more, zeros-none}
 use Rattle.row_index.proofs.fill_steps.Statement.{statement}
 use Rattle.row_index.proofs.fill_steps.Tie as tie
 
-abbrev invariant-loop : tie.invariant-loop
+abbrev invariant-loop : tie.invariant-loop-j
 invariant-loop n coefs start across₀ gap₀ j₀ across gap j =
     (j ≤ n)
     × (0 < gap)
@@ -27,10 +27,10 @@ invariant-loop n coefs start across₀ gap₀ j₀ across gap j =
     × ((i : ℕ) → j ≤ i → i < n → GoodStep n coefs start across i)
     × ((q : ℕ) → (q < start) ⊎ (start + n ≤ q) → get_or across q 0 ≡ get_or across₀ q 0)
 
-abbrev decreases-loop : tie.decreases-loop
+abbrev decreases-loop : tie.decreases-loop-j
 decreases-loop n coefs start across₀ gap₀ j₀ across gap j = j
 
-loop-holds : tie.Need-loop-init invariant-loop decreases-loop
+loop-holds : tie.Need-loop-j-init invariant-loop decreases-loop
 loop-holds c = (
   omega arith,
   omega arith,
@@ -41,35 +41,35 @@ loop-holds c = (
   (λ q h. refl),
 )
 
-sub-j : tie.Need-overflow-sub-j invariant-loop decreases-loop
+sub-j : tie.Need-overflow_sub-j invariant-loop decreases-loop
 sub-j c = omega arith
 
-add-across : tie.Need-overflow-add-across invariant-loop decreases-loop
+add-across : tie.Need-overflow_add-across invariant-loop decreases-loop
 add-across c = omega arith
 
-slice-write-across : tie.Need-slice-write-across invariant-loop decreases-loop
+slice-write-across : tie.Need-bounds-across-start invariant-loop decreases-loop
 slice-write-across c = omega arith
 
-add-if1 : tie.Need-overflow-add-if1 invariant-loop decreases-loop
+add-if1 : tie.Need-overflow_add-start invariant-loop decreases-loop
 add-if1 c = omega arith
 
-mul-if1 : tie.Need-overflow-mul-if1 invariant-loop decreases-loop
+mul-if1 : tie.Need-offset_bounds-coefs-start invariant-loop decreases-loop
 mul-if1 c = omega arith
 
-shared-slice-copy-out-if1 : tie.Need-shared-slice-copy-out-if1 invariant-loop decreases-loop
+shared-slice-copy-out-if1 : tie.Need-bounds-coefs-start invariant-loop decreases-loop
 shared-slice-copy-out-if1 c = omega arith
 
-loop-less : tie.Need-loop-smaller invariant-loop decreases-loop
+loop-less : tie.Need-loop-j-smaller-then-coefs-start-ne0 invariant-loop decreases-loop
 loop-less c = omega arith
 
-loop-again : tie.Need-loop-preserved invariant-loop decreases-loop
+loop-again : tie.Need-loop-j-preserved-then-coefs-start-ne0 invariant-loop decreases-loop
 loop-again c =
     let h = c.before.before.before in
     let s = h.before in
-    let S = h.loop.across in
-    let j = h.loop.j in
-    let gap = h.loop.gap in
-    let i = h.loop.invariant in
+    let S = h.loop-j.across in
+    let j = h.loop-j.j in
+    let gap = h.loop-j.gap in
+    let i = h.loop-j.invariant in
     let t : 0 < j = omega arith in
     let room : s.args.start + s.args.n ≤ length S = omega arith in (
       omega arith,
@@ -81,40 +81,40 @@ loop-again c =
       (λ q k. get_or-set_other S (s.args.start + (j - 1)) q gap 0 (⊎_elim (λ l. omega arith) (λ l. omega arith) k) ∙ i.6 q k),
     )
 
-add-gap : tie.Need-overflow-add-gap invariant-loop decreases-loop
+add-gap : tie.Need-overflow_add-gap invariant-loop decreases-loop
 add-gap c = omega arith
 
-loop-less-2 : tie.Need-loop-smaller-2 invariant-loop decreases-loop
+loop-less-2 : tie.Need-loop-j-smaller invariant-loop decreases-loop
 loop-less-2 c = omega arith
 
-loop-again-2 : tie.Need-loop-preserved-2 invariant-loop decreases-loop
+loop-again-2 : tie.Need-loop-j-preserved invariant-loop decreases-loop
 loop-again-2 c =
     let h = c.before.before.before in
     let s = h.before in
-    let S = h.loop.across in
-    let j = h.loop.j in
-    let gap = h.loop.gap in
-    let i = h.loop.invariant in
+    let S = h.loop-j.across in
+    let j = h.loop-j.j in
+    let gap = h.loop-j.gap in
+    let i = h.loop-j.invariant in
     let t : 0 < j = omega arith in
     let room : s.args.start + s.args.n ≤ length S = omega arith in
-    let f : SFits w32 (at s.args.coefs.now (s.args.start + (j - 1))) = record { sfits = c.before.if12.given } in (
+    let f : SFits w32 (at s.args.coefs.now (s.args.start + (j - 1))) = record { sfits = c.before.t12-1.given } in (
       omega arith,
       omega arith,
       omega arith,
       simp length-set i.3,
-      zeros-more gap j t i.0 room i.1 i.2 i.4 i.5 (eq-read w32 f (sfits_lit {z = pos 0} tt) c.if1.false),
+      zeros-more gap j t i.0 room i.1 i.2 i.4 i.5 (eq-read w32 f (sfits_lit {z = pos 0} tt) c.if-coefs-start-ne0.false),
       good_more gap j t i.0 room i.1 i.2 i.4 i.5,
       (λ q k. get_or-set_other S (s.args.start + (j - 1)) q gap 0 (⊎_elim (λ l. omega arith) (λ l. omega arith) k) ∙ i.6 q k),
     )
 
-same_length : tie.Need-same-length invariant-loop decreases-loop
+same_length : tie.Need-shape_of-across invariant-loop decreases-loop
 same_length c = omega arith
 
 returns : tie.Need-returns invariant-loop decreases-loop
-returns c = let i = c.before.loop.invariant in ((λ j k. i.5 j (omega arith) k), i.6)
+returns c = let i = c.before.loop-j.invariant in ((λ j k. i.5 j (omega arith) k), i.6)
 
-pub fill-steps-spec : {M : Type 1} → statement M
-fill-steps-spec =
+pub fill_steps_spec : {M : Type 1} → statement M
+fill_steps_spec =
     tie.close
     (tie.spec
     invariant-loop

@@ -15,25 +15,25 @@ a-fits s = s.ranges.a
 
 ruleset decode = (to_z-of_z, a-fits)
 
-returns : tie.Need-returns
+returns : tie.Need-returns-then-a-gt0
 unfolding sign_of
 returns c =
-    let t : lt_z (pos 0) c.before.args.a ≡ true = simp decode at c.if1.true in
+    let t : lt_z (pos 0) c.before.args.a ≡ true = simp decode at c.if-a-gt0.true in
     rw t
 
-returns-2 : tie.Need-returns-2
+returns-2 : tie.Need-returns-then-a-lt0
 unfolding sign_of
 returns-2 c =
-    let t : lt_z (pos 0) c.before.before.args.a ≡ false = simp decode at c.before.if1.false in
-    let u : lt_z c.before.before.args.a (pos 0) ≡ true = simp decode at c.if2.true in
+    let t : lt_z (pos 0) c.before.before.args.a ≡ false = simp decode at c.before.if-a-gt0.false in
+    let u : lt_z c.before.before.args.a (pos 0) ≡ true = simp decode at c.if-a-lt0.true in
     rw (t, u)
 
-returns-3 : tie.Need-returns-3
+returns-3 : tie.Need-returns
 unfolding sign_of
 returns-3 c =
-    let t : lt_z (pos 0) c.before.before.args.a ≡ false = simp decode at c.before.if1.false in
-    let u : lt_z c.before.before.args.a (pos 0) ≡ false = simp decode at c.if2.false in
+    let t : lt_z (pos 0) c.before.before.args.a ≡ false = simp decode at c.before.if-a-gt0.false in
+    let u : lt_z c.before.before.args.a (pos 0) ≡ false = simp decode at c.if-a-lt0.false in
     rw (t, u)
 
-pub sign-spec : {M : Type 1} → statement M
-sign-spec = tie.close (tie.spec returns returns-2 returns-3)
+pub sign_spec : {M : Type 1} → statement M
+sign_spec = tie.close (tie.spec returns returns-2 returns-3)

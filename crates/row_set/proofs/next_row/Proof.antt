@@ -21,78 +21,78 @@ and-on D r s t f g i a b = go (dec_lt i s)
     go (yes h) = f i a h
     go (no h) = g i (omega arith) b
 
-abbrev invariant-loop : tie.invariant-loop
+abbrev invariant-loop : tie.invariant-loop-s
 invariant-loop m set r s₀ s = (r ≤ s) × ((i : ℕ) → r ≤ i → i < s → bit_at set i ≡ 0)
 
-abbrev decreases-loop : tie.decreases-loop
+abbrev decreases-loop : tie.decreases-loop-s
 decreases-loop m set r s₀ s = m - s
 
-loop-holds : tie.Need-loop-init invariant-loop decreases-loop
+loop-holds : tie.Need-loop-s-init invariant-loop decreases-loop
 loop-holds c = (omega arith, λ i a b. absurd (let z : ⊥ = omega arith in z))
 
-mul-x : tie.Need-overflow-mul-x invariant-loop decreases-loop
+mul-x : tie.Need-offset_bounds-set-s invariant-loop decreases-loop
 mul-x c = omega (arith, c.before.before.requires)
 
-shared-slice-read-x : tie.Need-shared-slice-read-x invariant-loop decreases-loop
+shared-slice-read-x : tie.Need-bounds-set-s invariant-loop decreases-loop
 shared-slice-read-x c = omega (arith, c.before.before.before.requires)
 
-cast-x : tie.Need-overflow-cast-x invariant-loop decreases-loop
+cast-x : tie.Need-overflow_cast-x invariant-loop decreases-loop
 cast-x c = omega arith
 
-shr-x : tie.Need-overflow-shr-x invariant-loop decreases-loop
+shr-x : tie.Need-overflow_shr-x invariant-loop decreases-loop
 shr-x c = omega arith
 
-cast_t : tie.Need-overflow-cast-t invariant-loop decreases-loop
-cast_t c = let h = c.before.before.before in omega (arith, trailing_le 32 (rest h.before.args.set.now h.loop.s))
+cast_t : tie.Need-overflow_cast-t invariant-loop decreases-loop
+cast_t c = let h = c.before.before.before in omega (arith, trailing_le 32 (rest h.before.args.set.now h.loop-s.s))
 
-add-t : tie.Need-overflow-add-t invariant-loop decreases-loop
+add-t : tie.Need-overflow_add-t invariant-loop decreases-loop
 add-t c =
     let h = c.before.before.before in
-    omega (arith, h.before.requires, trailing_le 32 (rest h.before.args.set.now h.loop.s))
+    omega (arith, h.before.requires, trailing_le 32 (rest h.before.args.set.now h.loop-s.s))
 
 -- in a word whose rest is not 0
-module _ (c : tie.Then1 invariant-loop decreases-loop) where
-  abbrev head : tie.At-loop invariant-loop decreases-loop
+module _ (c : tie.Then-x-ne0 invariant-loop decreases-loop) where
+  abbrev head : tie.At-loop-s invariant-loop decreases-loop
   head = c.before.before.before
 
   abbrev D : List ℕ
   D = head.before.args.set.now
 
   abbrev s : ℕ
-  s = head.loop.s
+  s = head.loop-s.s
 
   passed : (i : ℕ) → head.before.args.r ≤ i → i < s + count_trailing_zeros 32 (rest D s) → bit_at D i ≡ 0
-  passed = and-on D _ s _ head.loop.inv.1 (next-rest D s (omega (arith, c.before.shared-slice-known.given (s / 32))) c.if1.true)
+  passed = and-on D _ s _ head.loop-s.invariant.1 (next-rest D s (omega (arith, c.before.shared_slice_known-1.given (s / 32))) c.if-x-ne0.true)
 
-returns : tie.Need-returns invariant-loop decreases-loop
-returns c = (omega (arith, (head c.before).loop.inv.0), omega arith, passed c.before)
+returns : tie.Need-returns-then-t-m invariant-loop decreases-loop
+returns c = (omega (arith, (head c.before).loop-s.invariant.0), omega arith, passed c.before)
 
-returns-2 : tie.Need-returns-2 invariant-loop decreases-loop
-returns-2 c = (omega (arith, (head c.before).before.pre), omega arith, λ i a b. passed c.before i a (omega arith))
+returns-2 : tie.Need-returns-then-x-ne0 invariant-loop decreases-loop
+returns-2 c = (omega (arith, (head c.before).before.requires), omega arith, λ i a b. passed c.before i a (omega arith))
 
-add-s : tie.Need-overflow-add-s invariant-loop decreases-loop
+add-s : tie.Need-overflow_add-s invariant-loop decreases-loop
 add-s c = omega (arith, c.before.before.before.before.requires)
 
-mul-s : tie.Need-overflow-mul-s invariant-loop decreases-loop
+mul-s : tie.Need-overflow_mul-s invariant-loop decreases-loop
 mul-s c = omega (arith, c.before.before.before.before.requires)
 
-loop-less : tie.Need-loop-smaller invariant-loop decreases-loop
+loop-less : tie.Need-loop-s-smaller invariant-loop decreases-loop
 loop-less c = omega arith
 
-loop-again : tie.Need-loop-preserved invariant-loop decreases-loop
+loop-again : tie.Need-loop-s-preserved invariant-loop decreases-loop
 loop-again c =
     let h = c.before.before.before in
     let D = h.before.args.set.now in
-    let s = h.loop.s in
-    (omega (arith, h.loop.invariant.0), and-on D _ s _ h.loop.invariant.1 (none_rest D s c.if1.false))
+    let s = h.loop-s.s in
+    (omega (arith, h.loop-s.invariant.0), and-on D _ s _ h.loop-s.invariant.1 (none_rest D s c.if-x-ne0.false))
 
-returns-3 : tie.Need-returns-3 invariant-loop decreases-loop
+returns-3 : tie.Need-returns invariant-loop decreases-loop
 returns-3 c =
     let h = c.before in
-    (omega (arith, h.before.requires), omega arith, λ i a b. h.loop.invariant.1 i a (omega arith))
+    (omega (arith, h.before.requires), omega arith, λ i a b. h.loop-s.invariant.1 i a (omega arith))
 
-pub next-row-spec : {M : Type 1} → statement M
-next-row-spec =
+pub next_row_spec : {M : Type 1} → statement M
+next_row_spec =
     tie.close
     (tie.spec
     invariant-loop

@@ -7,34 +7,34 @@ use native.Mathlib.Omega.{arith}
 use Rattle.test_points.proofs.grid.mark.Statement.{statement}
 use Rattle.test_points.proofs.grid.mark.Tie as tie
 
-abbrev invariant-loop : tie.invariant-loop
+abbrev invariant-loop : tie.invariant-loop-k
 invariant-loop n bounds coefs rhs kinds marks₀ k₀ marks k = (k ≤ length marks) × (length marks ≡ length marks₀)
 
-abbrev decreases-loop : tie.decreases-loop
+abbrev decreases-loop : tie.decreases-loop-k
 decreases-loop n bounds coefs rhs kinds marks₀ k₀ marks k = length marks₀ - k
 
-loop-holds : tie.Need-loop-init invariant-loop decreases-loop
+loop-holds : tie.Need-loop-k-init invariant-loop decreases-loop
 loop-holds c = omega arith
 
-grid-point-requires : tie.Need-grid-point-requires invariant-loop decreases-loop
+grid-point-requires : tie.Need-grid_point-requires invariant-loop decreases-loop
 grid-point-requires c κs = search rules
 
-is-point-requires : tie.Need-is-point-requires invariant-loop decreases-loop
+is-point-requires : tie.Need-is_point-requires invariant-loop decreases-loop
 is-point-requires c κs = search rules
 
-slice-write-marks : tie.Need-slice-write-marks invariant-loop decreases-loop
+slice-write-marks : tie.Need-bounds-marks-k invariant-loop decreases-loop
 slice-write-marks c = omega arith
 
-add-k : tie.Need-overflow-add-k invariant-loop decreases-loop
+add-k : tie.Need-overflow_add-k invariant-loop decreases-loop
 add-k c = omega arith
 
-loop-less : tie.Need-loop-smaller invariant-loop decreases-loop
+loop-less : tie.Need-loop-k-smaller invariant-loop decreases-loop
 loop-less c = omega arith
 
-loop-again : tie.Need-loop-preserved invariant-loop decreases-loop
+loop-again : tie.Need-loop-k-preserved invariant-loop decreases-loop
 loop-again c = simp length-set (omega arith)
 
-same_length : tie.Need-same-length invariant-loop decreases-loop
+same_length : tie.Need-shape_of-marks invariant-loop decreases-loop
 same_length c = omega arith
 
 returns : tie.Need-returns invariant-loop decreases-loop

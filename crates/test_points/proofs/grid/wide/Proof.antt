@@ -4,7 +4,7 @@ use Rattle.integer.proofs.Reading.{wide_fits}
 use Rattle.test_points.proofs.grid.wide.Statement.{statement}
 use Rattle.test_points.proofs.grid.wide.Tie as tie
 
-cast-result : tie.Need-overflow-cast-result
+cast-result : tie.Need-overflow_cast-result
 cast-result c = wide_fits c.ranges.x
 
 returns : tie.Need-returns

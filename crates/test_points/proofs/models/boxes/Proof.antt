@@ -7,65 +7,65 @@ use native.Mathlib.Omega.{arith}
 use Rattle.test_points.proofs.models.boxes.Statement.{statement}
 use Rattle.test_points.proofs.models.boxes.Tie as tie
 
-abbrev invariant-loop : tie.invariant-loop
+abbrev invariant-loop : tie.invariant-loop-j
 invariant-loop bounds₀ code lower upper n rest₀ j₀ bounds rest j = (j ≤ n) × (length bounds ≡ length bounds₀)
 
-abbrev decreases-loop : tie.decreases-loop
+abbrev decreases-loop : tie.decreases-loop-j
 decreases-loop bounds₀ code lower upper n rest₀ j₀ bounds rest j = n - j
 
-loop-holds : tie.Need-loop-init invariant-loop decreases-loop
+loop-holds : tie.Need-loop-j-init invariant-loop decreases-loop
 loop-holds c = omega arith
 
-mul-bounds : tie.Need-overflow-mul-bounds invariant-loop decreases-loop
+mul-bounds : tie.Need-offset_bounds-lower-rest invariant-loop decreases-loop
 mul-bounds c = omega arith
 
-array-copy-out-bounds : tie.Need-array-copy-out-bounds invariant-loop decreases-loop
+array-copy-out-bounds : tie.Need-bounds-lower-rest invariant-loop decreases-loop
 array-copy-out-bounds c = omega arith
 
-mul-bounds-2 : tie.Need-overflow-mul-bounds-2 invariant-loop decreases-loop
+mul-bounds-2 : tie.Need-overflow_mul-bounds invariant-loop decreases-loop
 mul-bounds-2 c = omega arith
 
-mul-bounds-3 : tie.Need-overflow-mul-bounds-3 invariant-loop decreases-loop
+mul-bounds-3 : tie.Need-offset_bounds-bounds-j invariant-loop decreases-loop
 mul-bounds-3 c = omega arith
 
-slice-set-from-bounds : tie.Need-slice-set-from-bounds invariant-loop decreases-loop
+slice-set-from-bounds : tie.Need-bounds-bounds-j invariant-loop decreases-loop
 slice-set-from-bounds c = omega arith
 
-mul-bounds-4 : tie.Need-overflow-mul-bounds-4 invariant-loop decreases-loop
+mul-bounds-4 : tie.Need-offset_bounds-upper-rest invariant-loop decreases-loop
 mul-bounds-4 c = omega arith
 
-array-copy-out-bounds-2 : tie.Need-array-copy-out-bounds-2 invariant-loop decreases-loop
+array-copy-out-bounds-2 : tie.Need-bounds-upper-rest invariant-loop decreases-loop
 array-copy-out-bounds-2 c = omega arith
 
-mul-t16 : tie.Need-overflow-mul-t16 invariant-loop decreases-loop
+mul-t16 : tie.Need-overflow_mul-j invariant-loop decreases-loop
 mul-t16 c = omega arith
 
-add-t12 : tie.Need-overflow-add-t12 invariant-loop decreases-loop
+add-t12 : tie.Need-overflow_add-j invariant-loop decreases-loop
 add-t12 c = omega arith
 
-mul-t21 : tie.Need-overflow-mul-t21 invariant-loop decreases-loop
+mul-t21 : tie.Need-offset_bounds-bounds-j-in-loop-j invariant-loop decreases-loop
 mul-t21 c = omega arith
 
-slice-set-from-bounds-2 : tie.Need-slice-set-from-bounds-2 invariant-loop decreases-loop
+slice-set-from-bounds-2 : tie.Need-bounds-bounds-j-in-loop-j invariant-loop decreases-loop
 slice-set-from-bounds-2 c = simp length-set (omega arith)
 
-add-j : tie.Need-overflow-add-j invariant-loop decreases-loop
+add-j : tie.Need-overflow_add-j-in-loop-j invariant-loop decreases-loop
 add-j c = omega arith
 
-loop-less : tie.Need-loop-smaller invariant-loop decreases-loop
+loop-less : tie.Need-loop-j-smaller invariant-loop decreases-loop
 loop-less c = omega arith
 
-loop-again : tie.Need-loop-preserved invariant-loop decreases-loop
+loop-again : tie.Need-loop-j-preserved invariant-loop decreases-loop
 loop-again c = simp length-set (omega arith)
 
-same_length : tie.Need-same-length invariant-loop decreases-loop
+same_length : tie.Need-shape_of-bounds invariant-loop decreases-loop
 same_length c = omega arith
 
 returns : tie.Need-returns invariant-loop decreases-loop
 returns c = search rules
 
-pub boxes-spec : {M : Type 1} → statement M
-boxes-spec =
+pub boxes_spec : {M : Type 1} → statement M
+boxes_spec =
     tie.close
     (tie.spec
     invariant-loop

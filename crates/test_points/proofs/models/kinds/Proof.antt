@@ -7,38 +7,38 @@ use native.Mathlib.Omega.{arith}
 use Rattle.test_points.proofs.models.kinds.Statement.{statement}
 use Rattle.test_points.proofs.models.kinds.Tie as tie
 
-abbrev invariant-loop : tie.invariant-loop
+abbrev invariant-loop : tie.invariant-loop-i
 invariant-loop xs₀ code rest₀ i₀ xs rest i = (i ≤ length xs) × (length xs ≡ length xs₀)
 
-abbrev decreases-loop : tie.decreases-loop
+abbrev decreases-loop : tie.decreases-loop-i
 decreases-loop xs₀ code rest₀ i₀ xs rest i = length xs₀ - i
 
-loop-holds : tie.Need-loop-init invariant-loop decreases-loop
+loop-holds : tie.Need-loop-i-init invariant-loop decreases-loop
 loop-holds c = omega arith
 
-cast-xs : tie.Need-overflow-cast-xs invariant-loop decreases-loop
+cast-xs : tie.Need-overflow_cast-xs invariant-loop decreases-loop
 cast-xs c = search rules
 
-slice-write-xs : tie.Need-slice-write-xs invariant-loop decreases-loop
+slice-write-xs : tie.Need-bounds-xs-i invariant-loop decreases-loop
 slice-write-xs c = omega arith
 
-add-i : tie.Need-overflow-add-i invariant-loop decreases-loop
+add-i : tie.Need-overflow_add-i invariant-loop decreases-loop
 add-i c = omega arith
 
-loop-less : tie.Need-loop-smaller invariant-loop decreases-loop
+loop-less : tie.Need-loop-i-smaller invariant-loop decreases-loop
 loop-less c = omega arith
 
-loop-again : tie.Need-loop-preserved invariant-loop decreases-loop
+loop-again : tie.Need-loop-i-preserved invariant-loop decreases-loop
 loop-again c = simp length-set (omega arith)
 
-same_length : tie.Need-same-length invariant-loop decreases-loop
+same_length : tie.Need-shape_of-xs invariant-loop decreases-loop
 same_length c = omega arith
 
 returns : tie.Need-returns invariant-loop decreases-loop
 returns c = search rules
 
-pub kinds-spec : {M : Type 1} → statement M
-kinds-spec =
+pub kinds_spec : {M : Type 1} → statement M
+kinds_spec =
     tie.close
     (tie.spec
     invariant-loop
