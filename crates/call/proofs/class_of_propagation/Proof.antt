@@ -10,30 +10,30 @@ use Rattle.call.specs.Classes.{class_is, propagation_class}
 use Rattle.call.proofs.class_of_propagation.Statement.{statement}
 use Rattle.call.proofs.class_of_propagation.Tie as tie
 
-enum_told : tie.Need-enum-told
+enum_told : tie.Need-enum_told-1
 enum_told c = search rules
 
-enum-known-p : tie.Need-enum-known-p
+enum-known-p : tie.Need-enum_known-p
 enum-known-p c = search rules
 
-enum-known-p-2 : tie.Need-enum-known-p-2
+enum-known-p-2 : tie.Need-enum_known-p-in-BudgetSpent-1
 enum-known-p-2 c = search rules
 
-returns : tie.Need-returns
+returns : tie.Need-returns-in-Infeasible
 unfolding class_is propagation_class
-returns c = rw c.enum_told.given.1
+returns c = rw c.in-Infeasible.is
 
-by-moved : (c : tie.At-match-branch) → propagation_class c.before.args.p ≡ cond (eqb c.match.moved 0) unchanged_call changed_call
+by-moved : (c : tie.In-Converged) → propagation_class c.args.p ≡ cond (eqb c.in-Converged.moved 0) unchanged_call changed_call
 unfolding propagation_class
-by-moved c = ⊎_elim (λ w. rw (w.1.given.1, w.3)) (λ w. rw (w.1.given.1, w.3)) c.match.branch
+by-moved c = ⊎_elim (λ w. rw (w.1.given.1, w.3)) (λ w. rw (w.1.given.1, w.3)) c.in-Converged.match-p-branch
 
-returns-2 : tie.Need-returns-2
+returns-2 : tie.Need-returns-then-moved-eq0
 unfolding class_is
-returns-2 c = sym (by-moved c.before ∙ rw c.if1.true)
+returns-2 c = sym (by-moved c.before ∙ rw c.if-moved-eq0.true)
 
-returns-3 : tie.Need-returns-3
+returns-3 : tie.Need-returns-else-moved-eq0
 unfolding class_is
-returns-3 c = sym (by-moved c.before ∙ rw (test-false (eqb c.before.match.moved 0) (eqb-test _ 0) c.if1.false))
+returns-3 c = sym (by-moved c.before ∙ rw (test-false (eqb c.in-Converged.moved 0) (eqb-test _ 0) c.if-moved-eq0.false))
 
-pub class-of-propagation-spec : {M : Type 1} → statement M
-class-of-propagation-spec = tie.close (tie.spec enum_told enum-known-p enum-known-p-2 returns returns-2 returns-3)
+pub class_of_propagation_spec : {M : Type 1} → statement M
+class_of_propagation_spec = tie.close (tie.spec enum_told enum-known-p enum-known-p-2 returns returns-2 returns-3)

@@ -29,8 +29,8 @@ same-length-4 c = search rules
 -- what is read is the book's model
 same : (w : tie.After-read_first)
     → let a = w.args in
-    let r = w.read_first.new.coefs.1.1 in
-    model_of a.n a.m r.0 (rows_of r.1.0 r.1.1.0 a.kinds.now) ≡ model_in a.n a.m a.from.now
+    let r = w.read_first.new in
+    model_of a.n a.m r.bounds (rows_of r.coefs r.rhs a.kinds.now) ≡ model_in a.n a.m a.from.now
 unfolding model_in
 same w = let e = w.read_first.ensures in rw (e.0, e.1.0, e.1.1, w.requires.1.1)
 

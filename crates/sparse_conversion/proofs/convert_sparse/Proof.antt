@@ -32,8 +32,8 @@ same-length-5 c = search rules
 -- what is read is the book's model
 same : (w : tie.After-read_numbers)
     → let a = w.args in
-    let r = w.read_numbers.new.coefs.1.1 in
-    model_of a.n a.m r.0 (rows_of r.1.0 r.1.1.0 r.1.1.1.0) ≡ sparse_model_in a.n a.m a.from.now
+    let r = w.read_numbers.new in
+    model_of a.n a.m r.bounds (rows_of r.coefs r.rhs r.kinds) ≡ sparse_model_in a.n a.m a.from.now
 unfolding sparse_model_in
 same w = let e = w.read_numbers.ensures in rw (e.0, e.1.0, e.1.1.0, e.1.1.1)
 
