@@ -1,6 +1,5 @@
 -- The bytes of the answer are those of `output`, and lie within the buffer.
-use Rattle.std.proofs.Common.{◌≡◌, ◌≤◌, ◌∙◌, ap, sym, length, take, arith}
-use Rattle.std.proofs.Math.Seq.{length-take-le}
+use Rattle.std.proofs.Common.{◌∙◌, ap, length, arith}
 use Rattle.convert.specs.Answers.{answer_bytes}
 use Rattle.convert.proofs.answer.Goals as goal
 

@@ -1,6 +1,6 @@
 -- The last 16 bytes and the length tell what the first edition refuses (`head-refused`), and of what it does not refuse
 -- so the whole input tells which edition it is; it is no longer than `start`, so it is held whole.
-use Rattle.std.proofs.Common.{◌≡◌, ◌≤◌, ◌∙◌, ap, sym, refl, subst, ℕ, List, length, arith}
+use Rattle.std.proofs.Common.{◌≡◌, ◌≤◌, ◌∙◌, ap, sym, refl, ℕ, List, length, arith}
 use Rattle.std.proofs.Math.Seq.{length-take-le}
 use Rattle.model.specs.Checks.{first}
 use Rattle.book.specs.Answers.{sizes_answer}
