@@ -22,23 +22,28 @@ use buffers::{MAX_INPUT, longest_input};
 use streams::input::{Input, read_all};
 use streams::output::{print, refused};
 
-fn main() {
+fn main(rt: HostRuntime) {
     let mut start = longest_input();
     let mut tail = [0u8; 16];
     let mut printed = 0;
-    match read_all(&mut start, &mut tail) {
+    match read_all(&rt, &mut start, &mut tail) {
         Input::Length(len) => {
-            answer(&start, &tail, len, &mut printed);
+            answer(&rt, &start, &tail, len, &mut printed);
         }
         Input::TooLong => {
-            refused(2, &mut printed);
+            refused(&rt, 2, &mut printed);
         }
         Input::Failed => {}
     }
 }
 
 // The lines of `count` proposals. True where all of them were written.
-fn print_verdicts(verdicts: &[u32], count: usize, printed: &mut usize) -> bool
+fn print_verdicts(
+    rt: &(impl Print + Eprint),
+    verdicts: &[u32],
+    count: usize,
+    printed: &mut usize,
+) -> bool
     requires count_bound { (count ≤ 64) × (printed.old ≡ 0) }
     requires verdicts_len { length verdicts.now ≡ 2 * count }
     ensures { (f : ℕ → Verdict) → verdicts.now ≡ numbers count f → result ≡ true →
@@ -46,23 +51,29 @@ fn print_verdicts(verdicts: &[u32], count: usize, printed: &mut usize) -> bool
 {
     let mut buf = [0u8; 1_344];
     let end = write_verdicts(verdicts, count, &mut buf);
-    print(&buf[..end], printed)
+    print(rt, &buf[..end], printed)
 }
 
 // The answer to an input of `len` bytes; where it is no longer than `start`, `start` begins with it. True where all of
 // it was written.
-fn answer(start: &[u8], tail: &[u8], len: usize, printed: &mut usize) -> bool
+fn answer(
+    rt: &(impl Print + Eprint),
+    start: &[u8],
+    tail: &[u8],
+    len: usize,
+    printed: &mut usize,
+) -> bool
     requires max_input_value { (max_input ≡ length start.now) × ((bs : List ℕ) × Held bs start.now tail.now len) }
     requires printed_value { printed.old ≡ 0 }
     ensures { (bs : List ℕ) → Held bs start.now tail.now len → result ≡ true →
         printed.new ≡ length (output bs) }
 {
     if MAX_INPUT < len {
-        return refused(2, printed);
+        return refused(rt, 2, printed);
     }
     let mut verdicts = [0u32; 128];
     match judge(&start[..len], &mut verdicts) {
-        Answer::Refused(number) => refused(number, printed),
-        Answer::Verdicts(count) => print_verdicts(&verdicts[..2 * count], count, printed),
+        Answer::Refused(number) => refused(rt, number, printed),
+        Answer::Verdicts(count) => print_verdicts(rt, &verdicts[..2 * count], count, printed),
     }
 }

@@ -17,16 +17,16 @@ use conversion::{Answer, convert};
 use streams::input::{Input, read_all};
 use streams::output::{print, refused};
 
-fn main() {
+fn main(rt: HostRuntime) {
     let mut start = longest_sparse();
     let mut tail = [0u8; 16];
     let mut printed = 0;
-    match read_all(&mut start, &mut tail) {
+    match read_all(&rt, &mut start, &mut tail) {
         Input::Length(len) => {
-            answer(&start, &tail, len, &mut printed);
+            answer(&rt, &start, &tail, len, &mut printed);
         }
         Input::TooLong => {
-            refused(2, &mut printed);
+            refused(&rt, 2, &mut printed);
         }
         Input::Failed => {}
     }
@@ -34,7 +34,13 @@ fn main() {
 
 // The answer to an input of `len` bytes that ends in `tail`; where it is no longer than `start`, `start` begins with
 // it. True where all of it was written.
-fn answer(start: &[u8], tail: &[u8], len: usize, printed: &mut usize) -> bool
+fn answer(
+    rt: &(impl Print + Eprint),
+    start: &[u8],
+    tail: &[u8],
+    len: usize,
+    printed: &mut usize,
+) -> bool
     requires max_sparse_value { (max_sparse ≡ length start.now) × ((bs : List ℕ) × Held bs start.now tail.now len) }
     requires printed_value { printed.old ≡ 0 }
     ensures { (bs : List ℕ) → Held bs start.now tail.now len → result ≡ true →
@@ -42,7 +48,7 @@ fn answer(start: &[u8], tail: &[u8], len: usize, printed: &mut usize) -> bool
 {
     let mut to = longest_sparse();
     match convert(start, tail, len, &mut to) {
-        Answer::Refused(number) => refused(number, printed),
-        Answer::Book(end) => print(&to[..end], printed),
+        Answer::Refused(number) => refused(rt, number, printed),
+        Answer::Book(end) => print(rt, &to[..end], printed),
     }
 }

@@ -16,17 +16,21 @@ use report_chunk::{fill, line_count};
 use report_line::write_none;
 use streams::output::print;
 
-pub fn none(printed: &mut usize) -> bool
+// As many bytes of a report are printed at a time.
+const CHUNK: usize = 65_536;
+
+pub fn none(rt: &(impl Print + Eprint), printed: &mut usize) -> bool
     requires { printed.old ≡ 0 }
     ensures { result ≡ true → printed.new ≡ length none_line }
 {
     let mut buf = [0u8; 64];
     let end = write_none(&mut buf, 0);
-    print(&buf[..end], printed)
+    print(rt, &buf[..end], printed)
 }
 
 // The report, as many lines at a time as the buffer holds.
 fn reduced(
+    rt: &(impl Print + Eprint),
     n: usize,
     m: usize,
     rounds: u64,
@@ -44,12 +48,12 @@ fn reduced(
         (result ≡ true → printed.new ≡ length (report rounds s)) }
 {
     let count = line_count(n, m);
-    let mut buf = io::large_buffer();
+    let mut buf = [0u8; CHUNK];
     let mut next = 0;
     while next < count {
         let chunk = fill(n, m, rounds, bounds, coefs, rhs, table, next, &mut buf);
         let end = chunk.end;
-        if !print(&buf[..end], printed) {
+        if !print(rt, &buf[..end], printed) {
             return false;
         }
         next = chunk.next;
@@ -65,7 +69,13 @@ fn most_pages() -> [u8; 340200]
 }
 
 // The pages, all at once. The model that is left is valid, so that nothing can be refused.
-fn paper(n: usize, bounds: &[i32], table: &[u8], printed: &mut usize) -> bool
+fn paper(
+    rt: &(impl Print + Eprint),
+    n: usize,
+    bounds: &[i32],
+    table: &[u8],
+    printed: &mut usize,
+) -> bool
     requires paper { Paper n bounds.now × (length table.now ≡ 4 * (n * n)) }
     requires printed_value { printed.old ≡ 0 }
     ensures { let text = pages n bounds.now table.now in
@@ -74,11 +84,12 @@ fn paper(n: usize, bounds: &[i32], table: &[u8], printed: &mut usize) -> bool
     let mut buf = most_pages();
     let len = pages_needed(n, table) * PAGE;
     write_all(n, bounds, table, &mut buf[..len]);
-    print(&buf[..len], printed)
+    print(rt, &buf[..len], printed)
 }
 
 // What is left, in the form that the program has.
 pub fn left(
+    rt: &(impl Print + Eprint),
     form: Form,
     n: usize,
     m: usize,
@@ -97,7 +108,7 @@ pub fn left(
         (result ≡ true → printed.new ≡ length (left_text form rounds s)) }
 {
     match form {
-        Form::Report => reduced(n, m, rounds, bounds, coefs, rhs, table, printed),
-        Form::Paper => paper(n, bounds, table, printed),
+        Form::Report => reduced(rt, n, m, rounds, bounds, coefs, rhs, table, printed),
+        Form::Paper => paper(rt, n, bounds, table, printed),
     }
 }

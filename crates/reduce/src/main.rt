@@ -10,16 +10,17 @@ ghost use Rattle.rounds.specs.NoLimit.{no_limit};
 use reduce_book::program;
 use reduction::Form;
 use rounds_call::NO_LIMIT;
+use std::io;
 
-fn main() {
+fn main(rt: HostRuntime) {
     let mut printed = 0;
-    print_reduced(&mut printed);
+    print_reduced(&rt, &mut printed);
 }
 
 // True where the whole text was printed.
-fn print_reduced(printed: &mut usize) -> bool
+fn print_reduced(rt: &(impl io::Input + Print + Eprint), printed: &mut usize) -> bool
     requires { printed.old ≡ 0 }
     ensures { result ≡ true → Printed Report no_limit printed.new }
 {
-    program(Form::Report, NO_LIMIT, printed)
+    program(rt, Form::Report, NO_LIMIT, printed)
 }

@@ -7,18 +7,19 @@ ghost use Rattle.reduction.specs.declared.Form.TheVariants.{Report};
 
 use reduce_book::program;
 use reduction::Form;
+use std::io;
 
 const ROUNDS: u64 = 8;
 
-fn main() {
+fn main(rt: HostRuntime) {
     let mut printed = 0;
-    print_reduced(&mut printed);
+    print_reduced(&rt, &mut printed);
 }
 
 // True where the whole text was printed.
-fn print_reduced(printed: &mut usize) -> bool
+fn print_reduced(rt: &(impl io::Input + Print + Eprint), printed: &mut usize) -> bool
     requires { printed.old ≡ 0 }
     ensures { result ≡ true → Printed Report 8 printed.new }
 {
-    program(Form::Report, ROUNDS, printed)
+    program(rt, Form::Report, ROUNDS, printed)
 }

@@ -21,20 +21,26 @@ use reduction::buffers::{
     largest_table, longest_book, most_bounds, most_coefs, most_kinds, most_rhs,
 };
 use reduction::{Answer, Form, solve};
+use std::io;
 use streams::input::{Input, read_all};
 use streams::output::refused;
 
 // The whole program, with at most `limit` rounds; `reduce` and `floor` have the limit that is none, `reduce8` has 8.
 // True where the whole text was printed.
-pub fn program(form: Form, limit: u64, printed: &mut usize) -> bool
+pub fn program(
+    rt: &(impl io::Input + Print + Eprint),
+    form: Form,
+    limit: u64,
+    printed: &mut usize,
+) -> bool
     requires { printed.old ≡ 0 }
     ensures { result ≡ true → Printed form limit printed.new }
 {
     let mut start = longest_book();
     let mut tail = [0u8; 16];
-    match read_all(&mut start, &mut tail) {
-        Input::Length(len) => answer(&start, &tail, len, form, limit, printed),
-        Input::TooLong => refused(2, printed),
+    match read_all(rt, &mut start, &mut tail) {
+        Input::Length(len) => answer(rt, &start, &tail, len, form, limit, printed),
+        Input::TooLong => refused(rt, 2, printed),
         Input::Failed => false,
     }
 }
@@ -43,6 +49,7 @@ pub fn program(form: Form, limit: u64, printed: &mut usize) -> bool
 // begins with it. A number by which `sizes` refuses the input is the one of its text (`head-output`). True
 // where the whole text was printed.
 fn answer(
+    rt: &(impl Print + Eprint),
     start: &[u8],
     tail: &[u8],
     len: usize,
@@ -56,13 +63,21 @@ fn answer(
         printed.new ≡ length (printed_text form limit bs) }
 {
     match intake::sizes(tail, len) {
-        SizesAnswer::Refused(number) => refused(number, printed),
-        SizesAnswer::Sizes { n, m } => reduce(n, m, &start[..len], form, limit, printed),
+        SizesAnswer::Refused(number) => refused(rt, number, printed),
+        SizesAnswer::Sizes { n, m } => reduce(rt, n, m, &start[..len], form, limit, printed),
     }
 }
 
 // Lends the reduction buffers for the model, and a table all 0.
-fn reduce(n: usize, m: usize, book: &[u8], form: Form, limit: u64, printed: &mut usize) -> bool
+fn reduce(
+    rt: &(impl Print + Eprint),
+    n: usize,
+    m: usize,
+    book: &[u8],
+    form: Form,
+    limit: u64,
+    printed: &mut usize,
+) -> bool
     requires n_le_max_variables { (n ≤ max_variables) × (m ≤ max_rows) × Sized n m book.now }
     requires printed_value { printed.old ≡ 0 }
     ensures { result ≡ true → printed.new ≡ length (printed_text form limit book.now) }
@@ -76,6 +91,7 @@ fn reduce(n: usize, m: usize, book: &[u8], form: Form, limit: u64, printed: &mut
     let coefs_len = m * n;
     let table_len = 4 * (n * n);
     reduce_in(
+        rt,
         n,
         m,
         book,
@@ -91,6 +107,7 @@ fn reduce(n: usize, m: usize, book: &[u8], form: Form, limit: u64, printed: &mut
 }
 
 fn reduce_in(
+    rt: &(impl Print + Eprint),
     n: usize,
     m: usize,
     book: &[u8],
@@ -109,10 +126,10 @@ fn reduce_in(
     ensures { result ≡ true → printed.new ≡ length (printed_text form limit book.now) }
 {
     match solve(n, m, book, bounds, coefs, rhs, kinds, table, limit) {
-        Answer::Refused(number) => refused(number, printed),
-        Answer::Infeasible => printing::none(printed),
+        Answer::Refused(number) => refused(rt, number, printed),
+        Answer::Infeasible => printing::none(rt, printed),
         Answer::Reduced(made) => printing::left(
-            form, n, m, made, bounds, coefs, rhs, table, printed,
+            rt, form, n, m, made, bounds, coefs, rhs, table, printed,
         ),
     }
 }

@@ -1,10 +1,16 @@
 // Standard input, read whole however its bytes arrive.
-ghost use Rattle.std.specs.Prelude.{◌≡◌, List, ℕ, pos, replicate, ◌≤ℤ◌};
+ghost use Rattle.std.specs.Prelude.{◌≡◌, List, ℕ, IfOk, Ok, replicate};
 ghost use Rattle.intake.specs.Intake.{Held};
 ghost use Rattle.streams.specs.Input.{InputHeld, ended_at};
 
 use intake::{is_too_long, take_in};
-use libc::{EBADF, STDIN_FILENO};
+use std::io;
+use std::io::Read;
+
+// The number that the system gives a read of a descriptor that is not open.
+const EBADF: i32 = 9;
+
+const PIECE: usize = 65_536;
 
 #[derive(Clone, Copy)]
 pub enum Input {
@@ -17,33 +23,36 @@ pub enum Input {
 
 // The input ends where a read gives no byte. A closed standard input is an empty one. No signal is caught here, so no
 // read is interrupted, and any other failure is one of the input.
-fn ended(got: isize, len: usize) -> Input
-    requires { got ≤ℤ pos 0 }
-    ensures whole { got ≡ pos 0 → result ≡ ended_at len }
+fn ended(rt: &impl Eprint, got: io::Result<usize>, len: usize) -> Input
+    requires { IfOk got (λ count. count ≡ 0) }
+    ensures whole { got ≡ Ok 0 → result ≡ ended_at len }
     ensures held { (bs start tail : List ℕ) → Held bs start tail len → InputHeld result start tail }
 {
-    if got == 0 {
-        return Input::Length(len);
+    match got {
+        Ok(_) => Input::Length(len),
+        Err(error) => {
+            if error.raw_os_error() == Some(EBADF) {
+                return Input::Length(len);
+            }
+            let _ = eprintln!(rt; "standard input: {error}");
+            Input::Failed
+        }
     }
-    if os::errno() == EBADF {
-        return Input::Length(len);
-    }
-    os::fail(b"standard input");
-    Input::Failed
 }
 
 // Reads to the end of the input, keeps what `intake` keeps of it, and answers its length.
-pub fn read_all(start: &mut [u8], tail: &mut [u8]) -> Input
+pub fn read_all(rt: &(impl io::Input + Eprint), start: &mut [u8], tail: &mut [u8]) -> Input
     requires { tail.old ≡ replicate 16 0 }
     ensures { InputHeld result start.new tail.new }
 {
-    let mut piece = io::large_buffer();
+    let mut reader = rt.reader();
+    let mut piece = [0u8; PIECE];
     let mut len = 0;
     while !is_too_long(len) {
-        let got = libc::read(STDIN_FILENO, &mut piece);
-        let count = io::count(got, &piece);
+        let got = reader.read(&mut piece);
+        let count = got.unwrap_or(0);
         if count == 0 {
-            return ended(got, len);
+            return ended(rt, got, len);
         }
         take_in(start, tail, len, &piece[..count]);
         len += count;

@@ -3,28 +3,31 @@
 ghost use Rattle.std.specs.Prelude.{true, ◌≡◌, ◌+◌, ◌<◌, length};
 ghost use Rattle.report.specs.Report.{refused_line};
 
-use libc::STDOUT_FILENO;
 use report_line::write_refused;
 
 // Whether the whole text was written.
-pub fn print(text: &[u8], printed: &mut usize) -> bool
+pub fn print(rt: &(impl Print + Eprint), text: &[u8], printed: &mut usize) -> bool
     requires { printed.old + length text.now < 18_446_744_073_709_551_616 }
     ensures { result ≡ true → printed.new ≡ printed.old + length text.now }
 {
-    if io::write_all(STDOUT_FILENO, text) {
-        *printed = *printed + text.len();
-        return true;
+    match rt.write_all(text) {
+        Ok(()) => {
+            *printed = *printed + text.len();
+            true
+        }
+        Err(error) => {
+            let _ = eprintln!(rt; "standard output: {error}");
+            false
+        }
     }
-    os::fail(b"standard output");
-    false
 }
 
 // Prints the line `refused N`.
-pub fn refused(number: u32, printed: &mut usize) -> bool
+pub fn refused(rt: &(impl Print + Eprint), number: u32, printed: &mut usize) -> bool
     requires { printed.old ≡ 0 }
     ensures { result ≡ true → printed.new ≡ length (refused_line number) }
 {
     let mut buf = [0u8; 64];
     let end = write_refused(number, &mut buf, 0);
-    print(&buf[..end], printed)
+    print(rt, &buf[..end], printed)
 }

@@ -1,0 +1,79 @@
+-- The last 16 bytes and the length tell what the first edition refuses (`head-refused`), and of what it does not refuse
+-- so the whole input tells which edition it is; it is no longer than `start`, so it is held whole.
+use Rattle.std.proofs.Common.{◌≡◌, ◌≤◌, ◌∙◌, ap, sym, refl, ℕ, List, length, arith}
+use Rattle.std.proofs.Math.Seq.{length-take-le}
+use Rattle.model.specs.Checks.{first}
+use Rattle.book.specs.Answers.{sizes_answer}
+use Rattle.book.specs.BookChecks.{head_checks}
+use Rattle.sparse_layout.specs.SparseChecks.{sparse_fault}
+use Rattle.convert.specs.Answers.{answer_bytes}
+use Rattle.convert.specs.Output.{first_edition, sparse_edition}
+use Rattle.convert.proofs.ConvertLaws.{accepted-input, first-framed, first-input, head_passed, head-refused, held_whole, long-input, not-sparse, other-edition, sparse-input}
+use Rattle.convert.proofs.conversion.convert.Goals as goal
+
+pub returns-then-number-ne-OTHER_EDITION-clause-bytes : goal.returns-then-number-ne-OTHER_EDITION-clause-bytes
+unfolding answer_bytes sizes_answer
+returns-then-number-ne-OTHER_EDITION-clause-bytes c = λ bs h.
+    let r = head-refused bs c.in-Refused.number (c.in-Refused.ensures.right bs h.size h.end) in
+    r.2 ∙ sym (not-sparse bs r.1 (λ e. c.if-number-ne-OTHER_EDITION.true (r.0 ∙ e)))
+
+pub returns-then-len-gt-MAX_SPARSE-clause-bytes : goal.returns-then-len-gt-MAX_SPARSE-clause-bytes
+unfolding answer_bytes sizes_answer
+returns-then-len-gt-MAX_SPARSE-clause-bytes c = λ bs h.
+    let r = head-refused bs c.in-Refused.number (c.in-Refused.ensures.right bs h.size h.end) in
+    r.2 ∙ sym (long-input bs (omega (arith, h.size, c.if-len-gt-MAX_SPARSE.true)))
+
+pub first_edition-requires : goal.first_edition-requires
+unfolding sizes_answer
+first_edition-requires c =
+    let h = c.requires.by_index in
+    let r = head-refused h.0 c.in-Refused.number (c.in-Refused.ensures.right h.0 h.1.size h.1.end) in
+    let w = held_whole h.1 (omega arith) in
+    (other-edition _ (ap (λ (bs : List ℕ). first (head_checks bs)) w ∙ sym r.0 ∙ c.if-number-ne-OTHER_EDITION.false), c.requires.max_sparse_value.1)
+
+pub returns-in-Refused-clause-bytes : goal.returns-in-Refused-clause-bytes
+unfolding sizes_answer
+returns-in-Refused-clause-bytes c = λ bs h.
+    let r = head-refused bs c.in-Refused.number (c.in-Refused.ensures.right bs h.size h.end) in
+    c.first_edition.ensures.bytes
+    ∙ ap first_edition (held_whole h (omega arith))
+    ∙ sym (sparse-input bs (sym r.0 ∙ c.if-number-ne-OTHER_EDITION.false) (omega (arith, h.size, c.if-len-gt-MAX_SPARSE.false)))
+
+-- the sizes are accepted, so the input is as long as a book of the first edition
+pub slice_bounds-book-end : goal.slice_bounds-book-end
+unfolding sizes_answer
+slice_bounds-book-end c =
+    let s = c.in_default.ensures.sized c.in_default.field-0 c.in_default.field-1 refl in
+    sym (length-take-le _ _ (omega (arith, s.short, c.requires.max_sparse_value.0)))
+
+pub first_edition-requires-then-sparse_fault-eq0 : goal.first_edition-requires-then-sparse_fault-eq0
+unfolding sizes_answer
+first_edition-requires-then-sparse_fault-eq0 c =
+    let h = c.requires.by_index in
+    let s = c.in_default.ensures.sized c.in_default.field-0 c.in_default.field-1 refl in
+    let within : c.args.len ≤ length c.args.start.now = omega (arith, s.short, c.requires.max_sparse_value.0) in
+    let passed = head_passed h.0 _ _ (c.in_default.ensures.right h.0 h.1.size h.1.end) in
+    (rw (held_whole h.1 within) (first-framed h.0 passed), c.requires.max_sparse_value.1)
+
+pub returns-then-sparse_fault-eq0-clause-bytes : goal.returns-then-sparse_fault-eq0-clause-bytes
+unfolding sizes_answer
+returns-then-sparse_fault-eq0-clause-bytes c = λ bs h.
+    let s = c.in_default.ensures.sized c.in_default.field-0 c.in_default.field-1 refl in
+    let within : c.args.len ≤ length c.args.start.now = omega (arith, s.short, c.requires.max_sparse_value.0) in
+    let w = held_whole h within in
+    let accepted = ap sparse_fault (sym w) ∙ sym c.sparse_fault.ensures ∙ c.if-sparse_fault-eq0.true in
+    c.first_edition-then-sparse_fault-eq0.ensures.bytes
+    ∙ ap first_edition w
+    ∙ sym (accepted-input bs accepted (omega (arith, h.size, within, c.requires.max_sparse_value.0)))
+
+pub returns-clause-bytes : goal.returns-clause-bytes
+unfolding sizes_answer
+returns-clause-bytes c = λ bs h.
+    let s = c.in_default.ensures.sized c.in_default.field-0 c.in_default.field-1 refl in
+    let within : c.args.len ≤ length c.args.start.now = omega (arith, s.short, c.requires.max_sparse_value.0) in
+    let w = held_whole h within in
+    let passed = head_passed bs _ _ (c.in_default.ensures.right bs h.size h.end) in
+    let faulty = λ (z : sparse_fault bs ≡ 0). c.if-sparse_fault-eq0.false (c.sparse_fault.ensures ∙ ap sparse_fault w ∙ z) in
+    c.sparse_edition.ensures.bytes
+    ∙ ap sparse_edition w
+    ∙ sym (first-input bs faulty (λ e. let z : ⊥ = omega (arith, passed, e) in z))
