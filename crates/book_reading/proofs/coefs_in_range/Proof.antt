@@ -1,4 +1,4 @@
--- `book_reading::coefs_in_range`: the loop makes the test of each row, and one that fails decides (`inRange-joined`).
+-- `book_reading::coefs_in_range`: the loop makes the test of each row, and one that fails decides (`in_range-joined`).
 -- Assumes nothing.
 use Prim.Native.Nat.{◌*◌, ◌+◌, ◌-◌, ◌≤◌, ℕ}
 use lib.ListN.{length}
