@@ -137,7 +137,7 @@ module _ (c : tie.After-next_row-r-in-loop-r invariant-loop decreases-loop) wher
 
 loop-again : tie.Need-loop-r-preserved invariant-loop decreases-loop
 loop-again c =
-    ⊎_elim (λ w. next c (inl (w.moved-is.given.1, w.3))) (λ w. next c {x = 0} (inr (w.1.given.1, w.2))) c.match-propagate_row_prepared.branch-raw
+    ⊎_elim (λ w. next c (inl (w.in-Tightened.is, w.moved-is))) (λ w. next c {x = 0} (inr (w.in-Unchanged.is, w.moved-is))) c.match-propagate_row_prepared.branch-raw
 
 same-length-5 : tie.Need-shape_of-bounds invariant-loop decreases-loop
 same-length-5 c = c.loop-r.invariant.box_len
