@@ -11,8 +11,8 @@ use Rattle.integer.proofs.Tests.{eqb-test, test-false, test-true, told-false, to
 use Rattle.prepared_model.specs.Layout.{is_ours, variables_of}
 use Rattle.prepared_model.proofs.OursLaws.{ours-is}
 use Rattle.prepared_checks.specs.Checks.{reasons_fit}
-use Rattle.prepared_checks.proofs.ranges.Statement.{statement}
-use Rattle.prepared_checks.proofs.ranges.Tie as tie
+use Rattle.prepared_checks.proofs.fits.Statement.{statement}
+use Rattle.prepared_checks.proofs.fits.Tie as tie
 
 is-ours-requires : tie.Need-is_ours-requires
 is-ours-requires c κs = search rules

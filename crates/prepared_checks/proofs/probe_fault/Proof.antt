@@ -49,11 +49,11 @@ module _ (c : tie.Else-not-is_ours) where
   abbrev n : ℕ
   n = variables_of W
 
-  is_ours : is_ours W ≡ true
-  is_ours = told-true _ c.is_ours.ensures c.if-not-is_ours.false-raw
+  is_ours_lem : is_ours W ≡ true
+  is_ours_lem = told-true _ c.is_ours.ensures c.if-not-is_ours.false-raw
 
   ours : Ours W
-  ours = ours-is is_ours
+  ours = ours-is is_ours_lem
 
   square : n * n ≤ 16_384
   square = let a = mul-le-mul_right n ours.few in omega (arith, ours.few)
@@ -71,7 +71,7 @@ returns-2 : tie.Need-returns-then-bounds-n
 unfolding probe_fault prepared_probe_checks lent_checks
 returns-2 c =
     let e = c.before.before in
-    past _ 5 _ (is_ours e) (fails (eqb (length (B e)) (2 * n e)) 5 _ (test-false _ (eqb-test (length (B e)) (2 * n e)) c.if-bounds-n.true))
+    past _ 5 _ (is_ours_lem e) (fails (eqb (length (B e)) (2 * n e)) 5 _ (test-false _ (eqb-test (length (B e)) (2 * n e)) c.if-bounds-n.true))
 
 mul-if3 : tie.Need-overflow_mul-n-2
 mul-if3 c = omega (arith, square c.before.before)
@@ -88,7 +88,7 @@ unfolding probe_fault prepared_probe_checks lent_checks
 returns-3 c =
     let d = c.before in
     let e = d.before.before in
-    past _ 5 _ (is_ours e) (past (eqb (length (B e)) (2 * n e)) 5 _ (fits-box d)
+    past _ 5 _ (is_ours_lem e) (past (eqb (length (B e)) (2 * n e)) 5 _ (fits-box d)
     (fails (eqb (length (t e)) (4 * (n e * n e))) 5 _ (test-false _ (eqb-test (length (t e)) (4 * (n e * n e))) c.if-table-n.true)))
 
 -- and 4n² bytes
@@ -103,7 +103,7 @@ unfolding probe_fault prepared_probe_checks lent_checks
 returns-4 c =
     let d = c.before.before in
     let e = d.before.before.before in
-    past _ 5 _ (is_ours e) (past (eqb (length (B e)) (2 * n e)) 5 _ (fits-box d.before) (past (eqb (length (t e)) (4 * (n e * n e))) 5 _ (fits-table d)
+    past _ 5 _ (is_ours_lem e) (past (eqb (length (B e)) (2 * n e)) 5 _ (fits-box d.before) (past (eqb (length (t e)) (4 * (n e * n e))) 5 _ (fits-table d)
     (fails (sides_fit (n e) (R e)) 5 _ (told-false _ c.sides_fit.ensures c.if-not-sides_fit.true-raw))))
 
 -- and 0 or 4n reasons: the checks of lengths are passed
@@ -119,7 +119,7 @@ module _ (c : tie.Else-not-sides_fit) where
       → r ≡ probe_fault (W else1) (B else1) (t else1) (R else1) s.variable s.budget
   unfolding probe_fault prepared_probe_checks lent_checks
   passed h =
-      past _ 5 _ (is_ours else1) (past (eqb (length (B else1)) (2 * n else1)) 5 _ (fits-box else3.before)
+      past _ 5 _ (is_ours_lem else1) (past (eqb (length (B else1)) (2 * n else1)) 5 _ (fits-box else3.before)
       (past (eqb (length (t else1)) (4 * (n else1 * n else1))) 5 _ (fits-table else3)
       (past (sides_fit (n else1) (R else1)) 5 _ (told-true _ c.sides_fit.ensures c.if-not-sides_fit.false-raw) h)))
 

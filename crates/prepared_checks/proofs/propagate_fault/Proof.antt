@@ -20,7 +20,7 @@ fits-requires c κs = search rules
 
 returns : tie.Need-returns-then-not-fits
 unfolding propagate_fault propagate_checks
-returns c = fails _ 5 _ (told-false _ c.before.fits2.ensures c.if-not-fits.true-raw)
+returns c = fails _ 5 _ (told-false _ c.before.fits.ensures c.if-not-fits.true-raw)
 
 -- all that is lent fits
 module _ (c : tie.Else-not-fits) where
@@ -34,7 +34,7 @@ module _ (c : tie.Else-not-fits) where
   B = s.args.bounds.now
 
   ours : Ours s.args.ws.now
-  ours = fits-ours s.args.ws.now B s.args.reasons.now (told-true _ c.before.fits2.ensures c.if-not-fits.false-raw)
+  ours = fits-ours s.args.ws.now B s.args.reasons.now (told-true _ c.before.fits.ensures c.if-not-fits.false-raw)
 
 shared-slice-read-box-fault : tie.Need-bounds-ws-1
 shared-slice-read-box-fault c = omega (arith, (ours c.before).len)
@@ -49,7 +49,7 @@ returns-2 : tie.Need-returns-then-fault-ne0
 unfolding propagate_fault propagate_checks
 returns-2 c =
     let e = c.before.before.before in
-    past _ 5 _ (told-true _ e.before.fits2.ensures e.if-not-fits.false-raw)
+    past _ 5 _ (told-true _ e.before.fits.ensures e.if-not-fits.false-raw)
     (stops (box_checks (n e) (B e)) (budget_checks (s e).args.budget) c.box_fault-fault.ensures c.if-fault-ne0.true)
 
 budget-fault-requires : tie.Need-budget_fault-requires
@@ -60,7 +60,7 @@ unfolding propagate_fault propagate_checks box_checks
 returns-3 c =
     let d = c.before in
     let e = d.before.before.before in
-    past _ 5 _ (told-true _ e.before.fits2.ensures e.if-not-fits.false-raw)
+    past _ 5 _ (told-true _ e.before.fits.ensures e.if-not-fits.false-raw)
     (goes (box_checks (n e) (B e)) (budget_checks (s e).args.budget) tt d.box_fault-fault.ensures d.if-fault-ne0.false c.budget_fault.ensures)
 
 pub propagate_fault_spec : {M : Type 1} → statement M

@@ -167,12 +167,12 @@ module _ (c : tie.After-propagate_row_marked invariant-rows decreases-rows invar
 
   -- one that is feasible leaves all ready for the next
   row-ready : T (not (is_infeasible (propagate_row_of (n h) its (P row)).outcome)) →
-      let q = c.propagate_row_marked.new.across.1.1.1.1.1.1 in
-      Ready (n h) (m h) (A h) (B h) h.passes.across h.passes.signs h.passes.seen h.passes.marks Q q.0 q.1.0 q.1.1.0 q.1.1.1.0
+      let q = c.propagate_row_marked.new in
+      Ready (n h) (m h) (A h) (B h) h.passes.across h.passes.signs h.passes.seen h.passes.marks Q q.across q.signs q.seen q.marks
   row-ready f =
-      let l = c.propagate_row_marked.auto.1.1 in
+      let l = c.propagate_row_marked.auto in
       ready-row its row.rows.invariant.2 left f c.propagate_row_marked.ensures.1
-      l.0 l.1.1.1.1.1.0 l.1.1.1.1.1.1.0 l.1.1.1.1.1.1.1.0 l.1.1.1.1.1.1.1.1.0
+      l.bounds l.across l.signs l.seen l.marks
 
   -- and the pass so far, with it
   one-row : {k now : ℕ} → ((c.propagate_row_marked.result ≡ Tightened k) × (now ≡ row.rows.tally.moved + k))
@@ -204,13 +204,13 @@ module _ (c : tie.Joined-propagate_row_marked invariant-rows decreases-rows inva
   k = (row d).before
 
   feasible : T (not (is_infeasible (propagate_row_of (n (h d)) (its d) (P (row d))).outcome))
-  feasible = ⊎_elim (λ w. tightened _ (Q d) (heard d) w.add-tally.given.1) (λ w. (unmoved _ (Q d) (heard d) w.1.given.1).0) c.match-propagate_row_marked.branch-raw
+  feasible = ⊎_elim (λ w. tightened _ (Q d) (heard d) w.in-Tightened.is) (λ w. (unmoved _ (Q d) (heard d) w.in-Unchanged.is).0) c.match-propagate_row_marked.branch-raw
 
   counted : PassIs (n (h d)) (r (row d) + 1) (A (h d)) (B (h d)) (before (h d)) false c.match-propagate_row_marked.tally.moved (Q d)
   counted =
       ⊎_elim
-      (λ w. one-row d (inl (w.add-tally.given.1, ap (λ t. t.moved) w.4 ∙ w.3.ensures)))
-      (λ w. one-row d {k = 0} (inr (w.1.given.1, ap (λ t. t.moved) w.2)))
+      (λ w. one-row d (inl (w.in-Tightened.is, ap (λ t. t.moved) w.tally-is ∙ w.add-tally.ensures)))
+      (λ w. one-row d {k = 0} (inr (w.in-Unchanged.is, ap (λ t. t.moved) w.tally-is)))
       c.match-propagate_row_marked.branch-raw
 
 add-next-row : tie.Need-overflow_add-r invariant-rows decreases-rows invariant-passes decreases-passes
@@ -323,42 +323,42 @@ met c =
     let some = (s q).requires.0.some in
     ⊎_elim
     (λ w. record {
-      answer = after_is (n q) (m q) (A q) w.6 (ap (λ t. t.moved) w.7) w.1 ∙ rw (non_empty-isn't some y.non_empty)
-          (sym (whole q ∙ passes-made (budget q) (made q) (before q) (n q) (m q) (A q) (B q) w.0.false q.passes.invariant.1));
-      box = valid-is w.1 y.box;
-      watched = watched-is w.1 w.2 w.3 w.4 w.5 y.watched;
-      box_len = ap length w.1 ∙ y.box_len;
-      across_len = ap length w.2 ∙ y.across_len;
-      signs_len = ap length w.3 ∙ y.signs_len;
-      seen_len = ap length w.4 ∙ y.seen_len;
-      marks_len = ap length w.5 ∙ y.marks_len;
+      answer = after_is (n q) (m q) (A q) w.passes-is (ap (λ t. t.moved) w.tally-is) w.bounds-is ∙ rw (non_empty-isn't some y.non_empty)
+          (sym (whole q ∙ passes-made (budget q) (made q) (before q) (n q) (m q) (A q) (B q) w.passes-test.false q.passes.invariant.1));
+      box = valid-is w.bounds-is y.box;
+      watched = watched-is w.bounds-is w.across-is w.signs-is w.seen-is w.marks-is y.watched;
+      box_len = ap length w.bounds-is ∙ y.box_len;
+      across_len = ap length w.across-is ∙ y.across_len;
+      signs_len = ap length w.signs-is ∙ y.signs_len;
+      seen_len = ap length w.seen-is ∙ y.seen_len;
+      marks_len = ap length w.marks-is ∙ y.marks_len;
     })
     (λ w.
-    let i : tie.In-rows invariant-rows decreases-rows invariant-passes decreases-passes = record { before = record { before = record { before = record { before = record { before = q; passes-test = w.0 }; next-row-arg = w.1 }; next_row = w.2 }; rows = w.3 }; rows-test = w.4 } in
+    let i : tie.In-rows invariant-rows decreases-rows invariant-passes decreases-passes = record { before = record { before = record { before = record { before = q; passes-test = w.passes-test }; next_row-r = w.next_row-r }; rows = w.rows }; rows-test = w.rows-test } in
     let d : tie.After-propagate_row_marked invariant-rows decreases-rows invariant-passes decreases-passes = record {
       before = record {
         before = record {
-          before = record { before = record { before = record { before = i; propagate-row-marked-arg = w.5 }; propagate-row-marked-arg2 = w.6 }; propagate-row-marked-arg3 = w.7 };
-          propagate-row-marked-arg4 = w.8;
+          before = record { before = record { before = record { before = i; propagate_row_marked-arg-1 = w.propagate_row_marked-arg-1 }; propagate_row_marked-arg-in-rows-1 = w.propagate_row_marked-arg-in-rows-1 }; propagate_row_marked-arg-in-rows-2-1 = w.propagate_row_marked-arg-in-rows-2-1 };
+          propagate_row_marked-arg-in-rows-3-1 = w.propagate_row_marked-arg-in-rows-3-1;
         };
-        propagate-row-marked-arg5 = w.9;
+        propagate_row_marked-arg-in-rows-4-1 = w.propagate_row_marked-arg-in-rows-4-1;
       };
-      propagate-row-marked = w.10;
+      propagate_row_marked = w.propagate_row_marked;
     } in
-    let z = ready-trans y w.3.invariant.2 in
-    let k = w.10.kept in
-    let e = row-infeasible (n q) (r (row d)) (A q) (B q) (before q) _ (Q d) w.3.invariant.1 (heard d) (m q) w.4.true w.20.given.1 in
-    let empty = left d ∙ kinded-infeasible-box (n q) (its d) (P (row d)) (broken _ (Q d) (heard d) w.20.given.1) in
+    let z = ready-trans y w.rows.invariant.2 in
+    let k = w.propagate_row_marked.auto in
+    let e = row-infeasible (n q) (r (row d)) (A q) (B q) (before q) _ (Q d) w.rows.invariant.1 (heard d) (m q) w.rows-test.true w.in-Infeasible.is in
+    let empty = left d ∙ kinded-infeasible-box (n q) (its d) (P (row d)) (broken _ (Q d) (heard d) w.in-Infeasible.is) in
     record {
-      answer = after_is (n q) (m q) (A q) w.26 (ap (λ t. t.moved) w.27) w.21 ∙ rw (empty-is (n q) (Q d) empty)
-          (sym (whole q ∙ pass-infeasible (budget q) (made q) (before q) (n q) (m q) (A q) (B q) w.0.true q.passes.invariant.1 e));
-      box = valid-is (w.21 ∙ left d) (kinded-valid (its d) w.3.invariant.2.box);
-      watched = watched-is w.21 w.22 w.23 w.24 w.25 w.10.ensures.1;
-      box_len = ap length w.21 ∙ k.1.1.0 ∙ z.box_len;
-      across_len = ap length w.22 ∙ k.1.1.1.1.1.1.1.0 ∙ z.across_len;
-      signs_len = ap length w.23 ∙ k.1.1.1.1.1.1.1.1.0 ∙ z.signs_len;
-      seen_len = ap length w.24 ∙ k.1.1.1.1.1.1.1.1.1.0 ∙ z.seen_len;
-      marks_len = ap length w.25 ∙ k.1.1.1.1.1.1.1.1.1.1.0 ∙ z.marks_len;
+      answer = after_is (n q) (m q) (A q) w.passes-is (ap (λ t. t.moved) w.tally-is) w.bounds-is ∙ rw (empty-is (n q) (Q d) empty)
+          (sym (whole q ∙ pass-infeasible (budget q) (made q) (before q) (n q) (m q) (A q) (B q) w.passes-test.true q.passes.invariant.1 e));
+      box = valid-is (w.bounds-is ∙ left d) (kinded-valid (its d) w.rows.invariant.2.box);
+      watched = watched-is w.bounds-is w.across-is w.signs-is w.seen-is w.marks-is w.propagate_row_marked.ensures.1;
+      box_len = ap length w.bounds-is ∙ k.bounds ∙ z.box_len;
+      across_len = ap length w.across-is ∙ k.across ∙ z.across_len;
+      signs_len = ap length w.signs-is ∙ k.signs ∙ z.signs_len;
+      seen_len = ap length w.seen-is ∙ k.seen ∙ z.seen_len;
+      marks_len = ap length w.marks-is ∙ k.marks ∙ z.marks_len;
     })
     c.passes-test.branch-raw
 
