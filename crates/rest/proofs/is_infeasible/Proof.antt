@@ -8,15 +8,15 @@ use Rattle.probe_side.proofs.SideLaws.{is_some}
 use Rattle.rest.proofs.is_infeasible.Statement.{statement}
 use Rattle.rest.proofs.is_infeasible.Tie as tie
 
-enum_told : tie.Need-enum-told
+enum_told : tie.Need-enum_told-1
 enum_told c = search rules
 
-returns : tie.Need-returns
-returns c = sym (is_some c.before.args.p [] c.match.keys2)
+returns : tie.Need-returns-in_default
+returns c = sym (is_some c.args.p [] c.in_default.in_default-own.keys2)
 
-returns-2 : tie.Need-returns-2
+returns-2 : tie.Need-returns
 unfolding propagation_of is_none
-returns-2 c = rw c.enum_told.given.1
+returns-2 c = rw c.in-Infeasible.is
 
-pub is-infeasible-spec : {M : Type 1} → statement M
-is-infeasible-spec = tie.close (tie.spec enum_told returns returns-2)
+pub is_infeasible_spec : {M : Type 1} → statement M
+is_infeasible_spec = tie.close (tie.spec enum_told returns returns-2)

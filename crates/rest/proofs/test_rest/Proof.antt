@@ -17,72 +17,72 @@ abbrev rows : tie.Start → Rows
 rows s = let a = s.args in rows_of a.coefs.now a.rhs.now a.kinds.now
 
 -- the test of the empty box
-module _ (c : tie.After-is-empty) where
+module _ (c : tie.After-is_empty) where
   abbrev s : tie.Start
   s = c.before.before
 
-  empty-is : c.is-empty.result ≡ is_empty s.args.n s.args.bounds.now
-  empty-is = c.is-empty.ensures _ s.pre.some s.pre.box
+  empty-is : c.is_empty.result ≡ is_empty s.args.n s.args.bounds.now
+  empty-is = c.is_empty.ensures _ s.requires.some s.requires.box
 
-some : (c : tie.Else1) → is_empty (s c.before).args.n (s c.before).args.bounds.now ≡ false
-some c = sym (empty-is c.before) ∙ c.if1.false
+some : (c : tie.Else-is_empty) → is_empty (s c.before).args.n (s c.before).args.bounds.now ≡ false
+some c = sym (empty-is c.before) ∙ c.if-is_empty.false
 
-is-empty-requires : tie.Need-is-empty-requires
+is-empty-requires : tie.Need-is_empty-requires
 is-empty-requires c κs = search rules
 
-returns : tie.Need-returns
+returns : tie.Need-returns-then-is_empty
 unfolding rest_answer_of
 returns c =
     let a = (s c.before).args in
-    rest-empty a.n a.m (rows (s c.before)) a.bounds.now (sym (empty-is c.before) ∙ c.if1.true)
+    rest-empty a.n a.m (rows (s c.before)) a.bounds.now (sym (empty-is c.before) ∙ c.if-is_empty.true)
 
-slice-aggregate-first-moving : tie.Need-slice-aggregate-first-moving
+slice-aggregate-first-moving : tie.Need-slice_bounds-first_moving-end
 slice-aggregate-first-moving c = search rules
 
-first-moving-requires : tie.Need-first-moving-requires
+first-moving-requires : tie.Need-first_moving-r-requires
 first-moving-requires c κs =
-    let p = (s c.before.before).pre in
+    let p = (s c.before.before).requires in
     let k = marked-none p in
     (p, (valid-non_empty p.box (false→T _ (some c.before)), k.clean, omega (arith, p.few_rows, k.len)))
 
-cast-t14 : tie.Need-overflow-cast-t14
+cast-t14 : tie.Need-overflow_cast-result
 cast-t14 c = search rules
 
-returns-2 : tie.Need-returns-2
+returns-2 : tie.Need-returns-then-r-m
 unfolding rest_answer_of
 returns-2 c =
     let o = c.before.before.before in
     let a = (s o.before).args in
-    rest-by-row a.n a.m (rows (s o.before)) a.bounds.now (some o) c.before.first-moving.ensures c.if2.true
+    rest-by-row a.n a.m (rows (s o.before)) a.bounds.now (some o) c.first_moving-r.ensures c.if-r-m.true
 
-first-unspanned-requires : tie.Need-first-unspanned-requires
+first-unspanned-requires : tie.Need-first_unspanned-k-requires
 first-unspanned-requires c κs =
     let o = c.before.before.before in
-    let p = (s o.before).pre in
-    let e = c.before.first-moving.ensures in
-    (p, (valid-non_empty p.box (false→T _ (some o)), omega (arith, c.if2.false)))
+    let p = (s o.before).requires in
+    let e = c.first_moving-r.ensures in
+    (p, (valid-non_empty p.box (false→T _ (some o)), omega (arith, c.if-r-m.false)))
 
-cast-t15 : tie.Need-overflow-cast-t15
+cast-t15 : tie.Need-overflow_cast-result-then-k-n
 cast-t15 c = search rules
 
-returns-3 : tie.Need-returns-3
+returns-3 : tie.Need-returns-then-k-n
 unfolding rest_answer_of
 returns-3 c =
     let o = c.before.before.before.before.before in
     let a = (s o.before).args in
-    rest-by-variable a.n a.m (rows (s o.before)) a.bounds.now (some o) c.before.before.before.first-moving.ensures c.before.before.if2.false
-    c.before.first-unspanned.ensures c.if3.true
+    rest-by-variable a.n a.m (rows (s o.before)) a.bounds.now (some o) c.first_moving-r.ensures c.if-r-m.false
+    c.first_unspanned-k.ensures c.if-k-n.true
 
-returns-4 : tie.Need-returns-4
+returns-4 : tie.Need-returns
 unfolding rest_answer_of
 returns-4 c =
     let o = c.before.before.before.before.before in
     let a = (s o.before).args in
-    rest-found-none a.n a.m (rows (s o.before)) a.bounds.now (some o) c.before.before.before.first-moving.ensures c.before.before.if2.false
-    c.before.first-unspanned.ensures c.if3.false
+    rest-found-none a.n a.m (rows (s o.before)) a.bounds.now (some o) c.first_moving-r.ensures c.if-r-m.false
+    c.first_unspanned-k.ensures c.if-k-n.false
 
-pub test-rest-spec : {M : Type 1} → statement M
-test-rest-spec =
+pub test_rest_spec : {M : Type 1} → statement M
+test_rest_spec =
     tie.close
     (tie.spec
     is-empty-requires

@@ -33,148 +33,148 @@ module _ (s : tie.Start) where
   one = take len s.args.one.now
 
   length-zero : length zero ≡ len
-  length-zero = length-take-le len s.args.zero.now (omega (arith, s.pre))
+  length-zero = length-take-le len s.args.zero.now (omega (arith, s.requires))
 
   length-one : length one ≡ len
-  length-one = length-take-le len s.args.one.now (omega (arith, s.pre))
+  length-one = length-take-le len s.args.one.now (omega (arith, s.requires))
 
   some : 0 < n
-  some = omega (arith, s.pre.variable)
+  some = omega (arith, s.requires.variable)
 
   valid : ValidBox n zero
-  valid = rw s.pre.box_len s.pre.valid0
+  valid = rw s.requires.box_len s.requires.valid0
 
   empty-none : is_empty n zero ≡ is_none (propagation_of s.args.s0 zero).ending
-  empty-none = rw s.pre.box_len (sym s.pre.none0)
+  empty-none = rw s.requires.box_len (sym s.requires.none0)
 
-side-of-requires : tie.Need-side-of-requires
+side-of-requires : tie.Need-side_of-side0-requires
 side-of-requires c κs = search rules
 
-side-of-requires-2 : tie.Need-side-of-requires-2
+side-of-requires-2 : tie.Need-side_of-side1-requires
 side-of-requires-2 c κs = search rules
 
-enum_told : tie.Need-enum-told
+enum_told : tie.Need-enum_told-1
 enum_told c = search rules
 
-enum-told-2 : tie.Need-enum-told-2
+enum-told-2 : tie.Need-enum_told-in_default
 enum-told-2 c = search rules
 
-slice-aggregate-record-implications : tie.Need-slice-aggregate-record-implications
-slice-aggregate-record-implications c = sym (length-zero c.before.before.before.before.before.before.before)
+slice-aggregate-record-implications : tie.Need-slice_bounds-record_implications-end
+slice-aggregate-record-implications c = sym (length-zero c.before.before.before.before.before)
 
-slice-aggregate-record-implications-2 : tie.Need-slice-aggregate-record-implications-2
-slice-aggregate-record-implications-2 c = sym (length-one c.before.before.before.before.before.before.before.before)
+slice-aggregate-record-implications-2 : tie.Need-slice_bounds-record_implications-end-in_default-s1
+slice-aggregate-record-implications-2 c = sym (length-one c.before.before.before.before.before)
 
-record-implications-requires : tie.Need-record-implications-requires
+record-implications-requires : tie.Need-record_implications-added-requires
 record-implications-requires c κs =
-    let s = c.before.before.before.before.before.before.before.before.before in
+    let s = c.before.before.before.before.before.before in
     let p = s.requires in
     (record { few = p.few; variable = p.variable; other = some s; len = p.table.len }, (p.box_len, (length-zero s ∙ p.box_len, length-one s ∙ p.box_len)))
 
-slice-aggregate-hull : tie.Need-slice-aggregate-hull
-slice-aggregate-hull c = sym (length-zero c.before.before.before.before.before.before.before.before.before.before.before.before.before)
+slice-aggregate-hull : tie.Need-slice_bounds-hull-end
+slice-aggregate-hull c = sym (length-zero c.before.before.before.before.before.before.before.before.before)
 
-slice-aggregate-hull-2 : tie.Need-slice-aggregate-hull-2
-slice-aggregate-hull-2 c = sym (length-one c.before.before.before.before.before.before.before.before.before.before.before.before.before.before)
+slice-aggregate-hull-2 : tie.Need-slice_bounds-hull-end-in_default-s1
+slice-aggregate-hull-2 c = sym (length-one c.before.before.before.before.before.before.before.before.before)
 
 hull-requires : tie.Need-hull-requires
 hull-requires c κs =
-    let s = c.before.before.before.before.before.before.before.before.before.before.before.before.before.before.before in
+    let s = c.before.before.before.before.before.before.before.before.before.before in
     (length-zero s, length-one s)
 
-same_length : tie.Need-same-length
+same_length : tie.Need-shape_of-bounds-in_default-s1
 same_length c = search rules
 
-same-length-2 : tie.Need-same-length-2
+same-length-2 : tie.Need-shape_of-table-in_default-s1
 same-length-2 c = search rules
 
-returns : tie.Need-returns
+returns : tie.Need-returns-in_default-s1
 returns c =
-    let r = c.before.before.before.before.before.before.before in
-    let m = r.before.before.before.before.before in
+    let r = c.before.before.before.before.before in
+    let m = r.before.before in
     let o = m.before.before in
     let s = o.before.before.before in
     let a = s.args in
     rw (← s.requires.box_len)
-    (joins-both a.n a.k a.bounds.now a.table.now a.s0 a.s1 (zero s) (one s) _ _ o.before.side-of.ensures o.side-of2.ensures
-    (is_some a.s0 (zero s) m.before.match.keys2) (is_some a.s1 (one s) m.match2.keys2)
-    (c.before.hull.ensures a.n s.requires.box_len) r.record-implications.ensures)
+    (joins-both a.n a.k a.bounds.now a.table.now a.s0 a.s1 (zero s) (one s) _ _ o.side_of-side0.ensures o.side_of-side1.ensures
+    (is_some a.s0 (zero s) m.in_default.in_default-own.keys2) (is_some a.s1 (one s) m.in_default-s1.in_default-s1-own.keys2)
+    (c.hull.ensures a.n s.requires.box_len) r.record_implications-added.ensures)
 
 -- the part that survivor returns, by which side is infeasible
-survives-zero : (c : tie.After-survivor) → c.survivor.result.now ≡ zero c.before.before.before.before.before.before.before
+survives-zero : (c : tie.After-survivor) → c.survivor.result.now ≡ zero c.before.before.before.before.before.before
 survives-zero c =
-    let s = c.before.before.before.before.before.before.before in
+    let s = c.before.before.before.before.before.before in
     c.survivor.ensures (n s) (some s) (valid s)
-    ∙ ap (λ b. cond b (one s) (zero s)) (empty-none s ∙ is_some s.args.s0 (zero s) c.before.before.before.match.keys2)
+    ∙ ap (λ b. cond b (one s) (zero s)) (empty-none s ∙ is_some s.args.s0 (zero s) c.in_default.in_default-own.keys2)
 
-survives-one : (c : tie.After-survivor2) → c.survivor2.result.now ≡ one c.before.before.before.before.before.before.before
+survives-one : (c : tie.After-survivor-in_default-s1-2) → c.survivor-in_default-s1-2.result.now ≡ one c.before.before.before.before.before.before
 survives-one c =
-    let s = c.before.before.before.before.before.before.before in
-    c.survivor2.ensures (n s) (some s) (valid s)
-    ∙ ap (λ b. cond b (one s) (zero s)) (empty-none s ∙ is-none (zero s) c.before.before.enum_told.given.1)
+    let s = c.before.before.before.before.before.before in
+    c.survivor-in_default-s1-2.ensures (n s) (some s) (valid s)
+    ∙ ap (λ b. cond b (one s) (zero s)) (empty-none s ∙ is-none (zero s) c.in-Infeasible.is)
 
 survivor-requires : tie.Need-survivor-requires
 survivor-requires c κs = search rules
 
-copy-box-requires : tie.Need-copy-box-requires
-copy-box-requires c κs = ap length (survives-zero c.before) ∙ length-zero c.before.before.before.before.before.before.before.before
+copy-box-requires : tie.Need-copy_box-requires
+copy-box-requires c κs = ap length (survives-zero c.before) ∙ length-zero c.before.before.before.before.before.before.before
 
-same-length-3 : tie.Need-same-length-3
+same-length-3 : tie.Need-shape_of-bounds-in_default
 same-length-3 c = search rules
 
-returns-2 : tie.Need-returns-2
+returns-2 : tie.Need-returns-in_default
 returns-2 c =
     let v = c.before.before.before in
-    let o = v.before.before.before.before in
+    let o = v.before.before.before in
     let s = o.before.before.before in
     let a = s.args in
     rw (← s.requires.box_len)
-    (joins-zero a.n a.k a.bounds.now a.table.now a.s0 a.s1 (zero s) (one s) _ _ o.before.side-of.ensures o.side-of2.ensures
-    (is_some a.s0 (zero s) v.before.before.before.match.keys2) (is-none (one s) v.before.enum-told2.given.1)
-    (c.before.copy-box.ensures ∙ survives-zero v))
+    (joins-zero a.n a.k a.bounds.now a.table.now a.s0 a.s1 (zero s) (one s) _ _ o.side_of-side0.ensures o.side_of-side1.ensures
+    (is_some a.s0 (zero s) v.in_default.in_default-own.keys2) (is-none (one s) v.in-Infeasible-s1.is)
+    (c.copy_box.ensures ∙ survives-zero v))
 
-enum-told-3 : tie.Need-enum-told-3
+enum-told-3 : tie.Need-enum_told-in-Infeasible-s1-2
 enum-told-3 c = search rules
 
-survivor-requires-2 : tie.Need-survivor-requires-2
+survivor-requires-2 : tie.Need-survivor-requires-in_default-s1-2
 survivor-requires-2 c κs = search rules
 
-copy-box-requires-2 : tie.Need-copy-box-requires-2
-copy-box-requires-2 c κs = ap length (survives-one c.before) ∙ length-one c.before.before.before.before.before.before.before.before
+copy-box-requires-2 : tie.Need-copy_box-requires-in_default-s1-2
+copy-box-requires-2 c κs = ap length (survives-one c.before) ∙ length-one c.before.before.before.before.before.before.before
 
-same-length-4 : tie.Need-same-length-4
+same-length-4 : tie.Need-shape_of-bounds-in_default-s1-2
 same-length-4 c = search rules
 
-returns-3 : tie.Need-returns-3
+returns-3 : tie.Need-returns-in_default-s1-2
 returns-3 c =
     let v = c.before.before.before in
-    let o = v.before.before.before.before in
+    let o = v.before.before.before in
     let s = o.before.before.before in
     let a = s.args in
     rw (← s.requires.box_len)
-    (joins-one a.n a.k a.bounds.now a.table.now a.s0 a.s1 (zero s) (one s) _ _ o.before.side-of.ensures o.side-of2.ensures
-    (is-none (zero s) v.before.before.enum_told.given.1) (is_some a.s1 (one s) v.before.match3.keys2)
-    (c.before.copy-box2.ensures ∙ survives-one v))
+    (joins-one a.n a.k a.bounds.now a.table.now a.s0 a.s1 (zero s) (one s) _ _ o.side_of-side0.ensures o.side_of-side1.ensures
+    (is-none (zero s) v.in-Infeasible.is) (is_some a.s1 (one s) v.in_default-s1-2.in_default-s1-2-own.keys2)
+    (c.copy_box-in_default-s1-2.ensures ∙ survives-one v))
 
-make-empty-requires : tie.Need-make-empty-requires
+make-empty-requires : tie.Need-make_empty-requires
 make-empty-requires c κs = search rules
 
-same-length-5 : tie.Need-same-length-5
+same-length-5 : tie.Need-shape_of-bounds
 same-length-5 c = search rules
 
-returns-4 : tie.Need-returns-4
+returns-4 : tie.Need-returns
 returns-4 c =
     let v = c.before.before.before in
-    let o = v.before.before.before.before in
+    let o = v.before.before in
     let s = o.before.before.before in
     let a = s.args in
     rw (← s.requires.box_len)
-    (joins-none a.n a.k a.bounds.now a.table.now a.s0 a.s1 (zero s) (one s) _ _ o.before.side-of.ensures o.side-of2.ensures
-    (is-none (zero s) v.before.before.enum_told.given.1) (is-none (one s) v.enum-told3.given.1)
-    (c.before.make-empty.ensures a.n s.requires.box_len))
+    (joins-none a.n a.k a.bounds.now a.table.now a.s0 a.s1 (zero s) (one s) _ _ o.side_of-side0.ensures o.side_of-side1.ensures
+    (is-none (zero s) v.in-Infeasible.is) (is-none (one s) v.in-Infeasible-s1-2.is)
+    (c.make_empty.ensures a.n s.requires.box_len))
 
-pub join-spec : {M : Type 1} → statement M
-join-spec =
+pub join_spec : {M : Type 1} → statement M
+join_spec =
     tie.close
     (tie.spec
     side-of-requires

@@ -9,27 +9,27 @@ use Rattle.two_sides.specs.Results.{report_of}
 use Rattle.two_sides.proofs.side_of.Statement.{statement}
 use Rattle.two_sides.proofs.side_of.Tie as tie
 
-enum-known-p : tie.Need-enum-known-p
+enum-known-p : tie.Need-enum_known-p
 enum-known-p c = search rules
 
-enum-known-p-2 : tie.Need-enum-known-p-2
+enum-known-p-2 : tie.Need-enum_known-p-in-Converged-1
 enum-known-p-2 c = search rules
 
-enum-known-p-3 : tie.Need-enum-known-p-3
+enum-known-p-3 : tie.Need-enum_known-p-in-BudgetSpent-1
 enum-known-p-3 c = search rules
 
-returns : tie.Need-returns
+returns : tie.Need-returns-in-Infeasible
 unfolding side_of propagation_of report_of is_spent
-returns c = ap (λ p. side_of (propagation_of p [])) (sym c.before.p.given.1)
+returns c = ap (λ p. side_of (propagation_of p [])) (sym c.in-Infeasible.is)
 
-returns-2 : tie.Need-returns-2
+returns-2 : tie.Need-returns-in-Converged
 unfolding side_of propagation_of report_of is_spent
-returns-2 c = ap (λ p. side_of (propagation_of p [])) (sym c.before.p2.given.1)
+returns-2 c = ap (λ p. side_of (propagation_of p [])) (sym c.in-Converged.is)
 
-returns-3 : tie.Need-returns-3
+returns-3 : tie.Need-returns-in-BudgetSpent
 unfolding side_of propagation_of report_of is_spent
-returns-3 c = ap (λ p. side_of (propagation_of p [])) (sym c.before.p3.given.1)
+returns-3 c = ap (λ p. side_of (propagation_of p [])) (sym c.in-BudgetSpent.is)
 
-pub side-of-spec : {M : Type 1} → statement M
-side-of-spec =
+pub side_of_spec : {M : Type 1} → statement M
+side_of_spec =
     tie.close (tie.spec enum-known-p enum-known-p-2 enum-known-p-3 returns returns-2 returns-3)

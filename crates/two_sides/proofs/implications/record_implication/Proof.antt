@@ -19,76 +19,76 @@ second-byte s = let a = s.args in (2 * a.j + (1 - a.w)) * (2 * a.n) + (2 * a.k +
 first-in : (s : tie.Start) → first_byte s < length s.args.table.now
 first-in s = byte-in s.requires.0 s.args.v s.args.w s.requires.1.0 s.requires.1.1
 
-second-in : (c : tie.After-put) → second-byte c.before.before.before < length c.put.new.0
+second-in : (c : tie.After-put-first) → second-byte c.before.before.before < length c.put-first.new.table
 second-in c =
     let s = c.before.before.before in
-    byte-in (in_table {u = c.put.new.0} c.put.auto.0 (back s.requires.0)) (1 - s.args.w) (1 - s.args.v) (omega arith) (omega arith)
+    byte-in (in_table {u = c.put-first.new.table} c.put-first.auto.table (back s.requires.0)) (1 - s.args.w) (1 - s.args.v) (omega arith) (omega arith)
 
-mul-put : tie.Need-overflow-mul-put
+mul-put : tie.Need-overflow_mul-k
 mul-put c = search rules
 
-add-put : tie.Need-overflow-add-put
+add-put : tie.Need-overflow_add-k
 add-put c = search rules
 
-mul-put-2 : tie.Need-overflow-mul-put-2
+mul-put-2 : tie.Need-overflow_mul-n
 mul-put-2 c = search rules
 
-mul-put-3 : tie.Need-overflow-mul-put-3
+mul-put-3 : tie.Need-overflow_mul-k-2
 mul-put-3 c = omega (arith, first-in c.before.before)
 
-mul-put-4 : tie.Need-overflow-mul-put-4
+mul-put-4 : tie.Need-overflow_mul-j
 mul-put-4 c = search rules
 
-add-put-2 : tie.Need-overflow-add-put-2
+add-put-2 : tie.Need-overflow_add-j
 add-put-2 c = search rules
 
-add-put-3 : tie.Need-overflow-add-put-3
+add-put-3 : tie.Need-overflow_add-k-2
 add-put-3 c = omega (arith, first-in c.before.before)
 
-put-requires : tie.Need-put-requires
+put-requires : tie.Need-put-first-requires
 put-requires c κs = first-in c.before.before
 
-mul-put-5 : tie.Need-overflow-mul-put-5
+mul-put-5 : tie.Need-overflow_mul-j-2
 mul-put-5 c = search rules
 
-sub-put : tie.Need-overflow-sub-put
+sub-put : tie.Need-overflow_sub-w
 sub-put c = search rules
 
-add-put-4 : tie.Need-overflow-add-put-4
+add-put-4 : tie.Need-overflow_add-j-2
 add-put-4 c = search rules
 
-mul-put-6 : tie.Need-overflow-mul-put-6
+mul-put-6 : tie.Need-overflow_mul-n-2
 mul-put-6 c = search rules
 
-mul-put-7 : tie.Need-overflow-mul-put-7
-mul-put-7 c = omega (arith, second-in c.before.before.before, c.before.before.before.put.auto.0)
+mul-put-7 : tie.Need-overflow_mul-j-3
+mul-put-7 c = omega (arith, second-in c.before.before.before, c.put-first.auto.table)
 
-mul-put-8 : tie.Need-overflow-mul-put-8
+mul-put-8 : tie.Need-overflow_mul-k-3
 mul-put-8 c = search rules
 
-sub-put-2 : tie.Need-overflow-sub-put-2
+sub-put-2 : tie.Need-overflow_sub-v
 sub-put-2 c = search rules
 
-add-put-5 : tie.Need-overflow-add-put-5
+add-put-5 : tie.Need-overflow_add-k-3
 add-put-5 c = search rules
 
-add-put-6 : tie.Need-overflow-add-put-6
-add-put-6 c = omega (arith, second-in c.before.before.before, c.before.before.before.put.auto.0)
+add-put-6 : tie.Need-overflow_add-j-3
+add-put-6 c = omega (arith, second-in c.before.before.before, c.put-first.auto.table)
 
-put-requires-2 : tie.Need-put-requires-2
+put-requires-2 : tie.Need-put-second-requires
 put-requires-2 c κs = second-in c.before.before.before
 
-add-result : tie.Need-overflow-add-result
+add-result : tie.Need-overflow_add-result
 unfolding table_of
 add-result c =
     let p = c.before.before in
     let q = p.before.before.before.before in
     let s = q.before.before.before in
     let few1 = (put-adds (first_byte s) (table_of s.args.table.now 0)).few in
-    let few2 = (put-adds (second-byte s) (table_of q.put.new.0 0)).few in
-    omega (arith, few1, few2, p.put2.ensures.1, q.put.ensures.1)
+    let few2 = (put-adds (second-byte s) (table_of q.put-first.new.table 0)).few in
+    omega (arith, few1, few2, p.put-second.ensures.1, q.put-first.ensures.1)
 
-same_length : tie.Need-same-length
+same_length : tie.Need-shape_of-table
 same_length c = search rules
 
 returns : tie.Need-returns
@@ -97,10 +97,10 @@ returns c =
     let p = c.before.before in
     let q = p.before.before.before.before in
     let s = q.before.before.before in
-    goes_on (λ t. put t (second-byte s)) (put-adds (second-byte s)) _ q.put.ensures p.put2.ensures
+    goes_on (λ t. put t (second-byte s)) (put-adds (second-byte s)) _ q.put-first.ensures p.put-second.ensures
 
-pub record-implication-spec : {M : Type 1} → statement M
-record-implication-spec =
+pub record_implication_spec : {M : Type 1} → statement M
+record_implication_spec =
     tie.close
     (tie.spec
     mul-put

@@ -16,33 +16,33 @@ use Rattle.two_sides.proofs.ImplicationLoops.{in_table, record_side-few, turn-re
 use Rattle.two_sides.proofs.implications.record_implications.Statement.{statement}
 use Rattle.two_sides.proofs.implications.record_implications.Tie as tie
 
-abbrev invariant-loop : tie.invariant-loop
+abbrev invariant-loop : tie.invariant-loop-j
 invariant-loop n k bounds zero one table₀ added₀ j₀ table added j =
     let r = record_to j n k bounds zero one table₀ in
     (j ≤ n) × (length table ≡ length table₀) × (added ≤ 4 * j) × ((table ≡ r.bytes) × (added ≡ r.added))
 
-abbrev decreases-loop : tie.decreases-loop
+abbrev decreases-loop : tie.decreases-loop-j
 decreases-loop n k bounds zero one table₀ added₀ j₀ table added j = n - j
 
-loop-holds : tie.Need-loop-init invariant-loop decreases-loop
+loop-holds : tie.Need-loop-j-init invariant-loop decreases-loop
 unfolding record_to
 loop-holds c = (omega arith, refl, omega arith, (refl, refl))
 
-is-free-requires : tie.Need-is-free-requires invariant-loop decreases-loop
+is-free-requires : tie.Need-is_free-requires invariant-loop decreases-loop
 is-free-requires c κs = omega arith
 
-module _ (c : tie.In-loop invariant-loop decreases-loop) where
+module _ (c : tie.In-loop-j invariant-loop decreases-loop) where
   abbrev s : tie.Start invariant-loop decreases-loop
   s = c.before.before.before
 
   abbrev j : ℕ
-  j = c.before.loop.j
+  j = c.loop-j.j
 
   -- variable j in the table so far
-  here : Recordable s.args.n s.args.k j c.before.loop.table
+  here : Recordable s.args.n s.args.k j c.loop-j.table
   here =
-      let p = s.pre.0 in
-      record { few = p.few; variable = p.variable; other = c.loop-test.true; len = c.before.loop.invariant.1 ∙ p.len }
+      let p = s.requires.0 in
+      record { few = p.few; variable = p.variable; other = c.loop-j-test.true; len = c.loop-j.invariant.1 ∙ p.len }
 
   abbrev Next : List ℕ → ℕ → Type 0
   Next table added = let a = s.args in invariant-loop a.n a.k a.bounds.now a.zero.now a.one.now a.table.now 0 0 table added (j + 1)
@@ -51,30 +51,30 @@ module _ (c : tie.In-loop invariant-loop decreases-loop) where
   recorded = not (eqb j s.args.k) && is_free s.args.bounds.now j
 
   -- a variable that is passed over
-  skipped : recorded ≡ false → {table : List ℕ} {added : ℕ} → table ≡ c.before.loop.table → added ≡ c.before.loop.added → Next table added
+  skipped : recorded ≡ false → {table : List ℕ} {added : ℕ} → table ≡ c.loop-j.table → added ≡ c.loop-j.added → Next table added
   skipped e f g =
       let a = s.args in
-      let inv = c.before.loop.invariant in
+      let inv = c.loop-j.invariant in
       let r = turn-skips a.n a.k a.bounds.now a.zero.now a.one.now a.table.now j e in
       (omega arith, ap length f ∙ inv.1, omega (arith, g), (f ∙ inv.3.0 ∙ ap (λ r. r.bytes) (sym r), g ∙ inv.3.1 ∙ ap (λ r. r.added) (sym r)))
 
-record-side-requires : tie.Need-record-side-requires invariant-loop decreases-loop
+record-side-requires : tie.Need-record_side-added-requires invariant-loop decreases-loop
 record-side-requires c κs = (here c.before.before.before.before, (omega arith, omega arith))
 
-add-added : tie.Need-overflow-add-added invariant-loop decreases-loop
+add-added : tie.Need-overflow_add-added invariant-loop decreases-loop
 add-added c =
     let r = c.before.before in
     let t = r.before.before.before.before.before in
     let a = (s t).args in
-    omega (arith, record_side-few a.n a.k 0 (j t) a.zero.now t.before.loop.table r.record-side.ensures.1)
+    omega (arith, record_side-few a.n a.k 0 (j t) a.zero.now t.loop-j.table r.record_side-added.ensures.1)
 
-record-side-requires-2 : tie.Need-record-side-requires-2 invariant-loop decreases-loop
+record-side-requires-2 : tie.Need-record_side-added-requires-then-is_free invariant-loop decreases-loop
 record-side-requires-2 c κs =
     let r = c.before.before.before in
     let v = here r.before.before.before.before.before in
-    (in_table {u = r.record-side.new.1.1.1.1.1.0} r.record-side.auto.1.1.1.1.1.0 v, (omega arith, omega arith))
+    (in_table {u = r.record_side-added.new.table} r.record_side-added.auto.table v, (omega arith, omega arith))
 
-add-added-2 : tie.Need-overflow-add-added-2 invariant-loop decreases-loop
+add-added-2 : tie.Need-overflow_add-added-then-is_free invariant-loop decreases-loop
 add-added-2 c =
     let q = c.before.before in
     let r = q.before.before.before.before in
@@ -82,45 +82,45 @@ add-added-2 c =
     let a = (s t).args in
     omega (
       arith,
-      record_side-few a.n a.k 0 (j t) a.zero.now t.before.loop.table r.record-side.ensures.1,
-      record_side-few a.n a.k 1 (j t) a.one.now r.record-side.new.1.1.1.1.1.0 q.record-side2.ensures.1,
+      record_side-few a.n a.k 0 (j t) a.zero.now t.loop-j.table r.record_side-added.ensures.1,
+      record_side-few a.n a.k 1 (j t) a.one.now r.record_side-added.new.table q.record_side-added-then-is_free.ensures.1,
     )
 
-add-j : tie.Need-overflow-add-j invariant-loop decreases-loop
+add-j : tie.Need-overflow_add-j invariant-loop decreases-loop
 add-j c = omega arith
 
-loop-less : tie.Need-loop-smaller invariant-loop decreases-loop
+loop-less : tie.Need-loop-j-smaller invariant-loop decreases-loop
 loop-less c = omega arith
 
-loop-again : tie.Need-loop-preserved invariant-loop decreases-loop
+loop-again : tie.Need-loop-j-preserved invariant-loop decreases-loop
 loop-again c =
     let t = c.before in
     let a = (s t).args in
-    let inv = t.before.loop.invariant in
+    let inv = t.loop-j.invariant in
     ⊎_elim
     (λ w.
     let e = turn-records a.n a.k a.bounds.now a.zero.now a.one.now a.table.now (j t)
-    (rw (ne_eqb (j t) a.k w.0.taken) (sym w.1.ensures ∙ w.2.taken)) inv.3 w.4.ensures w.8.ensures in
-    let few0 = record_side-few a.n a.k 0 (j t) a.zero.now t.before.loop.table w.4.ensures.1 in
-    let few1 = record_side-few a.n a.k 1 (j t) a.one.now w.4.last.1.1.1.1.1.0 w.8.ensures.1 in
-    let len = ap length w.11 ∙ w.8.kept.1.1.1.1.1.0 ∙ w.4.kept.1.1.1.1.1.0 ∙ inv.1 in
-    (omega arith, len, omega (arith, w.12, few0, few1), (w.11 ∙ e.0, w.12 ∙ e.1)))
+    (rw (ne_eqb (j t) a.k w.if-j-k.true) (sym w.is_free.ensures ∙ w.if-is_free.true)) inv.3 w.record_side-added.ensures w.record_side-added-then-is_free.ensures in
+    let few0 = record_side-few a.n a.k 0 (j t) a.zero.now t.loop-j.table w.record_side-added.ensures.1 in
+    let few1 = record_side-few a.n a.k 1 (j t) a.one.now w.record_side-added.new.table w.record_side-added-then-is_free.ensures.1 in
+    let len = ap length w.table-is ∙ w.record_side-added-then-is_free.auto.table ∙ w.record_side-added.auto.table ∙ inv.1 in
+    (omega arith, len, omega (arith, w.added-is, few0, few1), (w.table-is ∙ e.0, w.added-is ∙ e.1)))
     (⊎_elim
-    (λ w. skipped t (rw (ne_eqb (j t) a.k w.0.taken) (sym w.1.ensures ∙ w.2.left)) w.3 w.4)
-    (λ w. skipped t (rw (eq-eqb (j t) a.k w.0.left) refl) w.1 w.2))
-    c.if1.branch
+    (λ w. skipped t (rw (ne_eqb (j t) a.k w.if-j-k.true) (sym w.is_free.ensures ∙ w.if-is_free.false)) w.table-is w.added-is)
+    (λ w. skipped t (rw (eq-eqb (j t) a.k w.if-j-k.false) refl) w.table-is w.added-is))
+    c.if-j-k.branch-raw
 
-same_length : tie.Need-same-length invariant-loop decreases-loop
+same_length : tie.Need-shape_of-table invariant-loop decreases-loop
 same_length c = omega arith
 
 returns : tie.Need-returns invariant-loop decreases-loop
 returns c =
     let h = c.before in
-    let end : h.loop.j ≡ h.before.before.args.n = omega arith in
-    rw end at h.loop.invariant.3
+    let end : h.loop-j.j ≡ h.args.n = omega arith in
+    rw end at h.loop-j.invariant.3
 
-pub record-implications-spec : {M : Type 1} → statement M
-record-implications-spec =
+pub record_implications_spec : {M : Type 1} → statement M
+record_implications_spec =
     tie.close
     (tie.spec
     invariant-loop
