@@ -22,49 +22,49 @@ use Rattle.prepared_sides.proofs.SideLaws.{boxed-side}
 use Rattle.prepared_sides.proofs.try_side.Statement.{statement}
 use Rattle.prepared_sides.proofs.try_side.Tie as tie
 
-copy-box-requires : tie.Need-copy-box-requires
+copy-box-requires : tie.Need-copy_box-requires
 copy-box-requires c κs = search rules
 
-mul-v : tie.Need-overflow-mul-v
+mul-v : tie.Need-overflow_mul-v
 mul-v c = search rules
 
-mul-v-2 : tie.Need-overflow-mul-v-2
+mul-v-2 : tie.Need-offset_bounds-side-k
 mul-v-2 c = search rules
 
-slice-set-from-v : tie.Need-slice-set-from-v
+slice-set-from-v : tie.Need-bounds-side-k
 slice-set-from-v c = search rules
 
-mul-v-3 : tie.Need-overflow-mul-v-3
+mul-v-3 : tie.Need-overflow_mul-v-2
 mul-v-3 c = search rules
 
-add-v : tie.Need-overflow-add-v
+add-v : tie.Need-overflow_add-v
 add-v c = search rules
 
-mul-v-4 : tie.Need-overflow-mul-v-4
+mul-v-4 : tie.Need-offset_bounds-side-k-2
 mul-v-4 c = search rules
 
-slice-set-from-v-2 : tie.Need-slice-set-from-v-2
-slice-set-from-v-2 c = simp length-set (omega (arith, ap length c.before.copy-box.ensures))
+slice-set-from-v-2 : tie.Need-bounds-side-k-2
+slice-set-from-v-2 c = simp length-set (omega (arith, ap length c.copy_box.ensures))
 
 -- the copy with two stores
-stored : (c : tie.After-copy-box) (w : ℕ) → let a = c.before.before.before.before.args in a.v ≡ pos w
-    → let v = to_z w32 (of_z w32 a.v) in set (set c.copy-box.new.1.0 (2 * a.k) v) (2 * a.k + 1) v ≡ fix a.n a.bounds.now a.k w
+stored : (c : tie.After-copy_box) (w : ℕ) → let a = c.args in a.v ≡ pos w
+    → let v = to_z w32 (of_z w32 a.v) in set (set c.copy_box.new.to (2 * a.k) v) (2 * a.k + 1) v ≡ fix a.n a.bounds.now a.k w
 unfolding with_bounds
 stored c w e =
     let s = c.before.before.before.before in
     let a = s.args in
-    rw (to_z-of_z {w = w32} s.ranges.v, e, c.copy-box.ensures) (fix-stores a.n a.bounds.now a.k w s.requires.0.0.sized.box.len s.requires.0.2)
+    rw (to_z-of_z {w = w32} s.ranges.v, e, c.copy_box.ensures) (fix-stores a.n a.bounds.now a.k w s.requires.0.0.sized.box.len s.requires.0.2)
 
 room : (s : tie.Start) → length (take (length s.args.bounds.now) blank) ≡ length s.args.bounds.now
 room s = let b = s.requires.0.0.sized in front-room s.args.bounds.now (omega (arith, b.few, b.box.len))
 
-array-borrow-prefix-seen : tie.Need-array-borrow-prefix-seen
+array-borrow-prefix-seen : tie.Need-slice_bounds-seen-end
 array-borrow-prefix-seen c = search rules
 
-slice-aggregate-propagate-side : tie.Need-slice-aggregate-propagate-side
+slice-aggregate-propagate-side : tie.Need-slice_bounds-propagate_side-end
 slice-aggregate-propagate-side c = sym (room c.before.before.before.before.before.before)
 
-propagate-side-requires : tie.Need-propagate-side-requires
+propagate-side-requires : tie.Need-propagate_side-requires
 propagate-side-requires c κs =
     let d = c.before.before.before.before in
     let s = d.before.before.before.before in
@@ -75,18 +75,18 @@ propagate-side-requires c κs =
     (λ e. let x = boxed-side b s.args.k 1 p.0.1 (omega arith) (stored d 1 e) in (x, room s ∙ b.sized.box.len ∙ sym x.sized.box.len, p.1.1.1))
     p.1.0
 
-same_length : tie.Need-same-length
+same_length : tie.Need-shape_of-side
 same_length c = search rules
 
-same-length-2 : tie.Need-same-length-2
+same-length-2 : tie.Need-shape_of-reasons
 same-length-2 c = search rules
 
 returns : tie.Need-returns
 unfolding side_reasons
 returns c =
-    let call = c.before.before.before.before.propagate-side.ensures in
+    let call = c.propagate_side.ensures in
     let d = c.before.before.before.before.before.before.before.before.before in
-    let a = d.before.before.before.before.args in (
+    let a = d.args in (
       (λ A P w e. call.0 A P ∙ ap (propagate a.budget a.n a.m A) (stored d w e)),
       (
         (λ A P w e. call.1.0 A P ∙ ap (λ (X : List ℤ). reasons_of a.budget a.n a.m A X (length a.reasons.now)) (stored d w e)),
@@ -94,8 +94,8 @@ returns c =
       ),
     )
 
-pub try-side-spec : {M : Type 1} → statement M
-try-side-spec =
+pub try_side_spec : {M : Type 1} → statement M
+try_side_spec =
     tie.close
     (tie.spec
     copy-box-requires

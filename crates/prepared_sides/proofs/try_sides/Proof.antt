@@ -26,21 +26,21 @@ use Rattle.prepared_sides.proofs.try_sides.Tie as tie
 room : (s : tie.Start) → length (take (length s.args.bounds.now) blank) ≡ length s.args.bounds.now
 room s = let b = s.requires.0.0.sized in front-room s.args.bounds.now (omega (arith, b.few, b.box.len))
 
-array-borrow-prefix-zero : tie.Need-array-borrow-prefix-zero
+array-borrow-prefix-zero : tie.Need-slice_bounds-zero-end
 array-borrow-prefix-zero c = search rules
 
-slice-aggregate-try-side : tie.Need-slice-aggregate-try-side
-slice-aggregate-try-side c = sym (room c.before.before.before.before.before)
+slice-aggregate-try-side : tie.Need-slice_bounds-try_side-end
+slice-aggregate-try-side c = sym (room c.before.before.before.before)
 
-slice-relend-prefix-try-side : tie.Need-slice-relend-prefix-try-side
+slice-relend-prefix-try-side : tie.Need-slice_bounds-try_side-end-2
 slice-relend-prefix-try-side c = search rules
 
-slice-aggregate-try-side-2 : tie.Need-slice-aggregate-try-side-2
-slice-aggregate-try-side-2 c = let s = c.before.before.before.before.before.before in sym (first-length s.args.n s.args.reasons.now s.requires.1.1)
+slice-aggregate-try-side-2 : tie.Need-slice_bounds-try_side-end-3
+slice-aggregate-try-side-2 c = let s = c.before.before.before.before.before in sym (first-length s.args.n s.args.reasons.now s.requires.1.1)
 
-try-side-requires : tie.Need-try-side-requires
+try-side-requires : tie.Need-try_side-s0-requires
 try-side-requires c κs =
-    let s = c.before.before.before.before.before.before in
+    let s = c.before.before.before.before.before in
     (s.requires.0, (inl refl, (room s, first-lent s.args.n s.args.reasons.now s.requires.1.1)))
 
 -- a side in the front of its array
@@ -52,83 +52,83 @@ module _ (s : tie.Start) (S : List ℤ) (l : length S ≡ length (take (length s
   whole = length_front blank S (length s.args.bounds.now) l
 
   front : take (2 * s.args.n) array ≡ S
-  front = take_at S _ (2 * s.args.n) (l ∙ room s ∙ s.pre.0.0.sized.box.len)
+  front = take_at S _ (2 * s.args.n) (l ∙ room s ∙ s.requires.0.0.sized.box.len)
 
-module _ (c : tie.After-try-side) where
+module _ (c : tie.After-try_side-s0) where
   abbrev s0 : tie.Start
-  s0 = c.before.before.before.before.before.before.before
+  s0 = c.before.before.before.before.before.before
 
   abbrev zero : List ℤ
-  zero = c.try-side.new.1.1.1.1.1.1.1.0
+  zero = c.try_side-s0.new.side
 
   zero-length : length zero ≡ length (take (length s0.args.bounds.now) blank)
-  zero-length = c.try-side.auto.1.1.1.1.1.1.1.0
+  zero-length = c.try_side-s0.auto.side
 
-  zero_left : SideLeft s0.args.n c.try-side.result.end (take (2 * s0.args.n) (array s0 zero zero-length))
-  zero_left = rw (front s0 zero zero-length) c.try-side.ensures.1.1
+  zero_left : SideLeft s0.args.n c.try_side-s0.result.end (take (2 * s0.args.n) (array s0 zero zero-length))
+  zero_left = rw (front s0 zero zero-length) c.try_side-s0.ensures.1.1
 
   zero_is : (A : Rows) → Prepared s0.args.ws.now A → let a = s0.args in
-      propagation_of c.try-side.result.end (take (2 * a.n) (array s0 zero zero-length)) ≡ propagate a.budget a.n a.m A (fix a.n a.bounds.now a.k 0)
-  zero_is A P = ap (propagation_of c.try-side.result.end) (front s0 zero zero-length) ∙ c.try-side.ensures.0 A P 0 refl
+      propagation_of c.try_side-s0.result.end (take (2 * a.n) (array s0 zero zero-length)) ≡ propagate a.budget a.n a.m A (fix a.n a.bounds.now a.k 0)
+  zero_is A P = ap (propagation_of c.try_side-s0.result.end) (front s0 zero zero-length) ∙ c.try_side-s0.ensures.0 A P 0 refl
 
   -- what it told
   abbrev R : List ℕ
   R = s0.args.reasons.now
 
   abbrev S0 : List ℕ
-  S0 = c.try-side.new.1.1.1.1.1.1.1.1.0
+  S0 = c.try_side-s0.new.reasons
 
   told-length : length S0 ≡ length (take (length R / 2) R)
-  told-length = c.try-side.auto.1.1.1.1.1.1.1.1.0
+  told-length = c.try_side-s0.auto.reasons
 
-array-borrow-prefix-one : tie.Need-array-borrow-prefix-one
+array-borrow-prefix-one : tie.Need-slice_bounds-one-end
 array-borrow-prefix-one c = search rules
 
-slice-aggregate-try-side-3 : tie.Need-slice-aggregate-try-side-3
+slice-aggregate-try-side-3 : tie.Need-slice_bounds-try_side-end-4
 slice-aggregate-try-side-3 c = search rules
 
-mul-try-side : tie.Need-overflow-mul-try-side
+mul-try-side : tie.Need-offset_bounds-reasons-half
 mul-try-side c = search rules
 
-sub-try-side : tie.Need-overflow-sub-try-side
+sub-try-side : tie.Need-slice_bounds-try_side-count
 sub-try-side c = search rules
 
-part-try-side-start : tie.Need-slice-bounds-try-side-start
+part-try-side-start : tie.Need-slice_bounds-try_side-start
 part-try-side-start c = search rules
 
-part-try-side-end : tie.Need-slice-bounds-try-side-end
+part-try-side-end : tie.Need-slice_bounds-try_side-end-5
 part-try-side-end c = search rules
 
-try-side-requires-2 : tie.Need-try-side-requires-2
+try-side-requires-2 : tie.Need-try_side-s1-requires
 try-side-requires-2 c κs =
-    let t = c.before.before.before.before.before.before in
+    let t = c.before.before.before.before.before in
     let s = s0 t in
-    (s.pre.0, (inr refl, (room s, second-lent s.args.n (R t) s.pre.1.1 (S0 t) (told-length t))))
+    (s.requires.0, (inr refl, (room s, second-lent s.args.n (R t) s.requires.1.1 (S0 t) (told-length t))))
 
-module _ (c : tie.After-try-side2) where
-  abbrev t0 : tie.After-try-side
-  t0 = c.before.before.before.before.before.before.before
+module _ (c : tie.After-try_side-s1) where
+  abbrev t0 : tie.After-try_side-s0
+  t0 = c.before.before.before.before.before.before
 
   abbrev s1 : tie.Start
   s1 = s0 t0
 
   abbrev one : List ℤ
-  one = c.try-side2.new.1.1.1.1.1.1.1.0
+  one = c.try_side-s1.new.side
 
   one-length : length one ≡ length (take (length s1.args.bounds.now) blank)
-  one-length = c.try-side2.auto.1.1.1.1.1.1.1.0
+  one-length = c.try_side-s1.auto.side
 
-  one_left : SideLeft s1.args.n c.try-side2.result.end (take (2 * s1.args.n) (array s1 one one-length))
-  one_left = rw (front s1 one one-length) c.try-side2.ensures.1.1
+  one_left : SideLeft s1.args.n c.try_side-s1.result.end (take (2 * s1.args.n) (array s1 one one-length))
+  one_left = rw (front s1 one one-length) c.try_side-s1.ensures.1.1
 
   one-is : (A : Rows) → Prepared s1.args.ws.now A → let a = s1.args in
-      propagation_of c.try-side2.result.end (take (2 * a.n) (array s1 one one-length)) ≡ propagate a.budget a.n a.m A (fix a.n a.bounds.now a.k 1)
-  one-is A P = ap (propagation_of c.try-side2.result.end) (front s1 one one-length) ∙ c.try-side2.ensures.0 A P 1 refl
+      propagation_of c.try_side-s1.result.end (take (2 * a.n) (array s1 one one-length)) ≡ propagate a.budget a.n a.m A (fix a.n a.bounds.now a.k 1)
+  one-is A P = ap (propagation_of c.try_side-s1.result.end) (front s1 one one-length) ∙ c.try_side-s1.ensures.0 A P 1 refl
 
-slice-aggregate-join : tie.Need-slice-aggregate-join
-slice-aggregate-join c = let t = c.before.before.before.before.before.before.before.before.before.before.before in sym (whole (s0 t) (zero t) (zero-length t))
+slice-aggregate-join : tie.Need-slice_bounds-join-end
+slice-aggregate-join c = let t = c.before.before.before.before.before.before.before.before.before.before in sym (whole (s0 t) (zero t) (zero-length t))
 
-slice-aggregate-join-2 : tie.Need-slice-aggregate-join-2
+slice-aggregate-join-2 : tie.Need-slice_bounds-join-end-2
 slice-aggregate-join-2 c = let d = c.before.before.before.before.before in sym (whole (s1 d) (one d) (one-length d))
 
 join-requires : tie.Need-join-requires
@@ -147,13 +147,13 @@ join-requires c κs =
       table = p.1.0;
     }
 
-same_length : tie.Need-same-length
+same_length : tie.Need-shape_of-bounds
 same_length c = search rules
 
-same-length-2 : tie.Need-same-length-2
+same-length-2 : tie.Need-shape_of-table
 same-length-2 c = search rules
 
-same-length-3 : tie.Need-same-length-3
+same-length-3 : tie.Need-shape_of-reasons
 same-length-3 c = search rules
 
 returns : tie.Need-returns
@@ -164,22 +164,22 @@ returns c =
     let t = t0 d in
     let s = s1 d in
     let a = s.args in
-    let some = non_empty-isn't s.pre.0.0.sized.some s.pre.0.0.non_empty in (
+    let some = non_empty-isn't s.requires.0.0.sized.some s.requires.0.0.non_empty in (
       (λ A P. j.join.ensures ∙ ap₂ (join_sides a.n a.k a.bounds.now a.table.now) (zero_is t A P) (one-is d A P) ∙ sym (rw some refl)),
       (
         (λ A P.
-            let fit = s.pre.1.1 in
-            let S1 = d.try-side2.new.1.1.1.1.1.1.1.1.0 in
-            sides-told a.n (R t) fit a.k a.budget a.m A a.bounds.now (S0 t) S1 _ t.try-side.result.row d.try-side2.result.row _ _ some
-            (first-length a.n (R t) fit) (second-length a.n (R t) fit (S0 t) (told-length t)) (t.try-side.ensures.1.0 A P 0 refl) (d.try-side2.ensures.1.0 A P 1 refl)
+            let fit = s.requires.1.1 in
+            let S1 = d.try_side-s1.new.reasons in
+            sides-told a.n (R t) fit a.k a.budget a.m A a.bounds.now (S0 t) S1 _ t.try_side-s0.result.row d.try_side-s1.result.row _ _ some
+            (first-length a.n (R t) fit) (second-length a.n (R t) fit (S0 t) (told-length t)) (t.try_side-s0.ensures.1.0 A P 0 refl) (d.try_side-s1.ensures.1.0 A P 1 refl)
             (halves a.n (R t) fit (S0 t) (told-length t) S1)),
-        probing-range j.join.result j.join.new.1.1.1.1.1.1.0 j.join.new.1.1.1.1.1.1.1.0 j.join.ensures
+        probing-range j.join.result j.join.new.bounds j.join.new.table j.join.ensures
             (joined-range a.n a.k a.bounds.now a.table.now (zero_left t) (one_left d)),
       ),
     )
 
-pub try-sides-spec : {M : Type 1} → statement M
-try-sides-spec =
+pub try_sides_spec : {M : Type 1} → statement M
+try_sides_spec =
     tie.close
     (tie.spec
     array-borrow-prefix-zero

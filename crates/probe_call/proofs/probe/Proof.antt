@@ -23,54 +23,54 @@ before s = state s s.args.bounds.now s.args.table.now
 abbrev call : tie.Start → Call
 call s = call_of (before s) 3 0 s.args.variable s.args.budget
 
-probe-fault-requires : tie.Need-probe-fault-requires
+probe-fault-requires : tie.Need-probe_fault-fault-requires
 probe-fault-requires c κs = search rules
 
-same_length : tie.Need-same-length
+same_length : tie.Need-shape_of-bounds-then-fault-ne0
 same_length c = search rules
 
-same-length-2 : tie.Need-same-length-2
+same-length-2 : tie.Need-shape_of-table-then-fault-ne0
 same-length-2 c = search rules
 
-returns : tie.Need-returns
+returns : tie.Need-returns-then-fault-ne0
 unfolding probe_answer call_of
 returns c =
-    let s = c.before.before.before.before.before.before in
-    promised-ends (before s) (before s) (call s) _ (perform-refused (before s) (call s) c.before.probe-fault.ensures c.if1.true)
+    let s = c.before.before.before.before in
+    promised-ends (before s) (before s) (call s) _ (perform-refused (before s) (call s) c.probe_fault-fault.ensures c.if-fault-ne0.true)
 
-no-fault : (c : tie.Else1) → let s = c.before.before.before.before.before.before in call_fault (before s) (call s) ≡ 0
-no-fault c = sym c.before.probe-fault.ensures ∙ c.if1.false
+no-fault : (c : tie.Else-fault-ne0) → let s = c.before.before.before.before in call_fault (before s) (call s) ≡ 0
+no-fault c = sym c.probe_fault-fault.ensures ∙ c.if-fault-ne0.false
 
 probe-requires : tie.Need-probe-requires
 unfolding state_of call_of kind_of has_table has_variable
 probe-requires c κs =
-    let s = c.before.before.before.before.before.before.before.before in
+    let s = c.before.before.before.before.before.before in
     let a = accepted (before s) (call s) (no-fault c.before.before) in
     (a.model, (a.table tt, (a.free tt, a.variable tt)))
 
-probe-answer-requires : tie.Need-probe-answer-requires
+probe-answer-requires : tie.Need-probe_answer-requires
 probe-answer-requires c κs = search rules
 
-same-length-3 : tie.Need-same-length-3
+same-length-3 : tie.Need-shape_of-bounds
 same-length-3 c = search rules
 
-same-length-4 : tie.Need-same-length-4
+same-length-4 : tie.Need-shape_of-table
 same-length-4 c = search rules
 
-returns-2 : tie.Need-returns-2
+returns-2 : tie.Need-returns
 unfolding call_of
 returns-2 c =
     let d = c.before.before.before.before in
-    let s = d.before.before.before.before.before.before.before.before.before in
+    let s = d.before.before.before.before.before.before.before in
     let a = s.args in
-    let Q = d.probe.new.1.1.0 in
-    let t = d.probe.new.1.1.1.1.1.1.0 in
-    promised-ends (before s) (state s Q t) (call s) _ (ap (λ x. performed x (state s Q t)) c.probe-answer.ensures
+    let Q = d.probe.new.bounds in
+    let t = d.probe.new.table in
+    promised-ends (before s) (state s Q t) (call s) _ (ap (λ x. performed x (state s Q t)) c.probe_answer.ensures
     ∙ probing-performed a.n a.m a.bounds.now (rows_of a.coefs.now a.rhs.now a.kinds.now) a.budget a.table.now a.variable
     d.probe.result Q t (no-fault d.before.before.before) d.probe.ensures)
 
-pub probe-spec : {M : Type 1} → statement M
-probe-spec =
+pub probe_spec : {M : Type 1} → statement M
+probe_spec =
     tie.close
     (tie.spec
     probe-fault-requires

@@ -6,27 +6,27 @@ use Rattle.reducer.specs.OpenCalls.{probe_answer}
 use Rattle.probe_call.proofs.probe_answer.Statement.{statement}
 use Rattle.probe_call.proofs.probe_answer.Tie as tie
 
-enum-known-p : tie.Need-enum-known-p
+enum-known-p : tie.Need-enum_known-p
 enum-known-p c = search rules
 
-enum-known-p-2 : tie.Need-enum-known-p-2
+enum-known-p-2 : tie.Need-enum_known-p-in-Fixed-1
 enum-known-p-2 c = search rules
 
-enum-known-p-3 : tie.Need-enum-known-p-3
+enum-known-p-3 : tie.Need-enum_known-p-in-BothFeasible-1
 enum-known-p-3 c = search rules
 
-returns : tie.Need-returns
+returns : tie.Need-returns-in-Infeasible
 unfolding probe_answer probing_of
-returns c = rw c.before.p.given.1 refl
+returns c = rw c.in-Infeasible.is refl
 
-returns-2 : tie.Need-returns-2
+returns-2 : tie.Need-returns-in-Fixed
 unfolding probe_answer probing_of
-returns-2 c = rw c.before.p2.given.1 refl
+returns-2 c = rw c.in-Fixed.is refl
 
-returns-3 : tie.Need-returns-3
+returns-3 : tie.Need-returns-in-BothFeasible
 unfolding probe_answer probing_of
-returns-3 c = rw c.before.p3.given.1 refl
+returns-3 c = rw c.in-BothFeasible.is refl
 
-pub probe-answer-spec : {M : Type 1} → statement M
-probe-answer-spec =
+pub probe_answer_spec : {M : Type 1} → statement M
+probe_answer_spec =
     tie.close (tie.spec enum-known-p enum-known-p-2 enum-known-p-3 returns returns-2 returns-3)

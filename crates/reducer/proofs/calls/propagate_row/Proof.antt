@@ -29,22 +29,22 @@ before s = state s s.args.bounds.now
 abbrev call : tie.Start → Call
 call s = call_of (before s) 1 s.args.row 0 0
 
-row-call-fault-requires : tie.Need-row-call-fault-requires
+row-call-fault-requires : tie.Need-row_call_fault-fault-requires
 row-call-fault-requires c κs = search rules
 
-same_length : tie.Need-same-length
+same_length : tie.Need-shape_of-bounds-then-fault-ne0
 same_length c = search rules
 
-returns : tie.Need-returns
+returns : tie.Need-returns-then-fault-ne0
 unfolding row_answer
 returns c =
-    let s = c.before.before.before.before in
-    promised (before s) (before s) (call s) _ (perform-refused (before s) (call s) c.before.row-call-fault.ensures.0 c.if1.true)
+    let s = c.before.before.before in
+    promised (before s) (before s) (call s) _ (perform-refused (before s) (call s) c.row_call_fault-fault.ensures.0 c.if-fault-ne0.true)
 
 -- the call is accepted: its row lies in the matrix
-module _ (c : tie.Else1) where
+module _ (c : tie.Else-fault-ne0) where
   abbrev s : tie.Start
-  s = c.before.before.before.before
+  s = c.before.before.before
 
   abbrev n : ℕ
   n = s.args.n
@@ -59,64 +59,64 @@ module _ (c : tie.Else1) where
   A = rows_of s.args.coefs.now s.args.rhs.now s.args.kinds.now
 
   no-fault : call_fault (before s) (call s) ≡ 0
-  no-fault = sym c.before.row-call-fault.ensures.0 ∙ c.if1.false
+  no-fault = sym c.row_call_fault-fault.ensures.0 ∙ c.if-fault-ne0.false
 
   on : ValidModel (model_of n s.args.m B A) × (r < s.args.m)
   unfolding kind_of has_row
   on = on_row n s.args.m B A 1 r 0 tt no-fault
 
-propagate-row-at-requires : tie.Need-propagate-row-at-requires
+propagate-row-at-requires : tie.Need-propagate_row_at-requires
 propagate-row-at-requires c κs =
     let a = c.before in
     let v = on a in
     (row_in v.0 (r a) v.1, valid-row v.0 (r a) v.1 v.0.box)
 
 -- what the row answers and leaves
-module _ (c : tie.After-propagate-row-at) where
-  abbrev a : tie.Else1
+module _ (c : tie.After-propagate_row_at) where
+  abbrev a : tie.Else-fault-ne0
   a = c.before.before
 
   abbrev Q : List ℤ
-  Q = c.propagate-row-at.new.1.1.1.1.1.0
+  Q = c.propagate_row_at.new.bounds
 
-  done : {v : RowPropagation} → c.propagate-row-at.result ≡ v → let w = propagated_row_of v Q in
+  done : {v : RowPropagation} → c.propagate_row_at.result ≡ v → let w = propagated_row_of v Q in
       performed (propagated_row w.outcome w.moved) (state (s a) w.box) ≡ perform (before (s a)) (call (s a))
   done e =
       row-propagated (n a) (s a).args.m (B a) (A a) (r a) (no-fault a) _
-      (ap (λ v. propagated_row_of v Q) (sym e) ∙ c.propagate-row-at.ensures)
+      (ap (λ v. propagated_row_of v Q) (sym e) ∙ c.propagate_row_at.ensures)
 
-enum_told : tie.Need-enum-told
+enum_told : tie.Need-enum_told-1
 enum_told c = search rules
 
-enum-known-moved : tie.Need-enum-known-moved
+enum-known-moved : tie.Need-enum_known-moved
 enum-known-moved c = search rules
 
-enum-told-2 : tie.Need-enum-told-2
+enum-told-2 : tie.Need-enum_told-in-Unchanged
 enum-told-2 c = search rules
 
-same-length-2 : tie.Need-same-length-2
+same-length-2 : tie.Need-shape_of-bounds-in-Infeasible
 same-length-2 c = search rules
 
-returns-2 : tie.Need-returns-2
+returns-2 : tie.Need-returns-in-Infeasible
 unfolding row_answer propagated_row_of
-returns-2 c = let d = c.before.before.before in promised (before (s (a d))) (state (s (a d)) (Q d)) (call (s (a d))) _ (done d c.enum_told.given.1)
+returns-2 c = let d = c.before.before in promised (before (s (a d))) (state (s (a d)) (Q d)) (call (s (a d))) _ (done d c.in-Infeasible.is)
 
-same-length-3 : tie.Need-same-length-3
+same-length-3 : tie.Need-shape_of-bounds-in-Tightened
 same-length-3 c = search rules
 
-returns-3 : tie.Need-returns-3
+returns-3 : tie.Need-returns-in-Tightened
 unfolding row_answer propagated_row_of
-returns-3 c = let d = c.before.before.before.before in promised (before (s (a d))) (state (s (a d)) (Q d)) (call (s (a d))) _ (done d c.before.moved.given.1)
+returns-3 c = let d = c.before.before in promised (before (s (a d))) (state (s (a d)) (Q d)) (call (s (a d))) _ (done d c.in-Tightened.is)
 
-same-length-4 : tie.Need-same-length-4
+same-length-4 : tie.Need-shape_of-bounds-in-Unchanged
 same-length-4 c = search rules
 
-returns-4 : tie.Need-returns-4
+returns-4 : tie.Need-returns-in-Unchanged
 unfolding row_answer propagated_row_of
-returns-4 c = let d = c.before.before.before in promised (before (s (a d))) (state (s (a d)) (Q d)) (call (s (a d))) _ (done d c.enum-told2.given.1)
+returns-4 c = let d = c.before.before in promised (before (s (a d))) (state (s (a d)) (Q d)) (call (s (a d))) _ (done d c.in-Unchanged.is)
 
-pub propagate-row-spec : {M : Type 1} → statement M
-propagate-row-spec =
+pub propagate_row_spec : {M : Type 1} → statement M
+propagate_row_spec =
     tie.close
     (tie.spec
     row-call-fault-requires
