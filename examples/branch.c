@@ -2,7 +2,7 @@
  * A small branch and bound without the bound: all integer points of a model, found by a depth-first
  * search that propagates a prepared model at each node.
  *
- *     cc -std=c99 -Wall -Wextra -Iinclude examples/branch.c target/staticlib/libcapi.a -o branch
+ *     cc -std=c99 -Wall -Wextra -Iinclude examples/branch.c crates/capi/out/libcapi.a -o branch
  *     ./branch | diff examples/branch.expected -
  *
  * The model: five warehouse receipts of 30, 25, 20, 15 and 10 tons go to a notice whole or not at all,

@@ -5,7 +5,7 @@
  *     reduced at every node   the same, prepared once and propagated in GLPK's callback at GLP_IPREPRO.
  * The optimum must be the same three times.
  *
- *     cc -std=c99 -Iinclude examples/glpk.c target/staticlib/libcapi.a -lglpk -lm -o glpk
+ *     cc -std=c99 -Iinclude examples/glpk.c crates/capi/out/libcapi.a -lglpk -lm -o glpk
  *     ./glpk p0033.mps
  *
  * It takes MPS files whose columns are all integer and bounded and whose numbers are whole; the command `astrolabe` has

@@ -2,7 +2,7 @@
  * Ties before a search: variables that always go together are put into the rows as one, and each solution is
  * read back by the tie list.
  *
- *     cc -std=c99 -Wall -Wextra -Iinclude examples/tied.c target/staticlib/libcapi.a -o tied
+ *     cc -std=c99 -Wall -Wextra -Iinclude examples/tied.c crates/capi/out/libcapi.a -o tied
  *     ./tied | diff examples/tied.expected -
  *
  * The model: receipts of 30, 25, 20, 10 and 15 tons for a notice of at most 75. The first two are of one car

@@ -1,9 +1,9 @@
 /*
  * astrolabe.h - a proved presolve library for 0-1 and small-integer linear models.
  *
- * Link with libcapi.a (`rt staticlib capi`). C99 or later, C++98 or later.
+ * Link with libcapi.a (`tools/library`). C99 or later, C++98 or later.
  *
- *     cc -Iinclude program.c target/staticlib/libcapi.a
+ *     cc -Iinclude program.c crates/capi/out/libcapi.a
  *
  * THE MODEL. n variables (1 to 128) with whole bounds, m rows (0 to 120), each row
  *     sum of coefficient x variable <= right-hand side, or

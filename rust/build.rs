@@ -1,6 +1,6 @@
 //! Links the proved static library. It is looked for, in this order:
 //! 1. in the folder that `ASTROLABE_LIB_DIR` names;
-//! 2. in `target/staticlib` of the repository, where `rt staticlib capi` writes `libcapi.a`;
+//! 2. in `crates/capi/out` of the repository, where `tools/library` writes `libcapi.a`;
 //! 3. where pkg-config finds an installed `astrolabe` of this version (`./install PREFIX`).
 
 use std::env;
@@ -14,7 +14,7 @@ fn main() {
     println!("cargo::rerun-if-env-changed=ASTROLABE_LIB_DIR");
     println!("cargo::rerun-if-env-changed=PKG_CONFIG_PATH");
     let named = env::var_os("ASTROLABE_LIB_DIR").map(PathBuf::from);
-    let built = Path::new(env!("CARGO_MANIFEST_DIR")).join("../target/staticlib");
+    let built = Path::new(env!("CARGO_MANIFEST_DIR")).join("../crates/capi/out");
     let found = match &named {
         Some(folder) => library_in(folder),
         None => library_in(&built).or_else(|| library_in(&installed()?)),
@@ -23,7 +23,7 @@ fn main() {
     // A warning, not an error: checking the crate and its documentation need no library.
     if found.is_none() {
         println!(
-            "cargo::warning=no libcapi.a in {}: `rt staticlib capi` builds it, ASTROLABE_LIB_DIR names its folder, pkg-config finds an installed one",
+            "cargo::warning=no libcapi.a in {}: `tools/library` builds it, ASTROLABE_LIB_DIR names its folder, pkg-config finds an installed one",
             folder.display()
         );
     }

@@ -47,7 +47,7 @@ fn propagate_row_with<'a, 'b, 'c, 'd, 'e>(
         RowIn n A r × ValidRow n (row_at n A r).coefs (row_at n A r).rhs bounds.old
         × Steps n (row_at n A r).coefs steps.now }
     ensures { let A = rows_of coefs.now rhs.now kinds.now in
-        propagated_row_of result bounds.new ≡ propagate_row_of n (row_at n A r) bounds.old }
+        (propagated_row_of result bounds.new) ≡ propagate_row_of n (row_at n A r) bounds.old }
 {
     row_at(n, coefs, rhs, kinds, r).propagate_by(steps, bounds)
 }
@@ -66,7 +66,8 @@ pub fn propagate_row_at_by(
         RowIn n A r × ValidRow n (row_at n A r).coefs (row_at n A r).rhs bounds.old }
     requires steps_in { StepsIn n coefs.now across.now r }
     ensures { let A = rows_of coefs.now rhs.now kinds.now in
-        propagated_row_of result bounds.new ≡ propagate_row_of n (row_at n A r) bounds.old }
+        propagated_row_of result bounds.new
+        ≡ propagate_row_of n (row_at n A r) bounds.old }
 {
     propagate_row_with(n, coefs, rhs, kinds, r, row_bytes(n, across, r), bounds)
 }

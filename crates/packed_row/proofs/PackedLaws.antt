@@ -68,8 +68,8 @@ coefs-in (w ∷ ws) (suc k) (suc j) = coefs-in ws k j
 pub packed-valid : {n : ℕ} (ws : List ℕ) {B : List ℤ} → 0 < n → n ≤ 128 → length ws ≡ n → ValidBox n B → ValidCoefs n (coefs_from ws 0) B
 packed-valid ws some few len v = record { some = some; few = few; len = length-coefs ws 0 ∙ len; range = coefs-in ws 0; box = v }
 
-pub readable_row : (ws : List ℕ) {B : List ℤ} (rhs_word_of : ℕ) → Readable ws B → ValidRow (length ws) (coefs_from ws 0) (rhs_of rhs_word_of) B
-readable_row ws rhs_word_of v = record { coefs = packed-valid ws v.some v.few refl v.box; rhs = rhs-in rhs_word_of }
+pub readable_row : (ws : List ℕ) {B : List ℤ} (rhs_word : ℕ) → Readable ws B → ValidRow (length ws) (coefs_from ws 0) (rhs_of rhs_word) B
+readable_row ws rhs_word v = record { coefs = packed-valid ws v.some v.few refl v.box; rhs = rhs-in rhs_word }
 
 -- ---- the steps of a sweep
 

@@ -28,7 +28,7 @@ rhs_of w = cond (leb (w / 2) raised_rhs) (pos (w / 2) -ℤ max_rhs) (pos 0)
 
 -- the row that words and the word of its right side say
 unfoldable pub row_of_words : List ℕ → ℕ → Row
-row_of_words ws rhs_word_of = record { coefs = coefs_from ws 0; rhs = rhs_of rhs_word_of; kind = rhs_word_of % 2 }
+row_of_words ws rhs_word = record { coefs = coefs_from ws 0; rhs = rhs_of rhs_word; kind = rhs_word % 2 }
 
 -- words for a row of a box that passed the checks
 pub record Readable (ws : List ℕ) (B : List ℤ) : Type 0 where

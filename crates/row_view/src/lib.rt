@@ -55,7 +55,7 @@ impl<'a> Row<'a> {
         requires { ValidRow (length self.coefs.now) self.coefs.now self.b bounds.old
             × Steps (length self.coefs.now) self.coefs.now steps.now }
         ensures { let A = self.entry.coefs.now in
-            propagated_row_of result bounds.new
+            (propagated_row_of result bounds.new)
             ≡ propagate_row_of (length A) (row_with A self.entry.b self.entry.kind) bounds.old }
     {
         propagate_row_by(self.coefs, steps, self.b, self.kind, bounds)

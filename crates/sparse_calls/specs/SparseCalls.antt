@@ -61,7 +61,7 @@ pub data BytesNeeded : Type 0 where
   refused_length : ℕ → BytesNeeded
   bytes_are : ℕ → BytesNeeded
 
--- what the enum of the code stands for; it is injective (`length-Injective`)
+-- what the enum of the code stands for; it is injective (`length_injective`)
 unfoldable pub length_answer : LengthAnswer → BytesNeeded
 length_answer (lengths.Refused number) = refused_length number
 length_answer (lengths.Bytes count) = bytes_are count

@@ -2,6 +2,6 @@
 // every wrong length; and the round trips of small books and of the largest. They are in `stdin`.
 #![tactic(auto)]
 
-fn main() {
-    test_cases::run();
+fn main(rt: HostRuntime) {
+    test_cases::run(rt);
 }

@@ -2,6 +2,6 @@
 // boundaries; then call lists, as records and as numbers. The cases are in `stdin`.
 #![tactic(auto)]
 
-fn main() {
-    test_cases::run();
+fn main(rt: HostRuntime) {
+    test_cases::run(rt);
 }

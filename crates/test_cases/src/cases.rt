@@ -24,10 +24,13 @@
 //   BOTH                           the round trip
 //   SAME LENGTH X ..               whether the book is these bytes
 // A number that a line lacks is 0. Every other line is a comment.
+ghost use Rattle.std.specs.Prelude.{◌≤◌, length};
+
 use crate::buffers::Sizes;
 use crate::lists::record;
 use crate::{buffers, lists};
 use rest_call::is_probing_fixpoint;
+use std::io::{Read, Stdin, Stdout};
 use test_one_call::copies;
 use test_one_call::transcript::step;
 use test_other_calls::{book_cases, clique_cases, plans, tied};
@@ -35,12 +38,13 @@ use test_text::parts::{bytes_part_mut, part_mut};
 use test_text::words::behind;
 use test_text::{print, rows, words};
 
-fn model_name(line: &[u8]) {
-    print::text(behind(line, 0));
-    print::line();
+fn model_name(out: Stdout, line: &[u8]) {
+    print::text(out, behind(line, 0));
+    print::line(out);
 }
 
 fn write(
+    out: Stdout,
     line: &[u8],
     n: usize,
     bounds: &[i32],
@@ -50,18 +54,19 @@ fn write(
     table: &[u8],
 ) {
     match words::second(line) {
-        b'b' => print::list(b"  bounds", bounds),
-        b'c' => print::list(b"  coefs", coefs),
-        b'r' => print::list(b"  rhs", rhs),
-        b'k' => print::ones(b"  kinds", kinds),
-        b'm' => rows::rows(n, coefs, rhs, kinds),
-        b'i' => rows::implications(bounds.len(), table),
-        _ => print::ones(b"  table", table),
+        b'b' => print::list(out, b"  bounds", bounds),
+        b'c' => print::list(out, b"  coefs", coefs),
+        b'r' => print::list(out, b"  rhs", rhs),
+        b'k' => print::ones(out, b"  kinds", kinds),
+        b'm' => rows::rows(out, n, coefs, rhs, kinds),
+        b'i' => rows::implications(out, bounds.len(), table),
+        _ => print::ones(out, b"  table", table),
     }
 }
 
 // What a line asks of a model that stays as it is.
 fn look(
+    out: Stdout,
     line: &[u8],
     n: usize,
     m: usize,
@@ -72,22 +77,23 @@ fn look(
     table: &[u8],
 ) {
     match words::first(line) {
-        b'n' => print::text(behind(line, 0)),
-        b'm' => model_name(line),
-        b'h' => rows::head(behind(line, 0), n, bounds, coefs, rhs, kinds),
-        b'w' => write(line, n, bounds, coefs, rhs, kinds, table),
-        b'P' => plans::of_list(line, n, bounds),
-        b'L' => plans::of_trailer(table),
-        b'G' => clique_cases::of_table(n, table),
-        b'f' => lists::rest(is_probing_fixpoint(n, m, bounds, coefs, rhs, kinds)),
-        b'a' => copies::all(n, m, bounds, coefs, rhs, kinds, table, record(line)),
-        b'1'..=b'6' => copies::one(n, m, bounds, coefs, rhs, kinds, table, record(line)),
+        b'n' => print::text(out, behind(line, 0)),
+        b'm' => model_name(out, line),
+        b'h' => rows::head(out, behind(line, 0), n, bounds, coefs, rhs, kinds),
+        b'w' => write(out, line, n, bounds, coefs, rhs, kinds, table),
+        b'P' => plans::of_list(out, line, n, bounds),
+        b'L' => plans::of_trailer(out, table),
+        b'G' => clique_cases::of_table(out, n, table),
+        b'f' => lists::rest(out, is_probing_fixpoint(n, m, bounds, coefs, rhs, kinds)),
+        b'a' => copies::all(out, n, m, bounds, coefs, rhs, kinds, table, record(line)),
+        b'1'..=b'6' => copies::one(out, n, m, bounds, coefs, rhs, kinds, table, record(line)),
         _ => {}
     }
 }
 
 // What a line asks of the model or the book.
 fn answer(
+    out: Stdout,
     line: &[u8],
     n: usize,
     m: usize,
@@ -99,6 +105,7 @@ fn answer(
 ) {
     match words::first(line) {
         b'C' => step(
+            out,
             n,
             m,
             bounds,
@@ -108,17 +115,18 @@ fn answer(
             table,
             record(behind(line, 0)),
         ),
-        b'e' | b'D' | b'F' => lists::answer(line, n, m, bounds, coefs, rhs, kinds, table),
-        b'K' => tied::of_line(line, n, m, bounds, coefs, rhs, kinds, table),
+        b'e' | b'D' | b'F' => lists::answer(out, line, n, m, bounds, coefs, rhs, kinds, table),
+        b'K' => tied::of_line(out, line, n, m, bounds, coefs, rhs, kinds, table),
         b'R' | b'T' | b'W' | b'B' | b'S' => {
-            book_cases::answer(line, n, m, bounds, coefs, rhs, kinds, table)
+            book_cases::answer(out, line, n, m, bounds, coefs, rhs, kinds, table)
         }
-        _ => look(line, n, m, bounds, coefs, rhs, kinds, table),
+        _ => look(out, line, n, m, bounds, coefs, rhs, kinds, table),
     }
 }
 
 // The same of as much of each buffer as the model has.
 fn lent(
+    out: Stdout,
     line: &[u8],
     sizes: Sizes,
     bounds: &mut [i32],
@@ -128,6 +136,7 @@ fn lent(
     table: &mut [u8],
 ) {
     answer(
+        out,
         line,
         sizes.n,
         sizes.m,
@@ -141,6 +150,7 @@ fn lent(
 
 // One line: the model as it changes it, and what it asks of that.
 fn turn(
+    out: Stdout,
     line: &[u8],
     sizes: Sizes,
     bounds: &mut [i32; 256],
@@ -150,12 +160,12 @@ fn turn(
     table: &mut [u8; 65_536],
 ) -> Sizes {
     let sizes = buffers::change(line, sizes, bounds, coefs, rhs, kinds, table);
-    lent(line, sizes, bounds, coefs, rhs, kinds, table);
+    lent(out, line, sizes, bounds, coefs, rhs, kinds, table);
     sizes
 }
 
 // One line after another.
-fn each_line(text: &[u8]) {
+fn each_line(out: Stdout, text: &[u8]) {
     let mut bounds = [0i32; 256];
     let mut coefs = [0i32; 15_360];
     let mut rhs = [0i32; 120];
@@ -166,6 +176,7 @@ fn each_line(text: &[u8]) {
     while at < text.len() {
         let line = words::line(text, at);
         sizes = turn(
+            out,
             line,
             sizes,
             &mut bounds,
@@ -178,9 +189,27 @@ fn each_line(text: &[u8]) {
     }
 }
 
+// Reads until the room is full, the input ends or a read fails, and returns how many bytes there are.
+fn read_full(input: Stdin, room: &mut [u8]) -> usize
+    ensures { result ≤ length room.new }
+{
+    let mut input = input;
+    let mut done = 0;
+    while done < room.len() {
+        let Ok(n) = input.read(&mut room[done..]) else {
+            break;
+        };
+        if n == 0 {
+            break;
+        }
+        done += n;
+    }
+    done
+}
+
 // Runs the cases on standard input.
-pub fn run() {
-    let mut text = io::large_buffer();
-    let len = io::read_full(0, &mut text);
-    each_line(&text[..len]);
+pub fn run(rt: HostRuntime) {
+    let mut text = [0u8; 65_536];
+    let len = read_full(rt.stdin(), &mut text);
+    each_line(rt.stdout(), &text[..len]);
 }

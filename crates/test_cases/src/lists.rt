@@ -3,26 +3,28 @@ use call::Call;
 use call_list::run_four;
 use flat_list::{RunAnswer, run, run_classes};
 use reducer::calls::RestAnswer;
+use std::io::Stdout;
 use test_text::parts::{bytes_part_mut, naturals_part};
 use test_text::print::{bytes, count, item, line, refused, text};
 use test_text::words::{behind, fill_naturals, first, natural, number};
 
 // The four counts: refused, infeasible, changed, unchanged.
-fn ran(a: RunAnswer) {
+fn ran(out: Stdout, a: RunAnswer) {
     match a {
-        RunAnswer::Refused(number) => refused(number),
+        RunAnswer::Refused(number) => refused(out, number),
         RunAnswer::Ran(counts) => {
-            text(b" ran");
-            count(counts.refused);
-            count(counts.infeasible);
-            count(counts.changed);
-            count(counts.unchanged);
+            text(out, b" ran");
+            count(out, counts.refused);
+            count(out, counts.infeasible);
+            count(out, counts.changed);
+            count(out, counts.unchanged);
         }
     }
 }
 
 // Runs a list of numbers, four a record.
 fn execute(
+    out: Stdout,
     words: &[u8],
     n: usize,
     m: usize,
@@ -37,13 +39,14 @@ fn execute(
     let all = len.magnitude as usize;
     fill_naturals(words, len.next, all, &mut calls);
     let list = naturals_part(&calls, all);
-    text(b":");
-    ran(run(n, m, bounds, coefs, rhs, kinds, table, list));
-    line();
+    text(out, b":");
+    ran(out, run(n, m, bounds, coefs, rhs, kinds, table, list));
+    line(out);
 }
 
 // The same, with as many bytes lent for what the records did as the first number says, each 9 before.
 fn execute_classes(
+    out: Stdout,
     words: &[u8],
     n: usize,
     m: usize,
@@ -60,9 +63,12 @@ fn execute_classes(
     fill_naturals(words, len.next, all, &mut calls);
     let list = naturals_part(&calls, all);
     let classes = bytes_part_mut(&mut room, number(words, 1).magnitude as usize);
-    text(b":");
-    ran(run_classes(n, m, bounds, coefs, rhs, kinds, table, list, classes));
-    bytes(b" did", classes);
+    text(out, b":");
+    ran(
+        out,
+        run_classes(n, m, bounds, coefs, rhs, kinds, table, list, classes),
+    );
+    bytes(out, b" did", classes);
 }
 
 // The call that the first four words are.
@@ -77,6 +83,7 @@ pub fn record(words: &[u8]) -> Call {
 
 // Runs a list of four records.
 fn execute_records(
+    out: Stdout,
     words: &[u8],
     n: usize,
     m: usize,
@@ -92,12 +99,13 @@ fn execute_records(
         record(behind(words, 8)),
         record(behind(words, 12)),
     ];
-    text(b":");
-    ran(run_four(n, m, bounds, coefs, rhs, kinds, table, calls));
-    line();
+    text(out, b":");
+    ran(out, run_four(n, m, bounds, coefs, rhs, kinds, table, calls));
+    line(out);
 }
 
 pub fn answer(
+    out: Stdout,
     words: &[u8],
     n: usize,
     m: usize,
@@ -108,22 +116,22 @@ pub fn answer(
     table: &mut [u8],
 ) {
     match first(words) {
-        b'e' => execute(words, n, m, bounds, coefs, rhs, kinds, table),
-        b'D' => execute_classes(words, n, m, bounds, coefs, rhs, kinds, table),
-        _ => execute_records(words, n, m, bounds, coefs, rhs, kinds, table),
+        b'e' => execute(out, words, n, m, bounds, coefs, rhs, kinds, table),
+        b'D' => execute_classes(out, words, n, m, bounds, coefs, rhs, kinds, table),
+        _ => execute_records(out, words, n, m, bounds, coefs, rhs, kinds, table),
     }
 }
 
 // Whether the box that a list leaves is at rest.
-pub fn rest(answer: RestAnswer) {
+pub fn rest(out: Stdout, answer: RestAnswer) {
     match answer {
         RestAnswer::Refused(number) => {
-            text(b" ");
-            refused(number);
+            text(out, b" ");
+            refused(out, number);
         }
-        RestAnswer::Yes => text(b"  at rest"),
-        RestAnswer::NoByRow(r) => item(b"  not at rest by row", r),
-        RestAnswer::NoByVariable(k) => item(b"  not at rest by variable", k),
+        RestAnswer::Yes => text(out, b"  at rest"),
+        RestAnswer::NoByRow(r) => item(out, b"  not at rest by row", r),
+        RestAnswer::NoByVariable(k) => item(out, b"  not at rest by variable", k),
     }
-    line();
+    line(out);
 }

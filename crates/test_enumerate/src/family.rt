@@ -3,6 +3,7 @@ use crate::attempt::attempt;
 use crate::rooms::{bounds_part, coefs_part, kinds_part, marks_part, rhs_part, row_count};
 use crate::runs::ends_meet;
 use call::{Call, PROBE, PROPAGATE_ROW, REMOVE_ROW, TIGHTEN_COEFFICIENT};
+use std::io::Stdout;
 use test_points::grid::counted;
 use test_points::models::put_model;
 use test_points::{grid, models};
@@ -75,10 +76,8 @@ fn budget_of(code: usize) -> u32 {
 }
 
 fn each_call(n: usize, code: usize, marks: &[u8], lie: u32, tally: &mut [usize; 5]) {
-    let mut c = 0u32;
-    while c < 72 {
+    for c in 0..72 {
         one_call(n, code, marks, lie, c, tally);
-        c += 1;
     }
 }
 
@@ -121,52 +120,50 @@ fn kinded(n: usize, i: usize, code: usize, equality: bool) -> usize {
     code
 }
 
-fn item(word: &[u8], x: usize) {
-    text(word);
-    count(x);
+fn item(out: Stdout, word: &[u8], x: usize) {
+    text(out, word);
+    count(out, x);
 }
 
-fn print(word: &[u8], tally: &[usize; 5]) {
-    text(word);
-    item(b": models", tally[MODELS]);
-    item(b", points", tally[POINTS]);
-    item(b", calls", tally[CALLS]);
-    item(b", wrong", tally[WRONG]);
-    item(b", apart", tally[APART]);
-    line();
+fn print(out: Stdout, word: &[u8], tally: &[usize; 5]) {
+    text(out, word);
+    item(out, b": models", tally[MODELS]);
+    item(out, b", points", tally[POINTS]);
+    item(out, b", calls", tally[CALLS]);
+    item(out, b", wrong", tally[WRONG]);
+    item(out, b", apart", tally[APART]);
+    line(out);
 }
 
-fn family(word: &[u8], n: usize, size: usize, lie: u32, equality: bool) {
+fn family(out: Stdout, word: &[u8], n: usize, size: usize, lie: u32, equality: bool) {
     let mut tally = [0usize; 5];
     let mut code = 0;
-    let mut i = 0;
-    while i < size {
+    for i in 0..size {
         code = next_model(n, i, code);
         model(n, kinded(n, i, code, equality), lie, &mut tally);
-        i += 1;
     }
-    print(word, &tally);
+    print(out, word, &tally);
 }
 
 // All models with n = 2 and m = 2 in steps of 37, and larger ones by the congruence; then such models with = rows.
-pub fn families() {
-    family(b"n 2 m 2", 2, 82_771, 0, false);
-    family(b"n 3 m 3", 3, 4_000, 0, false);
-    family(b"n 4 m 3", 4, 1_000, 0, false);
-    family(b"n 2 m 2, = rows", 2, 20_000, 0, true);
-    family(b"n 3 m 3, = rows", 3, 2_000, 0, true);
-    family(b"n 4 m 3, = rows", 4, 500, 0, true);
+pub fn families(out: Stdout) {
+    family(out, b"n 2 m 2", 2, 82_771, 0, false);
+    family(out, b"n 3 m 3", 3, 4_000, 0, false);
+    family(out, b"n 4 m 3", 4, 1_000, 0, false);
+    family(out, b"n 2 m 2, = rows", 2, 20_000, 0, true);
+    family(out, b"n 3 m 3, = rows", 3, 2_000, 0, true);
+    family(out, b"n 4 m 3, = rows", 4, 500, 0, true);
 }
 
 // The same comparison over calls that leave something wrong: a right side lowered with a negative coefficient, an upper
 // bound cut, an upper bound moved out, an implication invented, infeasible said, a bound that moved not counted, an =
 // row made a ≤ row.
-pub fn lies() {
-    family(b"lie 1", 2, 20_000, 1, false);
-    family(b"lie 2", 2, 2_000, 2, false);
-    family(b"lie 3", 2, 2_000, 3, false);
-    family(b"lie 4", 2, 2_000, 4, false);
-    family(b"lie 5", 2, 2_000, 5, false);
-    family(b"lie 6", 2, 2_000, 6, false);
-    family(b"lie 7", 2, 2_000, 7, true);
+pub fn lies(out: Stdout) {
+    family(out, b"lie 1", 2, 20_000, 1, false);
+    family(out, b"lie 2", 2, 2_000, 2, false);
+    family(out, b"lie 3", 2, 2_000, 3, false);
+    family(out, b"lie 4", 2, 2_000, 4, false);
+    family(out, b"lie 5", 2, 2_000, 5, false);
+    family(out, b"lie 6", 2, 2_000, 6, false);
+    family(out, b"lie 7", 2, 2_000, 7, true);
 }

@@ -5,15 +5,7 @@ use test_text::parts::lesser;
 
 // Whether a coefficient is above what it was: after a tightening only a negative one that was tightened is.
 fn is_raised(before: &[i32], coefs: &[i32]) -> bool {
-    let len = lesser(before.len(), coefs.len());
-    let mut i = 0;
-    while i < len {
-        if before[i] < coefs[i] {
-            return true;
-        }
-        i += 1;
-    }
-    false
+    before.iter().zip(coefs).any(|(old, new)| *old < *new)
 }
 
 // The predecessor's mistake in a tightening: the right side lowered with a negative coefficient, which

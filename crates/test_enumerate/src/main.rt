@@ -14,7 +14,8 @@ mod moved;
 mod rooms;
 mod runs;
 
-fn main() {
-    family::families();
-    family::lies();
+fn main(rt: HostRuntime) {
+    let out = rt.stdout();
+    family::families(out);
+    family::lies(out);
 }

@@ -1,20 +1,15 @@
 // The bounds that a call says it moved, held against the bounds before and after it.
 use reducer::calls::{ProbeAnswer, PropagateAnswer, PropagateRowAnswer};
 use test_one_call::made::Made;
-use test_points::grid::counted;
-use test_text::parts::lesser;
 use two_sides::Side;
 
 // How many bounds differ.
 fn differing(before: &[i32], after: &[i32]) -> usize {
-    let len = lesser(before.len(), after.len());
-    let mut found = 0;
-    let mut i = 0;
-    while i < len {
-        found += counted(before[i] != after[i]);
-        i += 1;
-    }
-    found
+    before
+        .iter()
+        .zip(after)
+        .filter(|(old, new)| *old != *new)
+        .count()
 }
 
 // A row moved each bound that differs once; one that is infeasible tells no number.

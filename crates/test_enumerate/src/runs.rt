@@ -66,10 +66,8 @@ fn sweep(
     table: &mut [u8],
     down: bool,
 ) {
-    let mut i = 0;
-    while i < 8 {
+    for i in 0..8 {
         make(n, m, bounds, coefs, rhs, kinds, table, sweep_call(i, down));
-        i += 1;
     }
 }
 
@@ -92,13 +90,11 @@ fn run_to_rest(
     table: &mut [u8],
     down: bool,
 ) -> bool {
-    let mut sweeps: usize = 0;
-    while sweeps < 16 {
+    for _ in 0..16 {
         if rests(n, m, bounds, coefs, rhs, kinds) {
             return true;
         }
         sweep(n, m, bounds, coefs, rhs, kinds, table, down);
-        sweeps += 1;
     }
     false
 }

@@ -4,24 +4,21 @@ use crate::in_words;
 use crate::made::make;
 use crate::transcript::name;
 use call::{Call, PROBE, PROPAGATE, PROPAGATE_ROW, TIGHTEN_COEFFICIENT};
+use std::io::Stdout;
 use test_text::parts::{bytes_part_mut, lesser, part_mut};
 use test_text::print::{count, line, number, text};
 
 fn copy(from: &[i32], to: &mut [i32]) {
     let len = lesser(from.len(), to.len());
-    let mut i = 0;
-    while i < len {
+    for i in 0..len {
         to[i] = from[i];
-        i += 1;
     }
 }
 
 fn copy_bytes(from: &[u8], to: &mut [u8]) {
     let len = lesser(from.len(), to.len());
-    let mut i = 0;
-    while i < len {
+    for i in 0..len {
         to[i] = from[i];
-        i += 1;
     }
 }
 
@@ -36,59 +33,56 @@ fn copied_bytes<'a>(from: &[u8], room: &'a mut [u8]) -> &'a mut [u8] {
     bytes_part_mut(room, from.len())
 }
 
-fn change(word: &[u8], place: usize, value: i32) {
-    text(word);
-    count(place);
-    text(b" =");
-    number(value);
+fn change(out: Stdout, word: &[u8], place: usize, value: i32) {
+    text(out, word);
+    count(out, place);
+    text(out, b" =");
+    number(out, value);
 }
 
-fn byte_change(word: &[u8], place: usize, value: u8) {
-    text(word);
-    count(place);
-    text(b" =");
-    count(value as usize);
+fn byte_change(out: Stdout, word: &[u8], place: usize, value: u8) {
+    text(out, word);
+    count(out, place);
+    text(out, b" =");
+    count(out, value as usize);
 }
 
 // The places where a list differs from what it was.
-fn changes(word: &[u8], before: &[i32], after: &[i32]) {
+fn changes(out: Stdout, word: &[u8], before: &[i32], after: &[i32]) {
     let len = lesser(before.len(), after.len());
-    let mut i = 0;
-    while i < len {
+    for i in 0..len {
         let x = after[i];
         if x != before[i] {
-            change(word, i, x);
+            change(out, word, i, x);
         }
-        i += 1;
     }
 }
 
-fn byte_changes(word: &[u8], before: &[u8], after: &[u8]) {
+fn byte_changes(out: Stdout, word: &[u8], before: &[u8], after: &[u8]) {
     let len = lesser(before.len(), after.len());
-    let mut i = 0;
-    while i < len {
+    for i in 0..len {
         let x = after[i];
         if x != before[i] {
-            byte_change(word, i, x);
+            byte_change(out, word, i, x);
         }
-        i += 1;
     }
 }
 
 // 01's word for a kind, as wide as the longest.
-fn label(kind: u32) {
-    text(b"  ");
-    name(kind);
+fn label(out: Stdout, kind: u32) {
+    text(out, b"  ");
+    name(out, kind);
     match kind {
-        PROPAGATE_ROW | PROBE => text(b"  "),
-        PROPAGATE => text(b" "),
+        PROPAGATE_ROW | PROBE => text(out, b"  "),
+        PROPAGATE => text(out, b" "),
         TIGHTEN_COEFFICIENT => {}
-        _ => text(b"   "),
+        _ => text(out, b"   "),
     }
 }
 
 // The places where any buffer differs from what it was.
 fn all_changes(
+    out: Stdout,
     bounds: &[i32],
     coefs: &[i32],
     rhs: &[i32],
@@ -100,14 +94,15 @@ fn all_changes(
     new_kinds: &[u8],
     new_table: &[u8],
 ) {
-    changes(b", bounds", bounds, new_bounds);
-    changes(b", coefs", coefs, new_coefs);
-    changes(b", rhs", rhs, new_rhs);
-    byte_changes(b", kinds", kinds, new_kinds);
-    byte_changes(b", table", table, new_table);
+    changes(out, b", bounds", bounds, new_bounds);
+    changes(out, b", coefs", coefs, new_coefs);
+    changes(out, b", rhs", rhs, new_rhs);
+    byte_changes(out, b", kinds", kinds, new_kinds);
+    byte_changes(out, b", table", table, new_table);
 }
 
 pub fn one(
+    out: Stdout,
     n: usize,
     m: usize,
     bounds: &[i32],
@@ -127,18 +122,22 @@ pub fn one(
     let new_rhs = copied(rhs, &mut rhs_room);
     let new_kinds = copied_bytes(kinds, &mut kinds_room);
     let new_table = copied_bytes(table, &mut table_room);
-    label(call.kind);
-    in_words::answer(make(
-        n, m, new_bounds, new_coefs, new_rhs, new_kinds, new_table, call,
-    ));
-    all_changes(
-        bounds, coefs, rhs, kinds, table, new_bounds, new_coefs, new_rhs, new_kinds, new_table,
+    label(out, call.kind);
+    in_words::answer(
+        out,
+        make(
+            n, m, new_bounds, new_coefs, new_rhs, new_kinds, new_table, call,
+        ),
     );
-    line();
+    all_changes(
+        out, bounds, coefs, rhs, kinds, table, new_bounds, new_coefs, new_rhs, new_kinds, new_table,
+    );
+    line(out);
 }
 
 // All six, each on its own copy; the record's kind is not looked at.
 pub fn all(
+    out: Stdout,
     n: usize,
     m: usize,
     bounds: &[i32],
@@ -148,11 +147,8 @@ pub fn all(
     table: &[u8],
     call: Call,
 ) {
-    let mut each = call;
-    let mut kind = 1;
-    while kind <= 6 {
-        each.kind = kind;
-        one(n, m, bounds, coefs, rhs, kinds, table, each);
-        kind += 1;
+    for kind in 1..=6 {
+        let each = Call { kind, ..call };
+        one(out, n, m, bounds, coefs, rhs, kinds, table, each);
     }
 }

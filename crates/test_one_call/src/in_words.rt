@@ -4,97 +4,98 @@ use reducer::Side;
 use reducer::calls::{
     ProbeAnswer, PropagateAnswer, PropagateRowAnswer, RemoveAnswer, RestAnswer, TightenAnswer,
 };
+use std::io::Stdout;
 use test_text::print::{item, refused, text};
 
 // How a propagation ended, its passes and the bounds that it moved.
-fn ended(word: &[u8], passes: u32, moved: u32) {
-    item(word, passes);
-    item(b" moved", moved);
+fn ended(out: Stdout, word: &[u8], passes: u32, moved: u32) {
+    item(out, word, passes);
+    item(out, b" moved", moved);
 }
 
-fn propagated_row(a: PropagateRowAnswer) {
+fn propagated_row(out: Stdout, a: PropagateRowAnswer) {
     match a {
-        PropagateRowAnswer::Refused(number) => refused(number),
-        PropagateRowAnswer::Infeasible => text(b" infeasible"),
-        PropagateRowAnswer::Tightened(moved) => item(b" tightened", moved),
-        PropagateRowAnswer::Unchanged => text(b" unchanged"),
+        PropagateRowAnswer::Refused(number) => refused(out, number),
+        PropagateRowAnswer::Infeasible => text(out, b" infeasible"),
+        PropagateRowAnswer::Tightened(moved) => item(out, b" tightened", moved),
+        PropagateRowAnswer::Unchanged => text(out, b" unchanged"),
     }
 }
 
-fn propagated(a: PropagateAnswer) {
+fn propagated(out: Stdout, a: PropagateAnswer) {
     match a {
-        PropagateAnswer::Refused(number) => refused(number),
-        PropagateAnswer::Infeasible(passes, moved) => ended(b" infeasible", passes, moved),
-        PropagateAnswer::Converged(passes, moved) => ended(b" converged", passes, moved),
-        PropagateAnswer::BudgetSpent(passes, moved) => ended(b" spent", passes, moved),
+        PropagateAnswer::Refused(number) => refused(out, number),
+        PropagateAnswer::Infeasible(passes, moved) => ended(out, b" infeasible", passes, moved),
+        PropagateAnswer::Converged(passes, moved) => ended(out, b" converged", passes, moved),
+        PropagateAnswer::BudgetSpent(passes, moved) => ended(out, b" spent", passes, moved),
     }
 }
 
-fn side(s: Side) {
+fn side(out: Stdout, s: Side) {
     if s.spent {
-        ended(b" spent", s.passes, s.moved);
+        ended(out, b" spent", s.passes, s.moved);
     } else {
-        ended(b" side", s.passes, s.moved);
+        ended(out, b" side", s.passes, s.moved);
     }
 }
 
-fn sides(side0: Side, side1: Side) {
-    side(side0);
-    side(side1);
+fn sides(out: Stdout, side0: Side, side1: Side) {
+    side(out, side0);
+    side(out, side1);
 }
 
-fn probed(a: ProbeAnswer) {
+fn probed(out: Stdout, a: ProbeAnswer) {
     match a {
-        ProbeAnswer::Refused(number) => refused(number),
+        ProbeAnswer::Refused(number) => refused(out, number),
         ProbeAnswer::Infeasible(side0, side1) => {
-            text(b" infeasible");
-            sides(side0, side1);
+            text(out, b" infeasible");
+            sides(out, side0, side1);
         }
         ProbeAnswer::Fixed(value, side0, side1) => {
-            item(b" fixed", value);
-            sides(side0, side1);
+            item(out, b" fixed", value);
+            sides(out, side0, side1);
         }
         ProbeAnswer::BothFeasible(added, side0, side1) => {
-            item(b" both", added);
-            sides(side0, side1);
+            item(out, b" both", added);
+            sides(out, side0, side1);
         }
     }
 }
 
-fn tightened(a: TightenAnswer) {
+fn tightened(out: Stdout, a: TightenAnswer) {
     match a {
-        TightenAnswer::Refused(number) => refused(number),
-        TightenAnswer::Infeasible => text(b" infeasible"),
-        TightenAnswer::Tightened => text(b" tightened"),
-        TightenAnswer::Unchanged => text(b" unchanged"),
+        TightenAnswer::Refused(number) => refused(out, number),
+        TightenAnswer::Infeasible => text(out, b" infeasible"),
+        TightenAnswer::Tightened => text(out, b" tightened"),
+        TightenAnswer::Unchanged => text(out, b" unchanged"),
     }
 }
 
-fn removed(a: RemoveAnswer) {
+fn removed(out: Stdout, a: RemoveAnswer) {
     match a {
-        RemoveAnswer::Refused(number) => refused(number),
-        RemoveAnswer::Infeasible => text(b" infeasible"),
-        RemoveAnswer::Removed => text(b" removed"),
-        RemoveAnswer::Unchanged => text(b" unchanged"),
+        RemoveAnswer::Refused(number) => refused(out, number),
+        RemoveAnswer::Infeasible => text(out, b" infeasible"),
+        RemoveAnswer::Removed => text(out, b" removed"),
+        RemoveAnswer::Unchanged => text(out, b" unchanged"),
     }
 }
 
-fn rest(a: RestAnswer) {
+fn rest(out: Stdout, a: RestAnswer) {
     match a {
-        RestAnswer::Refused(number) => refused(number),
-        RestAnswer::Yes => text(b" yes"),
-        RestAnswer::NoByRow(r) => item(b" no by row", r),
-        RestAnswer::NoByVariable(k) => item(b" no by variable", k),
+        RestAnswer::Refused(number) => refused(out, number),
+        RestAnswer::Yes => text(out, b" yes"),
+        RestAnswer::NoByRow(r) => item(out, b" no by row", r),
+        RestAnswer::NoByVariable(k) => item(out, b" no by variable", k),
     }
 }
 
-pub fn answer(made: Made) {
+pub fn answer(out: Stdout, made: Made) {
     match made {
-        Made::PropagatedRow(a) => propagated_row(a),
-        Made::Propagated(a) => propagated(a),
-        Made::Probed(a) => probed(a),
-        Made::Tightened(a) => tightened(a),
-        Made::Removed(a) => removed(a),
-        Made::Rest(a) => rest(a),
+        Made::PropagatedRow(a) => propagated_row(out, a),
+        Made::Propagated(a) => propagated(out, a),
+        Made::Probed(a) => probed(out, a),
+        Made::Tightened(a) => tightened(out, a),
+        Made::Removed(a) => removed(out, a),
+        Made::Rest(a) => rest(out, a),
     }
 }

@@ -2,30 +2,32 @@
 use crate::in_words;
 use crate::made::make;
 use call::{Call, PROBE, PROPAGATE, PROPAGATE_ROW, REMOVE_ROW, TIGHTEN_COEFFICIENT};
+use std::io::Stdout;
 use test_text::print::{count, line, text};
 
 // 01's word for a kind.
-pub fn name(kind: u32) {
+pub fn name(out: Stdout, kind: u32) {
     match kind {
-        PROPAGATE_ROW => text(b"visit"),
-        PROPAGATE => text(b"settle"),
-        PROBE => text(b"probe"),
-        TIGHTEN_COEFFICIENT => text(b"sharpen"),
-        REMOVE_ROW => text(b"drop"),
-        _ => text(b"rest"),
+        PROPAGATE_ROW => text(out, b"visit"),
+        PROPAGATE => text(out, b"settle"),
+        PROBE => text(out, b"probe"),
+        TIGHTEN_COEFFICIENT => text(out, b"sharpen"),
+        REMOVE_ROW => text(out, b"drop"),
+        _ => text(out, b"rest"),
     }
 }
 
 // A record as 01 has it: kind, row, variable, budget.
-fn record(call: Call) {
-    name(call.kind);
-    count(call.row as usize);
-    count(call.variable as usize);
-    count(call.budget as usize);
+fn record(out: Stdout, call: Call) {
+    name(out, call.kind);
+    count(out, call.row as usize);
+    count(out, call.variable as usize);
+    count(out, call.budget as usize);
 }
 
 // One call as a line.
 pub fn step(
+    out: Stdout,
     n: usize,
     m: usize,
     bounds: &mut [i32],
@@ -35,7 +37,7 @@ pub fn step(
     table: &mut [u8],
     call: Call,
 ) {
-    record(call);
-    in_words::answer(make(n, m, bounds, coefs, rhs, kinds, table, call));
-    line();
+    record(out, call);
+    in_words::answer(out, make(n, m, bounds, coefs, rhs, kinds, table, call));
+    line(out);
 }

@@ -3,57 +3,59 @@ use book::writing::WriteAnswer;
 use book::{SizesAnswer, trailer};
 use book_reading::read;
 use book_writing::write;
+use std::io::Stdout;
 use test_text::parts::{bytes_part, bytes_part_mut, part_mut, same_numbers};
 use test_text::print::{count, line, refused, text};
 use test_text::words;
 
-fn sizes(answer: SizesAnswer) {
-    text(b":");
+fn sizes(out: Stdout, answer: SizesAnswer) {
+    text(out, b":");
     match answer {
-        SizesAnswer::Refused(number) => refused(number),
+        SizesAnswer::Refused(number) => refused(out, number),
         SizesAnswer::Sizes { n, m } => {
-            count(n);
-            text(b" variables,");
-            count(m);
-            text(b" rows");
+            count(out, n);
+            text(out, b" variables,");
+            count(out, m);
+            text(out, b" rows");
         }
     }
-    line();
+    line(out);
 }
 
-fn written(answer: WriteAnswer) {
-    text(b":");
+fn written(out: Stdout, answer: WriteAnswer) {
+    text(out, b":");
     match answer {
-        WriteAnswer::Refused(number) => refused(number),
-        WriteAnswer::Written => text(b" written"),
+        WriteAnswer::Refused(number) => refused(out, number),
+        WriteAnswer::Written => text(out, b" written"),
     }
-    line();
+    line(out);
 }
 
-fn same(is_same: bool) {
+fn same(out: Stdout, is_same: bool) {
     if is_same {
-        text(b": the same");
+        text(out, b": the same");
     } else {
-        text(b": different");
+        text(out, b": different");
     }
-    line();
+    line(out);
 }
 
 // Whether the book is the bytes of the line.
-fn compare(words: &[u8], book: &[u8]) {
+fn compare(out: Stdout, words: &[u8], book: &[u8]) {
     let mut bytes = [0u8; 64];
     let len = words::number(words, 1);
     let all = len.magnitude as usize;
     words::fill_bytes(words, len.next, all, &mut bytes);
-    same(check::same(book, bytes_part(&bytes, all)));
+    same(out, book == bytes_part(&bytes, all));
 }
 
-fn compare_numbers(word: &[u8], a: &[i32], b: &[i32]) {
-    text(word);
-    same(same_numbers(a, b));
+fn compare_numbers(out: Stdout, word: &[u8], a: &[i32], b: &[i32]) {
+    text(out, word);
+    same(out, same_numbers(a, b));
 }
 
 fn write_again(
+    out: Stdout,
     n: usize,
     m: usize,
     bounds: &[i32],
@@ -65,12 +67,20 @@ fn write_again(
     let mut room = [0u8; 62_960];
     let again = bytes_part_mut(&mut room, book.len());
     write(n, m, bounds, coefs, rhs, kinds, again);
-    text(b"round trip, bytes");
-    same(check::same(book, again));
+    text(out, b"round trip, bytes");
+    same(out, book == &*again);
 }
 
 // The kinds' room is not 0: reading makes it so.
-fn read_back(n: usize, m: usize, bounds: &[i32], coefs: &[i32], rhs: &[i32], book: &[u8]) {
+fn read_back(
+    out: Stdout,
+    n: usize,
+    m: usize,
+    bounds: &[i32],
+    coefs: &[i32],
+    rhs: &[i32],
+    book: &[u8],
+) {
     let mut bounds_room = [0i32; 256];
     let mut coefs_room = [0i32; 15_360];
     let mut rhs_room = [0i32; 120];
@@ -79,16 +89,29 @@ fn read_back(n: usize, m: usize, bounds: &[i32], coefs: &[i32], rhs: &[i32], boo
     let coefs_read = part_mut(&mut coefs_room, coefs.len());
     let rhs_read = part_mut(&mut rhs_room, rhs.len());
     let kinds_read = bytes_part_mut(&mut kinds_room, rhs.len());
-    text(b"round trip, read");
-    sizes(read(book, bounds_read, coefs_read, rhs_read, kinds_read));
-    compare_numbers(b"round trip, bounds", bounds, bounds_read);
-    compare_numbers(b"round trip, coefficients", coefs, coefs_read);
-    compare_numbers(b"round trip, right sides", rhs, rhs_read);
-    write_again(n, m, bounds_read, coefs_read, rhs_read, kinds_read, book);
+    text(out, b"round trip, read");
+    sizes(
+        out,
+        read(book, bounds_read, coefs_read, rhs_read, kinds_read),
+    );
+    compare_numbers(out, b"round trip, bounds", bounds, bounds_read);
+    compare_numbers(out, b"round trip, coefficients", coefs, coefs_read);
+    compare_numbers(out, b"round trip, right sides", rhs, rhs_read);
+    write_again(
+        out,
+        n,
+        m,
+        bounds_read,
+        coefs_read,
+        rhs_read,
+        kinds_read,
+        book,
+    );
 }
 
 // The round trip: a model is written, the book is read into other buffers, and what was read is written again.
 fn round_trip(
+    out: Stdout,
     n: usize,
     m: usize,
     bounds: &[i32],
@@ -97,12 +120,13 @@ fn round_trip(
     kinds: &[u8],
     book: &mut [u8],
 ) {
-    text(b"round trip, written");
-    written(write(n, m, bounds, coefs, rhs, kinds, book));
-    read_back(n, m, bounds, coefs, rhs, book);
+    text(out, b"round trip, written");
+    written(out, write(n, m, bounds, coefs, rhs, kinds, book));
+    read_back(out, n, m, bounds, coefs, rhs, book);
 }
 
 pub fn answer(
+    out: Stdout,
     words: &[u8],
     n: usize,
     m: usize,
@@ -113,10 +137,10 @@ pub fn answer(
     book: &mut [u8],
 ) {
     match words::first(words) {
-        b'R' => sizes(read(book, bounds, coefs, rhs, kinds)),
-        b'T' => sizes(trailer(book)),
-        b'W' => written(write(n, m, bounds, coefs, rhs, kinds, book)),
-        b'B' => round_trip(n, m, bounds, coefs, rhs, kinds, book),
-        _ => compare(words, book),
+        b'R' => sizes(out, read(book, bounds, coefs, rhs, kinds)),
+        b'T' => sizes(out, trailer(book)),
+        b'W' => written(out, write(n, m, bounds, coefs, rhs, kinds, book)),
+        b'B' => round_trip(out, n, m, bounds, coefs, rhs, kinds, book),
+        _ => compare(out, words, book),
     }
 }

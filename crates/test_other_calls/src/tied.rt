@@ -1,29 +1,29 @@
 // A tie of two variables as a line: the variables, the answer, and the tie list after it.
+use std::io::Stdout;
 use test_text::parts::places_part_mut;
 use test_text::print::{count, line, refused, text};
 use test_text::words::{fill_places, natural, number};
 use tie_call::{TieAnswer, tie};
 
-fn answer(a: TieAnswer) {
+fn answer(out: Stdout, a: TieAnswer) {
     match a {
-        TieAnswer::Refused(number) => refused(number),
-        TieAnswer::Tied => text(b" tied"),
-        TieAnswer::Unchanged => text(b" unchanged"),
+        TieAnswer::Refused(number) => refused(out, number),
+        TieAnswer::Tied => text(out, b" tied"),
+        TieAnswer::Unchanged => text(out, b" unchanged"),
     }
 }
 
-fn places(ties: &[u16]) {
-    text(b":");
-    let mut i = 0;
-    while i < ties.len() {
-        count(ties[i] as usize);
-        i += 1;
+fn places(out: Stdout, ties: &[u16]) {
+    text(out, b":");
+    for place in ties {
+        count(out, *place as usize);
     }
-    line();
+    line(out);
 }
 
 // The line has k and j, the length of the list, and its places, over and over.
 pub fn of_line(
+    out: Stdout,
     words: &[u8],
     n: usize,
     m: usize,
@@ -40,9 +40,9 @@ pub fn of_line(
     let all = len.magnitude as usize;
     fill_places(words, len.next, all, &mut room);
     let ties = places_part_mut(&mut room, all);
-    text(b"tie");
-    count(k as usize);
-    count(j as usize);
-    answer(tie(n, m, bounds, coefs, rhs, kinds, table, ties, k, j));
-    places(ties);
+    text(out, b"tie");
+    count(out, k as usize);
+    count(out, j as usize);
+    answer(out, tie(n, m, bounds, coefs, rhs, kinds, table, ties, k, j));
+    places(out, ties);
 }

@@ -1,11 +1,12 @@
-// Words and numbers on standard output.
+// Words and numbers on standard output. Nothing stops at a write that fails: what is not written shows in the output.
+use std::io::Stdout;
 
-pub fn text(s: &[u8]) {
-    io::write_all(1, s);
+pub fn text(out: Stdout, s: &[u8]) {
+    let _ = out.write_all(s);
 }
 
-pub fn line() {
-    io::write_all(1, &[b'\n']);
+pub fn line(out: Stdout) {
+    text(out, b"\n");
 }
 
 fn magnitude(x: i32) -> u64 {
@@ -17,63 +18,61 @@ fn magnitude(x: i32) -> u64 {
     }
 }
 
-// A number behind a space.
-pub fn number(x: i32) {
-    if x < 0 {
-        io::write_all(1, &[b' ', b'-']);
-    } else {
-        io::write_all(1, &[b' ']);
-    }
-    io::print_decimal(1, magnitude(x));
+fn decimal(out: Stdout, x: u64) {
+    let _ = out.print(x);
 }
 
-pub fn count(x: usize) {
-    io::write_all(1, &[b' ']);
-    io::print_decimal(1, x as u64);
+// A number behind a space.
+pub fn number(out: Stdout, x: i32) {
+    if x < 0 {
+        text(out, b" -");
+    } else {
+        text(out, b" ");
+    }
+    decimal(out, magnitude(x));
+}
+
+pub fn count(out: Stdout, x: usize) {
+    text(out, b" ");
+    decimal(out, x as u64);
 }
 
 // A number behind a word.
-pub fn item(word: &[u8], number: u32) {
-    text(word);
-    count(number as usize);
+pub fn item(out: Stdout, word: &[u8], number: u32) {
+    text(out, word);
+    count(out, number as usize);
 }
 
 // The check that a call fails.
-pub fn refused(number: u32) {
-    item(b" refused", number);
+pub fn refused(out: Stdout, number: u32) {
+    item(out, b" refused", number);
 }
 
 // The numbers of a list, behind a word.
-pub fn list(word: &[u8], xs: &[i32]) {
-    text(word);
-    let mut i = 0;
-    while i < xs.len() {
-        number(xs[i]);
-        i += 1;
+pub fn list(out: Stdout, word: &[u8], xs: &[i32]) {
+    text(out, word);
+    for x in xs {
+        number(out, *x);
     }
-    line();
+    line(out);
 }
 
 // The places of the bytes that are not 0, behind a word.
-pub fn ones(word: &[u8], xs: &[u8]) {
-    text(word);
-    let mut i = 0;
-    while i < xs.len() {
-        if xs[i] != 0 {
-            count(i);
+pub fn ones(out: Stdout, word: &[u8], xs: &[u8]) {
+    text(out, word);
+    for (i, x) in xs.iter().enumerate() {
+        if *x != 0 {
+            count(out, i);
         }
-        i += 1;
     }
-    line();
+    line(out);
 }
 
 // The bytes of a list, behind a word.
-pub fn bytes(word: &[u8], xs: &[u8]) {
-    text(word);
-    let mut i = 0;
-    while i < xs.len() {
-        count(xs[i] as usize);
-        i += 1;
+pub fn bytes(out: Stdout, word: &[u8], xs: &[u8]) {
+    text(out, word);
+    for x in xs {
+        count(out, *x as usize);
     }
-    line();
+    line(out);
 }

@@ -1,34 +1,33 @@
 // A model as `reduce` prints it: its rows, and the recorded implications.
 use crate::print::{count, line, list, number, text};
+use std::io::Stdout;
 
 // How the line of row r starts: r, row, b; of an = row, = before b.
-fn row_head(rhs: &[i32], kinds: &[u8], r: usize) {
-    text(b"  r");
-    count(r);
+fn row_head(out: Stdout, rhs: &[i32], kinds: &[u8], r: usize) {
+    text(out, b"  r");
+    count(out, r);
     if r < kinds.len() {
         if kinds[r] == 1 {
-            text(b" =");
+            text(out, b" =");
         }
     }
     if r < rhs.len() {
-        number(rhs[r]);
+        number(out, rhs[r]);
     }
 }
 
 // Each row: r, row, b, coefficients.
-pub fn rows(n: usize, coefs: &[i32], rhs: &[i32], kinds: &[u8]) {
-    let mut i = 0;
+pub fn rows(out: Stdout, n: usize, coefs: &[i32], rhs: &[i32], kinds: &[u8]) {
     let mut r = 0;
     let mut column = 0;
-    while i < coefs.len() {
+    for x in coefs {
         if column == 0 {
-            row_head(rhs, kinds, r);
+            row_head(out, rhs, kinds, r);
         }
-        number(coefs[i]);
-        i += 1;
+        number(out, *x);
         column += 1;
         if column == n {
-            line();
+            line(out);
             r += 1;
             column = 0;
         }
@@ -36,25 +35,23 @@ pub fn rows(n: usize, coefs: &[i32], rhs: &[i32], kinds: &[u8]) {
 }
 
 // Literal p implies literal q: i, k, v, j, w.
-fn implication(p: usize, q: usize) {
-    text(b"  i");
-    count(p / 2);
-    count(p % 2);
-    count(q / 2);
-    count(q % 2);
-    line();
+fn implication(out: Stdout, p: usize, q: usize) {
+    text(out, b"  i");
+    count(out, p / 2);
+    count(out, p % 2);
+    count(out, q / 2);
+    count(out, q % 2);
+    line(out);
 }
 
 // Each recorded implication.
-pub fn implications(literals: usize, table: &[u8]) {
-    let mut i = 0;
+pub fn implications(out: Stdout, literals: usize, table: &[u8]) {
     let mut p = 0;
     let mut q = 0;
-    while i < table.len() {
-        if table[i] != 0 {
-            implication(p, q);
+    for x in table {
+        if *x != 0 {
+            implication(out, p, q);
         }
-        i += 1;
         q += 1;
         if q == literals {
             p += 1;
@@ -64,7 +61,15 @@ pub fn implications(literals: usize, table: &[u8]) {
 }
 
 // How an example starts: its name with the bounds, then its rows.
-pub fn head(name: &[u8], n: usize, bounds: &[i32], coefs: &[i32], rhs: &[i32], kinds: &[u8]) {
-    list(name, bounds);
-    rows(n, coefs, rhs, kinds);
+pub fn head(
+    out: Stdout,
+    name: &[u8],
+    n: usize,
+    bounds: &[i32],
+    coefs: &[i32],
+    rhs: &[i32],
+    kinds: &[u8],
+) {
+    list(out, name, bounds);
+    rows(out, n, coefs, rhs, kinds);
 }

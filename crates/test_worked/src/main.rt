@@ -2,6 +2,6 @@
 // docs/WORKED.md compares each line of the output with the papers.
 #![tactic(auto)]
 
-fn main() {
-    test_cases::run();
+fn main(rt: HostRuntime) {
+    test_cases::run(rt);
 }

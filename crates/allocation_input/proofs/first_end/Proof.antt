@@ -11,49 +11,49 @@ use Rattle.allocation_input.proofs.InputLaws.{book-ends, end-further, end-here, 
 use Rattle.allocation_input.proofs.first_end.Statement.{statement}
 use Rattle.allocation_input.proofs.first_end.Tie as tie
 
-abbrev invariant-loop : tie.invariant-loop
+abbrev invariant-loop : tie.invariant-loop-end
 invariant-loop input end₀ end = (end ≤ length input + 1) × T (all end (no_book input))
 
-abbrev decreases-loop : tie.decreases-loop
+abbrev decreases-loop : tie.decreases-loop-end
 decreases-loop input end₀ end = length input + 1 - end
 
-loop-holds : tie.Need-loop-init invariant-loop decreases-loop
+loop-holds : tie.Need-loop-end-init invariant-loop decreases-loop
 unfolding all
 loop-holds c = (omega arith, tt)
 
-slice-aggregate-head-fault : tie.Need-slice-aggregate-head-fault invariant-loop decreases-loop
+slice-aggregate-head-fault : tie.Need-slice_bounds-head_fault-end invariant-loop decreases-loop
 slice-aggregate-head-fault c = sym (length-take-le _ _ (omega arith))
 
-head-fault-requires : tie.Need-head-fault-requires invariant-loop decreases-loop
+head-fault-requires : tie.Need-head_fault-requires invariant-loop decreases-loop
 head-fault-requires c κs = tt
 
-returns : tie.Need-returns invariant-loop decreases-loop
+returns : tie.Need-returns-then-head_fault-eq0 invariant-loop decreases-loop
 unfolding first_end
 returns c =
-    let h = c.before.before.before.before in
-    let bs = h.before.before.args.input.now in
-    end-here bs (no_book bs) h.loop.end (omega arith) h.loop.invariant.1 (book-ends bs h.loop.end (sym c.before.head-fault.ensures ∙ c.if1.true))
+    let h = c.before.before.before in
+    let bs = h.args.input.now in
+    end-here bs (no_book bs) h.loop-end.end (omega arith) h.loop-end.invariant.1 (book-ends bs h.loop-end.end (sym c.head_fault.ensures ∙ c.if-head_fault-eq0.true))
 
-add-end : tie.Need-overflow-add-end invariant-loop decreases-loop
+add-end : tie.Need-overflow_add-end invariant-loop decreases-loop
 add-end c = omega arith
 
-loop-less : tie.Need-loop-smaller invariant-loop decreases-loop
+loop-less : tie.Need-loop-end-smaller invariant-loop decreases-loop
 loop-less c = omega arith
 
-loop-again : tie.Need-loop-preserved invariant-loop decreases-loop
+loop-again : tie.Need-loop-end-preserved invariant-loop decreases-loop
 loop-again c =
-    let h = c.before.before.before.before in
-    let bs = h.before.before.args.input.now in
-    (omega arith, end-further bs (no_book bs) h.loop.end h.loop.invariant.1 (no-book-ends bs h.loop.end (λ z. c.if1.false (c.before.head-fault.ensures ∙ z))))
+    let h = c.before.before.before in
+    let bs = h.args.input.now in
+    (omega arith, end-further bs (no_book bs) h.loop-end.end h.loop-end.invariant.1 (no-book-ends bs h.loop-end.end (λ z. c.if-head_fault-eq0.false (c.head_fault.ensures ∙ z))))
 
-returns-2 : tie.Need-returns-2 invariant-loop decreases-loop
+returns-2 : tie.Need-returns invariant-loop decreases-loop
 unfolding first_end
 returns-2 c =
-    let bs = c.before.before.before.args.input.now in
-    end-nowhere bs (no_book bs) c.before.loop.end (omega arith) c.before.loop.invariant.1
+    let bs = c.args.input.now in
+    end-nowhere bs (no_book bs) c.loop-end.end (omega arith) c.loop-end.invariant.1
 
-pub first-end-spec : {M : Type 1} → statement M
-first-end-spec =
+pub first_end_spec : {M : Type 1} → statement M
+first_end_spec =
     tie.close
     (tie.spec
     invariant-loop

@@ -12,42 +12,42 @@ use Rattle.allocation_input.proofs.InputLaws.{book-variables, splits-by, splits-
 use Rattle.allocation_input.proofs.splits_at.Statement.{statement}
 use Rattle.allocation_input.proofs.splits_at.Tie as tie
 
-slice-aggregate-head-fault : tie.Need-slice-aggregate-head-fault
+slice-aggregate-head-fault : tie.Need-slice_bounds-head_fault-end
 slice-aggregate-head-fault c = sym (length-take-le _ _ (omega arith))
 
-head-fault-requires : tie.Need-head-fault-requires
+head-fault-requires : tie.Need-head_fault-requires
 head-fault-requires c κs = tt
 
-returns : tie.Need-returns
-returns c = splits-not _ _ (λ z. c.if1.true (c.before.head-fault.ensures ∙ z))
+returns : tie.Need-returns-then-head_fault-ne0
+returns c = splits-not _ _ (λ z. c.if-head_fault-ne0.true (c.head_fault.ensures ∙ z))
 
 -- what stands before it has a head
-headed : (c : tie.Else1) → let a = c.before.before.before.before.args in Head (take a.end a.input.now)
-headed c = (head-test _).0 (sym c.before.head-fault.ensures ∙ c.if1.false)
+headed : (c : tie.Else-head_fault-ne0) → let a = c.args in Head (take a.end a.input.now)
+headed c = (head-test _).0 (sym c.head_fault.ensures ∙ c.if-head_fault-ne0.false)
 
-slice-aggregate-trailer-u16 : tie.Need-slice-aggregate-trailer-u16
+slice-aggregate-trailer-u16 : tie.Need-slice_bounds-trailer_u16-end
 slice-aggregate-trailer-u16 c = sym (length-take-le _ _ (omega arith))
 
-trailer-u16-requires : tie.Need-trailer-u16-requires
-trailer-u16-requires c κs = ((headed c.before).long, omega arith)
+trailer-u16-requires : tie.Need-trailer_u16-n-requires
+trailer-u16-requires c κs = ((headed c).long, omega arith)
 
-proposals-fault-requires : tie.Need-proposals-fault-requires
+proposals-fault-requires : tie.Need-proposals_fault-requires
 proposals-fault-requires c κs =
-    let e = c.before.before in
-    let s = e.before.before.before.before in
-    (s.requires.0, s.requires.1, omega (arith, c.trailer-u16.ensures, (headed e).layout.few))
+    let e = c.before in
+    let s = e.before.before.before in
+    (s.requires.0, s.requires.1, omega (arith, c.trailer_u16-n.ensures, (headed e).layout.few))
 
-returns-2 : tie.Need-returns-2
+returns-2 : tie.Need-returns
 returns-2 c =
     let t = c.before in
-    let e = t.before.before in
-    let a = e.before.before.before.before.args in
-    ap (λ (k : ℕ). eqb k 0) (c.proposals-fault.ensures
-    ∙ ap (λ (n : ℕ). first (proposal_checks n a.end a.input.now)) (t.trailer-u16.ensures ∙ book-variables (take a.end a.input.now)))
-    ∙ splits-by _ _ (sym e.before.head-fault.ensures ∙ e.if1.false)
+    let e = t.before in
+    let a = e.args in
+    ap (λ (k : ℕ). eqb k 0) (c.proposals_fault.ensures
+    ∙ ap (λ (n : ℕ). first (proposal_checks n a.end a.input.now)) (t.trailer_u16-n.ensures ∙ book-variables (take a.end a.input.now)))
+    ∙ splits-by _ _ (sym e.head_fault.ensures ∙ e.if-head_fault-ne0.false)
 
-pub splits-at-spec : {M : Type 1} → statement M
-splits-at-spec =
+pub splits_at_spec : {M : Type 1} → statement M
+splits_at_spec =
     tie.close
     (tie.spec
     slice-aggregate-head-fault

@@ -11,46 +11,46 @@ use Rattle.allocation_input.proofs.InputLaws.{end-further, end-here, end-nowhere
 use Rattle.allocation_input.proofs.whole_end.Statement.{statement}
 use Rattle.allocation_input.proofs.whole_end.Tie as tie
 
-abbrev invariant-loop : tie.invariant-loop
+abbrev invariant-loop : tie.invariant-loop-end
 invariant-loop input end₀ end = (end ≤ length input + 1) × T (all end (no_split input))
 
-abbrev decreases-loop : tie.decreases-loop
+abbrev decreases-loop : tie.decreases-loop-end
 decreases-loop input end₀ end = length input + 1 - end
 
-loop-holds : tie.Need-loop-init invariant-loop decreases-loop
+loop-holds : tie.Need-loop-end-init invariant-loop decreases-loop
 unfolding all
 loop-holds c = (omega arith, tt)
 
-splits-at-requires : tie.Need-splits-at-requires invariant-loop decreases-loop
-splits-at-requires c κs = (c.before.before.before.requires, omega arith)
+splits-at-requires : tie.Need-splits_at-requires invariant-loop decreases-loop
+splits-at-requires c κs = (c.requires, omega arith)
 
-returns : tie.Need-returns invariant-loop decreases-loop
+returns : tie.Need-returns-then-splits_at invariant-loop decreases-loop
 unfolding whole_end
 returns c =
     let h = c.before.before.before in
-    let bs = h.before.before.args.input.now in
-    end-here bs (no_split bs) h.loop.end (omega arith) h.loop.invariant.1 (told-false (no_split bs h.loop.end) refl (sym c.before.splits-at.ensures ∙ c.if1.true))
+    let bs = h.args.input.now in
+    end-here bs (no_split bs) h.loop-end.end (omega arith) h.loop-end.invariant.1 (told-false (no_split bs h.loop-end.end) refl (sym c.splits_at.ensures ∙ c.if-splits_at.true))
 
-add-end : tie.Need-overflow-add-end invariant-loop decreases-loop
+add-end : tie.Need-overflow_add-end invariant-loop decreases-loop
 add-end c = omega arith
 
-loop-less : tie.Need-loop-smaller invariant-loop decreases-loop
+loop-less : tie.Need-loop-end-smaller invariant-loop decreases-loop
 loop-less c = omega arith
 
-loop-again : tie.Need-loop-preserved invariant-loop decreases-loop
+loop-again : tie.Need-loop-end-preserved invariant-loop decreases-loop
 loop-again c =
     let h = c.before.before.before in
-    let bs = h.before.before.args.input.now in
-    (omega arith, end-further bs (no_split bs) h.loop.end h.loop.invariant.1 (told-true (no_split bs h.loop.end) refl (sym c.before.splits-at.ensures ∙ c.if1.false)))
+    let bs = h.args.input.now in
+    (omega arith, end-further bs (no_split bs) h.loop-end.end h.loop-end.invariant.1 (told-true (no_split bs h.loop-end.end) refl (sym c.splits_at.ensures ∙ c.if-splits_at.false)))
 
-returns-2 : tie.Need-returns-2 invariant-loop decreases-loop
+returns-2 : tie.Need-returns invariant-loop decreases-loop
 unfolding whole_end
 returns-2 c =
-    let bs = c.before.before.before.args.input.now in
-    end-nowhere bs (no_split bs) c.before.loop.end (omega arith) c.before.loop.invariant.1
+    let bs = c.args.input.now in
+    end-nowhere bs (no_split bs) c.loop-end.end (omega arith) c.loop-end.invariant.1
 
-pub whole-end-spec : {M : Type 1} → statement M
-whole-end-spec =
+pub whole_end_spec : {M : Type 1} → statement M
+whole_end_spec =
     tie.close
     (tie.spec
     invariant-loop

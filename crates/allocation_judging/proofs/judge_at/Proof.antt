@@ -10,69 +10,69 @@ use borrow.Author.Rules.{rules}
 use Rattle.allocation_judging.proofs.judge_at.Statement.{statement}
 use Rattle.allocation_judging.proofs.judge_at.Tie as tie
 
-count-behind-requires : tie.Need-count-behind-requires
+count-behind-requires : tie.Need-count_behind-count-requires
 count-behind-requires c κs = search rules
 
-cast-room : tie.Need-overflow-cast-room
+cast-room : tie.Need-overflow_cast-room
 cast-room c = search rules
 
-mul-room : tie.Need-overflow-mul-room
+mul-room : tie.Need-overflow_mul-room
 mul-room c = search rules
 
-slice-aggregate-hold : tie.Need-slice-aggregate-hold
-slice-aggregate-hold c = sym (length-take-le _ _ c.before.before.before.before.requires.0.within)
+slice-aggregate-hold : tie.Need-slice_bounds-hold-end
+slice-aggregate-hold c = sym (length-take-le _ _ c.requires.0.within)
 
-add-hold : tie.Need-overflow-add-hold
+add-hold : tie.Need-overflow_add-end
 add-hold c = search rules
 
-sub-hold : tie.Need-overflow-sub-hold
-sub-hold c = omega (arith, split-passed _ _ c.before.before.before.before.requires.0)
+sub-hold : tie.Need-slice_bounds-hold-count
+sub-hold c = omega (arith, split-passed _ _ c.requires.0)
 
-part-hold-start : tie.Need-slice-bounds-hold-start
-part-hold-start c = omega (arith, split-passed _ _ c.before.before.before.before.requires.0)
+part-hold-start : tie.Need-slice_bounds-hold-start
+part-hold-start c = omega (arith, split-passed _ _ c.requires.0)
 
-part-hold-end : tie.Need-slice-bounds-hold-end
+part-hold-end : tie.Need-slice_bounds-hold-end-2
 part-hold-end c = search rules
 
 -- the verdicts have room
-fits : (c : tie.After-count-behind) → 2 * c.count-behind.result ≤ length c.before.before.before.args.verdicts.now
-fits c = let s = c.before.before.before in omega (arith, c.count-behind.ensures, split-passed _ _ s.requires.0, s.requires.1)
+fits : (c : tie.After-count_behind-count) → 2 * c.count_behind-count.result ≤ length c.args.verdicts.now
+fits c = let s = c.before.before.before in omega (arith, c.count_behind-count.ensures, split-passed _ _ s.requires.0, s.requires.1)
 
-slice-relend-prefix-hold : tie.Need-slice-relend-prefix-hold
-slice-relend-prefix-hold c = fits c.before.before
+slice-relend-prefix-hold : tie.Need-slice_bounds-hold-end-3
+slice-relend-prefix-hold c = fits c.before
 
-slice-aggregate-hold-2 : tie.Need-slice-aggregate-hold-2
-slice-aggregate-hold-2 c = sym (length-take-le _ _ (fits c.before.before.before))
+slice-aggregate-hold-2 : tie.Need-slice_bounds-hold-end-4
+slice-aggregate-hold-2 c = sym (length-take-le _ _ (fits c.before.before))
 
-hold-requires : tie.Need-hold-requires
+hold-requires : tie.Need-hold-fault-requires
 hold-requires c κs =
-    let k = c.before.before.before in
+    let k = c.before in
     let s = k.before.before.before in
-    split-holdable _ _ s.requires.0 _ _ k.count-behind.ensures s.requires.1
+    split-holdable _ _ s.requires.0 _ _ k.count_behind-count.ensures s.requires.1
 
-same_length : tie.Need-same-length
+same_length : tie.Need-shape_of-verdicts-then-fault-ne0
 same_length c = search rules
 
-returns : tie.Need-returns
+returns : tie.Need-returns-then-fault-ne0
 returns c =
     let h = c.before.before.before in
-    (split-fault _ _ h.before.before.before.before.before.before.before.requires.0 h.hold.ensures.0, c.if1.true)
+    (split-fault _ _ h.requires.0 h.hold-fault.ensures.0, c.if-fault-ne0.true)
 
-cast-t7 : tie.Need-overflow-cast-t7
+cast-t7 : tie.Need-overflow_cast-result
 cast-t7 c = search rules
 
-same-length-2 : tie.Need-same-length-2
+same-length-2 : tie.Need-shape_of-verdicts
 same-length-2 c = search rules
 
-returns-2 : tie.Need-returns-2
+returns-2 : tie.Need-returns
 returns-2 c =
     let h = c.before.before.before in
-    let k = h.before.before.before.before in
-    let z = c.if1.false in
-    split-judged _ _ k.before.before.before.requires.0 _ _ k.count-behind.ensures h.hold.ensures.0 z (h.hold.auto.1.1.1.0 ∙ length-take-le _ _ (fits k)) (h.hold.ensures.1 z)
+    let k = h.before.before.before in
+    let z = c.if-fault-ne0.false in
+    split-judged _ _ k.requires.0 _ _ k.count_behind-count.ensures h.hold-fault.ensures.0 z (h.hold-fault.auto.verdicts ∙ length-take-le _ _ (fits k)) (h.hold-fault.ensures.1 z)
 
-pub judge-at-spec : {M : Type 1} → statement M
-judge-at-spec =
+pub judge_at_spec : {M : Type 1} → statement M
+judge_at_spec =
     tie.close
     (tie.spec
     count-behind-requires

@@ -5,16 +5,16 @@ use Rattle.text.proofs.TextLaws.{◌⨾◌}
 use Rattle.allocation_lines.proofs.write_numbered.Statement.{statement}
 use Rattle.allocation_lines.proofs.write_numbered.Tie as tie
 
-write-text-requires : tie.Need-write-text-requires
+write-text-requires : tie.Need-write_text-start-requires
 write-text-requires c κs = search rules
 
-write-natural-requires : tie.Need-write-natural-requires
+write-natural-requires : tie.Need-write_natural-end-requires
 write-natural-requires c κs = search rules
 
-write-byte-requires : tie.Need-write-byte-requires
+write-byte-requires : tie.Need-write_byte-requires
 write-byte-requires c κs = search rules
 
-same_length : tie.Need-same-length
+same_length : tie.Need-shape_of-buf
 same_length c = search rules
 
 returns : tie.Need-returns
@@ -22,10 +22,10 @@ returns c =
     let w3 = c.before.before in
     let w2 = w3.before.before.before.before in
     let w1 = w2.before.before.before.before in
-    (w1.write-text.ensures ⨾ w2.write-natural.ensures.0 ⨾ w3.write_byte.ensures, omega arith)
+    (w1.write_text-start.ensures ⨾ w2.write_natural-end.ensures.0 ⨾ w3.write_byte.ensures, omega arith)
 
-pub write-numbered-spec : {M : Type 1} → statement M
-write-numbered-spec =
+pub write_numbered_spec : {M : Type 1} → statement M
+write_numbered_spec =
     tie.close
     (tie.spec
     write-text-requires

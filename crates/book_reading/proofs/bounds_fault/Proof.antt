@@ -16,39 +16,39 @@ use Rattle.book_reading.proofs.bounds_fault.Tie as tie
 abbrev zeros : List ℤ
 zeros = replicate 256 (pos 0)
 
-mul-len : tie.Need-overflow-mul-len
+mul-len : tie.Need-overflow_mul-len
 mul-len c = search rules
 
-array-borrow-prefix-bounds : tie.Need-array-borrow-prefix-bounds
+array-borrow-prefix-bounds : tie.Need-slice_bounds-bounds-end
 array-borrow-prefix-bounds c = search rules
 
 room : (s : tie.Start) → length (take (2 * s.args.n) zeros) ≡ 2 * s.args.n
 room s = length-take-le (2 * s.args.n) zeros (rw length-replicate (omega arith))
 
-slice-aggregate-read-integers : tie.Need-slice-aggregate-read-integers
+slice-aggregate-read-integers : tie.Need-slice_bounds-read_integers-end
 slice-aggregate-read-integers c = sym (room c.before.before)
 
-read-integers-requires : tie.Need-read-integers-requires
+read-integers-requires : tie.Need-read_integers-requires
 read-integers-requires c κs = λ i h. omega (arith, room c.before.before)
 
 -- what is read is as long as the part, and is the book's bounds
-len : (c : tie.After-read-integers) → length c.read-integers.new.1.1.1.0 ≡ 2 * c.before.before.before.args.n
-len c = c.read-integers.auto.1.1.1.0 ∙ room c.before.before.before
+len : (c : tie.After-read_integers) → length c.read_integers.new.xs ≡ 2 * c.before.before.before.args.n
+len c = c.read_integers.auto.xs ∙ room c.before.before.before
 
-array-share-prefix-bounds : tie.Need-array-share-prefix-bounds
+array-share-prefix-bounds : tie.Need-slice_bounds-bounds-end-2
 array-share-prefix-bounds c = rw length-append (omega (arith, len c.before))
 
-held : (c : tie.After-read-integers)
+held : (c : tie.After-read_integers)
     → let n = c.before.before.before.args.n in
-    take (2 * n) (c.read-integers.new.1.1.1.0 ++ drop (2 * n) zeros) ≡ c.read-integers.new.1.1.1.0
+    take (2 * n) (c.read_integers.new.xs ++ drop (2 * n) zeros) ≡ c.read_integers.new.xs
 held c =
     let n = c.before.before.before.args.n in
-    take_at c.read-integers.new.1.1.1.0 (drop (2 * n) zeros) (2 * n) (len c)
+    take_at c.read_integers.new.xs (drop (2 * n) zeros) (2 * n) (len c)
 
-slice-aggregate-box-fault : tie.Need-slice-aggregate-box-fault
+slice-aggregate-box-fault : tie.Need-slice_bounds-box_fault-end
 slice-aggregate-box-fault c = sym (ap length (held c.before.before) ∙ len c.before.before)
 
-box-fault-requires : tie.Need-box-fault-requires
+box-fault-requires : tie.Need-box_fault-requires
 box-fault-requires c κs = search rules
 
 returns : tie.Need-returns
@@ -56,12 +56,12 @@ unfolding bounds_of
 returns c =
     let d = c.before.before.before in
     let a = d.before.before.before.args in
-    c.box-fault.ensures
+    c.box_fault.ensures
     ∙ ap (λ (B : List ℤ). first (box_checks a.n B))
-    (held d ∙ d.read-integers.ensures ∙ ap (λ (k : ℕ). integers_at 0 4 k a.book.now) (room d.before.before.before))
+    (held d ∙ d.read_integers.ensures ∙ ap (λ (k : ℕ). integers_at 0 4 k a.book.now) (room d.before.before.before))
 
-pub bounds-fault-spec : {M : Type 1} → statement M
-bounds-fault-spec =
+pub bounds_fault_spec : {M : Type 1} → statement M
+bounds_fault_spec =
     tie.close
     (tie.spec
     mul-len

@@ -17,64 +17,64 @@ use Rattle.book.proofs.EncodeLaws.{row_within}
 use Rattle.book_reading.proofs.number_fault.Statement.{statement}
 use Rattle.book_reading.proofs.number_fault.Tie as tie
 
-bounds-fault-requires : tie.Need-bounds-fault-requires
+bounds-fault-requires : tie.Need-bounds_fault-fault-requires
 bounds-fault-requires c κs = search rules
 
-returns : tie.Need-returns
+returns : tie.Need-returns-then-fault-ne0
 unfolding number_checks
-returns c = stops (box_checks _ _) _ c.before.bounds-fault.ensures c.if1.true
+returns c = stops (box_checks _ _) _ c.before.bounds_fault-fault.ensures c.if-fault-ne0.true
 
 -- past the checks of the box, what the later checks answer is the answer
-past-box : (c : tie.Else1) {r : ℕ} (ys : List Check) → r ≡ first ys
+past-box : (c : tie.Else-fault-ne0) {r : ℕ} (ys : List Check) → r ≡ first ys
     → let a = c.before.before.before.args in r ≡ first (box_checks a.n (bounds_of a.n a.book.now) ++ ys)
 unfolding box_checks
-past-box c ys h = goes (box_checks _ _) ys tt c.before.bounds-fault.ensures c.if1.false h
+past-box c ys h = goes (box_checks _ _) ys tt c.before.bounds_fault-fault.ensures c.if-fault-ne0.false h
 
-coefs-in-range-requires : tie.Need-coefs-in-range-requires
+coefs-in-range-requires : tie.Need-coefs_in_range-requires
 coefs-in-range-requires c κs = search rules
 
-returns-2 : tie.Need-returns-2
+returns-2 : tie.Need-returns-then-not-coefs_in_range
 unfolding number_checks
-returns-2 c = past-box c.before.before _ (fails _ 8 _ (told-false _ c.before.coefs-in-range.ensures c.if2.true))
+returns-2 c = past-box c.before.before _ (fails _ 8 _ (told-false _ c.before.coefs_in_range.ensures c.if-not-coefs_in_range.true-raw))
 
-mul-are-in-range : tie.Need-overflow-mul-are-in-range
+mul-are-in-range : tie.Need-overflow_mul-n
 mul-are-in-range c = search rules
 
-mul-are-in-range-2 : tie.Need-overflow-mul-are-in-range-2
+mul-are-in-range-2 : tie.Need-overflow_mul-n-2
 mul-are-in-range-2 c = search rules
 
-add-are-in-range : tie.Need-overflow-add-are-in-range
+add-are-in-range : tie.Need-overflow_add-n
 add-are-in-range c = search rules
 
-sub-are-in-range : tie.Need-overflow-sub-are-in-range
+sub-are-in-range : tie.Need-overflow_sub-are_in_range
 sub-are-in-range c = search rules
 
-are-in-range-requires : tie.Need-are-in-range-requires
+are-in-range-requires : tie.Need-are_in_range-requires
 unfolding row_place
 are-in-range-requires c κs = λ i h.
     let a = c.before.before.before.before.before.args in
     omega (arith, row_within a.n a.m i h)
 
 -- check 8 is passed
-coefs-in : (c : tie.Else2)
+coefs-in : (c : tie.Else-not-coefs_in_range)
     → let a = c.before.before.before.before.before.args in in_range min_coef max_coef (coefs_of a.n a.m a.book.now) ≡ true
-coefs-in c = told-true _ c.before.coefs-in-range.ensures c.if2.false
+coefs-in c = told-true _ c.before.coefs_in_range.ensures c.if-not-coefs_in_range.false-raw
 
-returns-3 : tie.Need-returns-3
+returns-3 : tie.Need-returns-then-not-are_in_range
 unfolding number_checks rhs_of row_place integers_at
 returns-3 c =
     let d = c.before.before in
-    past-box d.before.before _ (past _ 8 _ (coefs-in d) (fails _ 9 _ (told-false _ c.before.are-in-range.ensures c.if3.true)))
+    past-box d.before.before _ (past _ 8 _ (coefs-in d) (fails _ 9 _ (told-false _ c.before.are_in_range.ensures c.if-not-are_in_range.true-raw)))
 
-returns-4 : tie.Need-returns-4
+returns-4 : tie.Need-returns
 unfolding number_checks rhs_of row_place integers_at
 returns-4 c =
     let d = c.before.before in
-    past-box d.before.before _ (past _ 8 _ (coefs-in d) (past _ 9 _ (told-true _ c.before.are-in-range.ensures c.if3.false)
+    past-box d.before.before _ (past _ 8 _ (coefs-in d) (past _ 9 _ (told-true _ c.before.are_in_range.ensures c.if-not-are_in_range.false-raw)
     (past _ 16 _ (bits-kinds_of _) ends)))
 
-pub number-fault-spec : {M : Type 1} → statement M
-number-fault-spec =
+pub number_fault_spec : {M : Type 1} → statement M
+number_fault_spec =
     tie.close
     (tie.spec
     bounds-fault-requires

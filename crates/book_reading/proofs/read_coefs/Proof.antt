@@ -21,91 +21,91 @@ use Rattle.book_reading.proofs.read_coefs.Tie as tie
 abbrev piece : ℕ → List ℕ → ℕ → List ℤ
 piece n bs i = integers_at (row_place n i + 4) 4 n bs
 
-abbrev invariant-loop : tie.invariant-loop
+abbrev invariant-loop : tie.invariant-loop-i
 invariant-loop n m book coefs₀ i₀ coefs i =
     (i ≤ m) × (length coefs ≡ length coefs₀) × (coefs ≡ overwrite 0 (joined i (piece n book)) coefs₀)
 
-abbrev decreases-loop : tie.decreases-loop
+abbrev decreases-loop : tie.decreases-loop-i
 decreases-loop n m book coefs₀ i₀ coefs i = m - i
 
-loop-holds : tie.Need-loop-init invariant-loop decreases-loop
+loop-holds : tie.Need-loop-i-init invariant-loop decreases-loop
 loop-holds c = (omega arith, refl, overwrite-start 0 _ _)
 
-row-place-requires : tie.Need-row-place-requires invariant-loop decreases-loop
+row-place-requires : tie.Need-row_place-row-requires invariant-loop decreases-loop
 row-place-requires c κs = omega arith
 
 -- row i lies within the book, and its coefficients within the buffer
-inside : (c : tie.After-row-place invariant-loop decreases-loop)
+inside : (c : tie.After-row_place-row invariant-loop decreases-loop)
     → let a = c.before.before.before.before.args in
-    let i = c.before.before.loop.i in
-    (c.row-place.result + 4 + a.n * 4 ≤ length a.book.now) × (i * a.n + a.n ≤ length a.coefs.now)
+    let i = c.before.before.loop-i.i in
+    (c.row_place-row.result + 4 + a.n * 4 ≤ length a.book.now) × (i * a.n + a.n ≤ length a.coefs.now)
 inside c =
     let a = c.before.before.before.before.args in
-    let i = c.before.before.loop.i in
-    let h = c.before.loop-test.true in
+    let i = c.before.before.loop-i.i in
+    let h = c.before.loop-i-test.true in
     omega (arith, row_within a.n a.m i h, piece-within a.m a.n i h)
 
 -- the part lent has the row's coefficients
-lent_length : (c : tie.After-row-place invariant-loop decreases-loop)
-    → let k = c.before.before.loop.i * c.before.before.before.before.args.n in
+lent_length : (c : tie.After-row_place-row invariant-loop decreases-loop)
+    → let k = c.before.before.loop-i.i * c.before.before.before.before.args.n in
     let n = c.before.before.before.before.args.n in
-    length (part k (k + n - k) c.before.before.loop.coefs) ≡ n
+    length (part k (k + n - k) c.before.before.loop-i.coefs) ≡ n
 lent_length c =
     let n = c.before.before.before.before.args.n in
-    let k = c.before.before.loop.i * n in
+    let k = c.before.before.loop-i.i * n in
     let e : k + n - k ≡ n = omega arith in
-    rw e (length_part k n c.before.before.loop.coefs (omega (arith, inside c)))
+    rw e (length_part k n c.before.before.loop-i.coefs (omega (arith, inside c)))
 
-mul-start : tie.Need-overflow-mul-start invariant-loop decreases-loop
+mul-start : tie.Need-overflow_mul-start invariant-loop decreases-loop
 mul-start c = omega (arith, inside c)
 
-add-end : tie.Need-overflow-add-end invariant-loop decreases-loop
+add-end : tie.Need-overflow_add-end invariant-loop decreases-loop
 add-end c = omega (arith, inside c)
 
-add-read-integers : tie.Need-overflow-add-read-integers invariant-loop decreases-loop
+add-read-integers : tie.Need-overflow_add-row invariant-loop decreases-loop
 add-read-integers c = omega (arith, inside c)
 
-mul-read-integers : tie.Need-overflow-mul-read-integers invariant-loop decreases-loop
+mul-read-integers : tie.Need-offset_bounds-coefs-start invariant-loop decreases-loop
 mul-read-integers c = omega (arith, inside c)
 
-sub-read-integers : tie.Need-overflow-sub-read-integers invariant-loop decreases-loop
+sub-read-integers : tie.Need-slice_bounds-read_integers-count invariant-loop decreases-loop
 sub-read-integers c = omega arith
 
-part-read-integers-start : tie.Need-slice-bounds-read-integers-start invariant-loop decreases-loop
+part-read-integers-start : tie.Need-slice_bounds-read_integers-start invariant-loop decreases-loop
 part-read-integers-start c = omega arith
 
-part-read-integers-end : tie.Need-slice-bounds-read-integers-end invariant-loop decreases-loop
+part-read-integers-end : tie.Need-slice_bounds-read_integers-end invariant-loop decreases-loop
 part-read-integers-end c = omega (arith, inside c)
 
-read-integers-requires : tie.Need-read-integers-requires invariant-loop decreases-loop
+read-integers-requires : tie.Need-read_integers-requires invariant-loop decreases-loop
 read-integers-requires c κs = λ j h. omega (arith, inside c.before, lent_length c.before)
 
-add-i : tie.Need-overflow-add-i invariant-loop decreases-loop
+add-i : tie.Need-overflow_add-i invariant-loop decreases-loop
 add-i c = omega arith
 
-loop-less : tie.Need-loop-smaller invariant-loop decreases-loop
+loop-less : tie.Need-loop-i-smaller invariant-loop decreases-loop
 loop-less c = omega arith
 
 -- what comes back of the part is the row's coefficients
-row_read : (c : tie.After-read-integers invariant-loop decreases-loop)
+row_read : (c : tie.After-read_integers invariant-loop decreases-loop)
     → let a = c.before.before.before.before.before.before.args in
-    c.read-integers.new.1.1.1.0 ≡ piece a.n a.book.now c.before.before.before.before.loop.i
+    c.read_integers.new.xs ≡ piece a.n a.book.now c.before.before.before.before.loop-i.i
 row_read c =
     let d = c.before.before in
     let bs = d.before.before.before.before.args.book.now in
-    c.read-integers.ensures ∙ ap₂ (λ (p k : ℕ). integers_at (p + 4) 4 k bs) d.row-place.ensures (lent_length d)
+    c.read_integers.ensures ∙ ap₂ (λ (p k : ℕ). integers_at (p + 4) 4 k bs) d.row_place-row.ensures (lent_length d)
 
-loop-again : tie.Need-loop-preserved invariant-loop decreases-loop
+loop-again : tie.Need-loop-i-preserved invariant-loop decreases-loop
 loop-again c =
     let d = c.before.before.before in
     let a = d.before.before.before.before.args in
-    let at-loop = d.before.before.loop in
+    let at-loop = d.before.before.loop-i in
     let i = at-loop.i in
     let n = a.n in
     let f = piece n a.book.now in
-    let call = c.before.read-integers in
-    let new = call.new.1.1.1.0 in
-    let l = call.auto.1.1.1.0 in
+    let call = c.before.read_integers in
+    let new = call.new.xs in
+    let l = call.auto.xs in
     let e : i * n + n - i * n ≡ n = omega arith in
     let pieces = length-joined i n f (λ r _. length-integers_at (row_place n r + 4) 4 n a.book.now) in (
       omega arith,
@@ -115,19 +115,19 @@ loop-again c =
           ∙ overwrite-turn 0 (i * n) i f a.coefs.now (omega (arith, pieces)) (omega (arith, inside d, length-integers_at (row_place n i + 4) 4 n a.book.now))),
     )
 
-same_length : tie.Need-same-length invariant-loop decreases-loop
+same_length : tie.Need-shape_of-coefs invariant-loop decreases-loop
 same_length c = omega arith
 
 returns : tie.Need-returns invariant-loop decreases-loop
 unfolding coefs_of
 returns c =
     let a = c.before.before.before.args in
-    let end : c.before.loop.i ≡ a.m = omega arith in
-    rw end at c.before.loop.invariant.2
+    let end : c.before.loop-i.i ≡ a.m = omega arith in
+    rw end at c.before.loop-i.invariant.2
     ∙ overwrite-all (coefs_of a.n a.m a.book.now) a.coefs.now (omega (arith, length-coefs_of a.n a.m a.book.now))
 
-pub read-coefs-spec : {M : Type 1} → statement M
-read-coefs-spec =
+pub read_coefs_spec : {M : Type 1} → statement M
+read_coefs_spec =
     tie.close
     (tie.spec
     invariant-loop

@@ -6,16 +6,16 @@ use Rattle.book.specs.BookChecks.{first_edition_checks}
 use Rattle.book_writing.proofs.first_edition_fault.Statement.{statement}
 use Rattle.book_writing.proofs.first_edition_fault.Tie as tie
 
-are-inequalities-requires : tie.Need-are-inequalities-requires
+are-inequalities-requires : tie.Need-are_inequalities-requires
 are-inequalities-requires c κs = search rules
 
-returns : tie.Need-returns
+returns : tie.Need-returns-then-not-are_inequalities
 unfolding first_edition_checks
-returns c = fails _ 17 _ (told-false _ c.before.are-inequalities.ensures c.if1.true)
+returns c = fails _ 17 _ (told-false _ c.before.are_inequalities.ensures c.if-not-are_inequalities.true-raw)
 
-returns-2 : tie.Need-returns-2
+returns-2 : tie.Need-returns
 unfolding first_edition_checks
-returns-2 c = past _ 17 _ (told-true _ c.before.are-inequalities.ensures c.if1.false) ends
+returns-2 c = past _ 17 _ (told-true _ c.before.are_inequalities.ensures c.if-not-are_inequalities.false-raw) ends
 
-pub first-edition-fault-spec : {M : Type 1} → statement M
-first-edition-fault-spec = tie.close (tie.spec are-inequalities-requires returns returns-2)
+pub first_edition_fault_spec : {M : Type 1} → statement M
+first_edition_fault_spec = tie.close (tie.spec are-inequalities-requires returns returns-2)

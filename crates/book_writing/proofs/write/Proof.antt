@@ -26,18 +26,18 @@ use Rattle.book_writing.proofs.write.Tie as tie
 abbrev lent-model : tie.Start → Model
 lent-model s = model_of s.args.n s.args.m s.args.bounds.now (rows_of s.args.coefs.now s.args.rhs.now s.args.kinds.now)
 
-write-fault-requires : tie.Need-write-fault-requires
+write-fault-requires : tie.Need-write_fault-fault-requires
 write-fault-requires c κs = search rules
 
-same_length : tie.Need-same-length
+same_length : tie.Need-shape_of-book-then-fault-ne0
 same_length c = search rules
 
-returns : tie.Need-returns
+returns : tie.Need-returns-then-fault-ne0
 unfolding write_answer write_call book_written
 returns c =
-    let e = c.before.write-fault.ensures in
-    let n = c.if1.true in
-    let s = c.before.before.before.before.before in
+    let e = c.before.write_fault-fault.ensures in
+    let n = c.if-fault-ne0.true in
+    let s = c.before.before.before.before in
     let M = lent-model s in
     let bs = s.args.book.now in
     let f = write_fault M bs in
@@ -46,92 +46,92 @@ returns c =
     (said, (kept, (λ h. writes-back M bs _ kept (sym said ∙ h))))
 
 -- no check fails
-no-fault : (c : tie.Else1) → let s = c.before.before.before.before.before in write_fault (lent-model s) s.args.book.now ≡ 0
-no-fault c = sym c.before.write-fault.ensures ∙ c.if1.false
+no-fault : (c : tie.Else-fault-ne0) → let s = c.before.before.before.before in write_fault (lent-model s) s.args.book.now ≡ 0
+no-fault c = sym c.before.write_fault-fault.ensures ∙ c.if-fault-ne0.false
 
 -- so the model is valid, and the book has its length
-ready : (c : tie.Else1) → let s = c.before.before.before.before.before in ValidModel (lent-model s) × (length s.args.book.now ≡ book_length s.args.n s.args.m)
+ready : (c : tie.Else-fault-ne0) → let s = c.before.before.before.before in ValidModel (lent-model s) × (length s.args.book.now ≡ book_length s.args.n s.args.m)
 ready c =
-    let s = c.before.before.before.before.before in
+    let s = c.before.before.before.before in
     let h = write-passed (lent-model s) s.args.book.now (no-fault c) in (h.0.valid, h.1)
 
-write-integers-requires : tie.Need-write-integers-requires
+write-integers-requires : tie.Need-write_integers-requires
 unfolding book_length
 write-integers-requires c κs = let r = ready c.before in omega (arith, r.0.box.len, r.1)
 
-write-rows-requires : tie.Need-write-rows-requires
+write-rows-requires : tie.Need-write_rows-requires
 unfolding book_length
 write-rows-requires c κs =
     let r = ready c.before.before.before.before.before in
     let v = r.0 in (
-      record { few = v.few; few_rows = omega (arith, v.rhs_len, v.few_rows); body = rw v.rhs_len (omega (arith, r.1, c.before.before.before.write-integers.auto.0)) },
+      record { few = v.few; few_rows = omega (arith, v.rhs_len, v.few_rows); body = rw v.rhs_len (omega (arith, r.1, c.before.before.before.write_integers.auto.bytes)) },
       rw v.rhs_len v.coefs_len,
     )
 
 -- the book keeps its length
-kept-length : (w : tie.After-write-rows)
-    → let s = w.before.before.before.before.before.before.before.before.before.before.before in (length w.write-rows.new.1.1.1.0 ≡ length s.args.book.now) × (length s.args.book.now ≡ book_length s.args.n s.args.m)
-kept-length w = (w.write-rows.auto.1.1.1.0 ∙ w.before.before.before.before.write-integers.auto.0, (ready w.before.before.before.before.before.before).1)
+kept-length : (w : tie.After-write_rows)
+    → let s = w.before.before.before.before.before.before.before.before.before.before in (length w.write_rows.new.book ≡ length s.args.book.now) × (length s.args.book.now ≡ book_length s.args.n s.args.m)
+kept-length w = (w.write_rows.auto.book ∙ w.before.before.before.before.write_integers.auto.bytes, (ready w.before.before.before.before.before.before).1)
 
 -- and holds the bounds and the rows
-body : (w : tie.After-write-rows)
-    → let s = w.before.before.before.before.before.before.before.before.before.before.before in
+body : (w : tie.After-write_rows)
+    → let s = w.before.before.before.before.before.before.before.before.before.before in
     let M = lent-model s in
-    w.write-rows.new.1.1.1.0 ≡ overwrite (8 * M.n) (joined M.m (row_bytes_at M.n M.rows)) (overwrite 0 (bound_bytes M) s.args.book.now)
+    w.write_rows.new.book ≡ overwrite (8 * M.n) (joined M.m (row_bytes_at M.n M.rows)) (overwrite 0 (bound_bytes M) s.args.book.now)
 unfolding integers_bytes bound_bytes row_bytes
 body w =
-    let M = lent-model w.before.before.before.before.before.before.before.before.before.before.before in
+    let M = lent-model w.before.before.before.before.before.before.before.before.before.before in
     let v = (ready w.before.before.before.before.before.before).0 in
-    w.write-rows.ensures
+    w.write_rows.ensures
     ∙ ap₂ (λ (k : ℕ) (bs : List ℕ). overwrite (8 * M.n) (joined k (row_bytes_at M.n M.rows)) bs) v.rhs_len
-    (w.before.before.before.before.write-integers.ensures
-    ∙ ap (λ (k : ℕ). overwrite 0 (joined k (λ i. integer_bytes (at M.box i))) w.before.before.before.before.before.before.before.before.before.before.before.args.book.now) v.box.len)
+    (w.before.before.before.before.write_integers.ensures
+    ∙ ap (λ (k : ℕ). overwrite 0 (joined k (λ i. integer_bytes (at M.box i))) w.before.before.before.before.before.before.before.before.before.before.args.book.now) v.box.len)
 
-sub-end : tie.Need-overflow-sub-end
+sub-end : tie.Need-overflow_sub-end
 unfolding book_length
 sub-end c = omega (arith, kept-length c.before.before)
 
-sub-write-trailer : tie.Need-overflow-sub-write-trailer
+sub-write-trailer : tie.Need-slice_bounds-write_trailer-count
 sub-write-trailer c = search rules
 
-part-write-trailer-start : tie.Need-slice-bounds-write-trailer-start
+part-write-trailer-start : tie.Need-slice_bounds-write_trailer-start
 part-write-trailer-start c = search rules
 
-part-write-trailer-end : tie.Need-slice-bounds-write-trailer-end
+part-write-trailer-end : tie.Need-slice_bounds-write_trailer-end
 part-write-trailer-end c = search rules
 
 -- the part lent is the trailer
-trailer-length : (w : tie.After-write-rows) → let L = length w.write-rows.new.1.1.1.0 in L - (L - 16) ≡ 16
+trailer-length : (w : tie.After-write_rows) → let L = length w.write_rows.new.book in L - (L - 16) ≡ 16
 unfolding book_length
 trailer-length w = omega (arith, kept-length w)
 
-write-trailer-requires : tie.Need-write-trailer-requires
+write-trailer-requires : tie.Need-write_trailer-requires
 unfolding book_length
 write-trailer-requires c κs =
     let w = c.before.before.before in
     let v = (ready w.before.before.before.before.before.before).0 in
-    let bs = w.write-rows.new.1.1.1.0 in
+    let bs = w.write_rows.new.book in
     (rw (trailer-length w) (length_part (length bs - 16) 16 bs (omega (arith, kept-length w))), v.few, v.few_rows, omega (arith, kept-length w, length-below _ _ v.few v.few_rows))
 
-same-length-2 : tie.Need-same-length-2
+same-length-2 : tie.Need-shape_of-book
 same-length-2 c = search rules
 
-returns-2 : tie.Need-returns-2
+returns-2 : tie.Need-returns
 unfolding write_answer write_call book_written
 returns-2 c =
     let w = c.before.before.before.before.before.before in
-    let s = w.before.before.before.before.before.before.before.before.before.before.before in
+    let s = w.before.before.before.before.before.before.before.before.before.before in
     let M = lent-model s in
     let bs = s.args.book.now in
-    let cs = w.write-rows.new.1.1.1.0 in
+    let cs = w.write_rows.new.book in
     let q = length cs - 16 in
     let z = no-fault w.before.before.before.before.before.before in
-    let call = c.before.before.write-trailer in
-    let l : length call.new.0 ≡ length cs - q =
+    let call = c.before.before.write_trailer in
+    let l : length call.new.trailer ≡ length cs - q =
     ap length call.ensures ∙ length-trailer_bytes M.n M.m (length cs) ∙ sym (trailer-length w) in
     let said = accepted-by z written in
     let new =
-    overwrite-part q (length cs - q) call.new.0 cs l
+    overwrite-part q (length cs - q) call.new.trailer cs l
     ∙ ap₂ (overwrite q) (call.ensures ∙ ap (trailer_bytes M.n M.m) ((kept-length w).0 ∙ (kept-length w).1)) (body w)
     ∙ book-assembled M bs q (kept-length w).1 (ap (λ (k : ℕ). k - 16) (kept-length w).0)
     ∙ becomes z bs (encode M) in

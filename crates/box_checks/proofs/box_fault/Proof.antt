@@ -72,21 +72,21 @@ passes n B e t =
     past _ 6 _ (T→true _ (plain-range B t e))
     (past _ 7 _ (T→true _ (or_inr (is_empty n B) (ordered B) (plain-ordered B t))) (past _ 23 _ (T→true _ (plain-narrow B t)) ends))
 
-is-plain-requires : tie.Need-is-plain-requires
+is-plain-requires : tie.Need-is_plain-requires
 is-plain-requires c κs = search rules
 
-returns : tie.Need-returns
+returns : tie.Need-returns-then-is_plain
 returns c =
     let s = c.before.before.before in
     let B = s.args.bounds.now in
-    passes s.args.n B c.before.before.if1.true
-    (true→T (all (length B / 2) (plain_at B)) (sym c.before.is_plain.ensures ∙ c.if2.true))
+    passes s.args.n B c.before.before.if-bounds-eq0.true
+    (true→T (all (length B / 2) (plain_at B)) (sym c.before.is_plain.ensures ∙ c.if-is_plain.true))
 
-box-fault-requires : tie.Need-box-fault-requires
+box-fault-requires : tie.Need-box_fault-requires
 box-fault-requires c κs = search rules
 
-returns-2 : tie.Need-returns-2
+returns-2 : tie.Need-returns
 returns-2 c = search rules
 
-pub box-fault-spec : {M : Type 1} → statement M
-box-fault-spec = tie.close (tie.spec is-plain-requires returns box-fault-requires returns-2)
+pub box_fault_spec : {M : Type 1} → statement M
+box_fault_spec = tie.close (tie.spec is-plain-requires returns box-fault-requires returns-2)

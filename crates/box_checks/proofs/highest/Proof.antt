@@ -24,24 +24,24 @@ least-high : (l : ℤ) → pos 28_671 <ℤ l → pos 32_767 ≡ min_z (l +ℤ ma
 least-high l h = simp zify (omega zarith)
 
 -- the test
-low-is : (c : tie.Then1) → c.before.args.low ≤ℤ pos 28_671
+low-is : (c : tie.Then-low-le28671) → c.before.args.low ≤ℤ pos 28_671
 low-is c =
     let l = c.before.args.low in
-    (le_test l (pos 28_671)).0 (true→T (le_z l (pos 28_671)) (rw (to_z-of_z c.before.ranges.low) at c.if1.true))
+    (le_test l (pos 28_671)).0 (true→T (le_z l (pos 28_671)) (rw (to_z-of_z c.before.ranges.low) at c.if-low-le28671.true))
 
-add-result : tie.Need-overflow-add-result
+add-result : tie.Need-overflow_add-result
 add-result c = rw (to_z-of_z c.before.ranges.low) (sum_fits c.before.args.low c.before.ranges.low (low-is c))
 
-returns : tie.Need-returns
+returns : tie.Need-returns-then-low-le28671
 returns c =
     let l = c.before.args.low in
     let f = c.before.ranges.low in
     rw (to_z-of_z f, to_z-of_z (sum_fits l f (low-is c))) (least-low l (low-is c))
 
-returns-2 : tie.Need-returns-2
+returns-2 : tie.Need-returns
 returns-2 c =
     let l = c.before.args.low in
-    least-high l (le_z-no (false→T (le_z l (pos 28_671)) (rw (to_z-of_z c.before.ranges.low) at c.if1.false)))
+    least-high l (le_z-no (false→T (le_z l (pos 28_671)) (rw (to_z-of_z c.before.ranges.low) at c.if-low-le28671.false)))
 
-pub highest-spec : {M : Type 1} → statement M
-highest-spec = tie.close (tie.spec add-result returns returns-2)
+pub highest_spec : {M : Type 1} → statement M
+highest_spec = tie.close (tie.spec add-result returns returns-2)

@@ -10,17 +10,17 @@ use Rattle.model.proofs.BoxLaws.{empty-first}
 use Rattle.boxes.proofs.is_empty.Statement.{statement}
 use Rattle.boxes.proofs.is_empty.Tie as tie
 
-shared-slice-copy-out-result : tie.Need-shared-slice-copy-out-result
+shared-slice-copy-out-result : tie.Need-bounds-bounds-1
 shared-slice-copy-out-result c = search rules
 
-shared-slice-copy-out-result-2 : tie.Need-shared-slice-copy-out-result-2
+shared-slice-copy-out-result-2 : tie.Need-bounds-bounds-0
 shared-slice-copy-out-result-2 c = search rules
 
 returns : tie.Need-returns
 returns c n h v =
     let B = c.before.before.args.bounds.now in
-    let fu : SFits w32 (get_or B 1 (pos 0)) = record { sfits = c.before.result.given } in
-    let fl : SFits w32 (get_or B 0 (pos 0)) = record { sfits = c.result2.given } in
+    let fu : SFits w32 (get_or B 1 (pos 0)) = record { sfits = c.before.result-1.given } in
+    let fl : SFits w32 (get_or B 0 (pos 0)) = record { sfits = c.result-2-1.given } in
     simp to_z-of_z (sym (empty-first n B h v.shape))
 
 pub is_empty_spec : {M : Type 1} → statement M

@@ -9,62 +9,62 @@ use native.Mathlib.Omega.{arith}
 use Rattle.boxes.proofs.make_empty.Statement.{statement}
 use Rattle.boxes.proofs.make_empty.Tie as tie
 
-abbrev invariant-loop : tie.invariant-loop
+abbrev invariant-loop : tie.invariant-loop-j
 invariant-loop bounds₀ half j₀ bounds j = (j ≤ length bounds₀ / 2) × (length bounds ≡ length bounds₀) × (bounds ≡ write_to j (λ _. pos 1) (λ _. pos 0) bounds₀)
 
-abbrev decreases-loop : tie.decreases-loop
+abbrev decreases-loop : tie.decreases-loop-j
 decreases-loop bounds₀ half j₀ bounds j = length bounds₀ / 2 - j
 
-loop-holds : tie.Need-loop-init invariant-loop decreases-loop
+loop-holds : tie.Need-loop-j-init invariant-loop decreases-loop
 unfolding write_to
 loop-holds c = (omega arith, refl, refl)
 
-mul-bounds : tie.Need-overflow-mul-bounds invariant-loop decreases-loop
+mul-bounds : tie.Need-overflow_mul-bounds invariant-loop decreases-loop
 mul-bounds c = omega arith
 
-mul-bounds-2 : tie.Need-overflow-mul-bounds-2 invariant-loop decreases-loop
+mul-bounds-2 : tie.Need-offset_bounds-bounds-j invariant-loop decreases-loop
 mul-bounds-2 c = omega arith
 
-slice-set-of-bounds : tie.Need-slice-set-of-bounds invariant-loop decreases-loop
+slice-set-of-bounds : tie.Need-slice_set_of-bounds invariant-loop decreases-loop
 slice-set-of-bounds c = omega arith
 
-mul-bounds-3 : tie.Need-overflow-mul-bounds-3 invariant-loop decreases-loop
+mul-bounds-3 : tie.Need-overflow_mul-bounds-in-loop-j invariant-loop decreases-loop
 mul-bounds-3 c = omega arith
 
-add-bounds : tie.Need-overflow-add-bounds invariant-loop decreases-loop
+add-bounds : tie.Need-overflow_add-bounds invariant-loop decreases-loop
 add-bounds c = omega arith
 
-mul-bounds-4 : tie.Need-overflow-mul-bounds-4 invariant-loop decreases-loop
+mul-bounds-4 : tie.Need-offset_bounds-bounds-j-in-loop-j invariant-loop decreases-loop
 mul-bounds-4 c = omega arith
 
-slice-set-of-bounds-2 : tie.Need-slice-set-of-bounds-2 invariant-loop decreases-loop
+slice-set-of-bounds-2 : tie.Need-slice_set_of-bounds-in-loop-j invariant-loop decreases-loop
 slice-set-of-bounds-2 c = simp length-set (omega arith)
 
-add-j : tie.Need-overflow-add-j invariant-loop decreases-loop
+add-j : tie.Need-overflow_add-j invariant-loop decreases-loop
 add-j c = omega arith
 
-loop-less : tie.Need-loop-smaller invariant-loop decreases-loop
+loop-less : tie.Need-loop-j-smaller invariant-loop decreases-loop
 loop-less c = omega arith
 
-loop-again : tie.Need-loop-preserved invariant-loop decreases-loop
+loop-again : tie.Need-loop-j-preserved invariant-loop decreases-loop
 unfolding with_bounds
 loop-again c =
-    let inv = c.before.loop.invariant in
-    let j = c.before.loop.j in
+    let inv = c.before.loop-j.invariant in
+    let j = c.before.loop-j.j in
     (omega arith, simp length-set inv.1, rw inv.2 (sym (write_to-more (λ _. pos 1) (λ _. pos 0) c.before.before.args.bounds.now j)))
 
-same_length : tie.Need-same-length invariant-loop decreases-loop
+same_length : tie.Need-shape_of-bounds invariant-loop decreases-loop
 same_length c = omega arith
 
 returns : tie.Need-returns invariant-loop decreases-loop
 unfolding empty_box
 returns c n h =
     let B = c.before.before.args.bounds.now in
-    let end : c.before.loop.j ≡ n = omega arith in
-    c.before.loop.invariant.2 ∙ rw end (write_to-all (λ _. pos 1) (λ _. pos 0) B n h)
+    let end : c.before.loop-j.j ≡ n = omega arith in
+    c.before.loop-j.invariant.2 ∙ rw end (write_to-all (λ _. pos 1) (λ _. pos 0) B n h)
 
-pub make-empty-spec : {M : Type 1} → statement M
-make-empty-spec =
+pub make_empty_spec : {M : Type 1} → statement M
+make_empty_spec =
     tie.close
     (tie.spec
     invariant-loop

@@ -14,51 +14,51 @@ use Rattle.model.proofs.BoxLaws.{same_numbers}
 use Rattle.boxes.proofs.same_box.Statement.{statement}
 use Rattle.boxes.proofs.same_box.Tie as tie
 
-abbrev invariant-loop : tie.invariant-loop
+abbrev invariant-loop : tie.invariant-loop-i
 invariant-loop xs ys i₀ i = (i ≤ length xs) × ((k : ℕ) → k < i → at xs k ≡ at ys k)
 
-abbrev decreases-loop : tie.decreases-loop
+abbrev decreases-loop : tie.decreases-loop-i
 decreases-loop xs ys i₀ i = length xs - i
 
-loop-holds : tie.Need-loop-init invariant-loop decreases-loop
+loop-holds : tie.Need-loop-i-init invariant-loop decreases-loop
 loop-holds c = (omega arith, below_none _)
 
-mul-if1 : tie.Need-overflow-mul-if1 invariant-loop decreases-loop
+mul-if1 : tie.Need-offset_bounds-xs-i invariant-loop decreases-loop
 mul-if1 c = omega arith
 
-shared-slice-copy-out-if1 : tie.Need-shared-slice-copy-out-if1 invariant-loop decreases-loop
+shared-slice-copy-out-if1 : tie.Need-bounds-xs-i invariant-loop decreases-loop
 shared-slice-copy-out-if1 c = omega arith
 
-mul-if1-2 : tie.Need-overflow-mul-if1-2 invariant-loop decreases-loop
+mul-if1-2 : tie.Need-offset_bounds-ys-i invariant-loop decreases-loop
 mul-if1-2 c = omega arith
 
-shared-slice-copy-out-if1-2 : tie.Need-shared-slice-copy-out-if1-2 invariant-loop decreases-loop
+shared-slice-copy-out-if1-2 : tie.Need-bounds-ys-i invariant-loop decreases-loop
 shared-slice-copy-out-if1-2 c = omega arith
 
-returns : tie.Need-returns invariant-loop decreases-loop
+returns : tie.Need-returns-then-xs-i invariant-loop decreases-loop
 returns c =
     let h = c.before.before.before.before in
     let a = h.before.args in
-    sym (test-false _ (same_numbers a.xs.now a.ys.now h.before.requires) (λ f. c.if1.true (ap (of_z w32) (f h.loop.i (omega arith)))))
+    sym (test-false _ (same_numbers a.xs.now a.ys.now h.before.requires) (λ f. c.if-xs-i.true (ap (of_z w32) (f h.loop-i.i (omega arith)))))
 
-add-i : tie.Need-overflow-add-i invariant-loop decreases-loop
+add-i : tie.Need-overflow_add-i invariant-loop decreases-loop
 add-i c = omega arith
 
-loop-less : tie.Need-loop-smaller invariant-loop decreases-loop
+loop-less : tie.Need-loop-i-smaller invariant-loop decreases-loop
 loop-less c = omega arith
 
-loop-again : tie.Need-loop-preserved invariant-loop decreases-loop
+loop-again : tie.Need-loop-i-preserved invariant-loop decreases-loop
 loop-again c =
     let h = c.before.before.before.before in
-    (omega arith, below_more _ _ h.loop.invariant.1 (eq-read w32 (record { sfits = c.before.before.if12.given }) (record { sfits = c.before.if13.given }) c.if1.false))
+    (omega arith, below_more _ _ h.loop-i.invariant.1 (eq-read w32 (record { sfits = c.before.before.t7-1.given }) (record { sfits = c.before.t10-1.given }) c.if-xs-i.false))
 
-returns-2 : tie.Need-returns-2 invariant-loop decreases-loop
+returns-2 : tie.Need-returns invariant-loop decreases-loop
 returns-2 c =
     let a = c.before.before.args in
-    sym (test-true _ (same_numbers a.xs.now a.ys.now c.before.before.requires) (λ j k. c.before.loop.invariant.1 j (omega arith)))
+    sym (test-true _ (same_numbers a.xs.now a.ys.now c.before.before.requires) (λ j k. c.before.loop-i.invariant.1 j (omega arith)))
 
-pub same-box-spec : {M : Type 1} → statement M
-same-box-spec =
+pub same_box_spec : {M : Type 1} → statement M
+same_box_spec =
     tie.close
     (tie.spec
     invariant-loop

@@ -7,13 +7,13 @@ use Rattle.cliques.specs.Cliques.{coef_of, value_of}
 use Rattle.clique_grow.proofs.coefficient.Statement.{statement}
 use Rattle.clique_grow.proofs.coefficient.Tie as tie
 
-returns : tie.Need-returns
+returns : tie.Need-returns-then-q-eq0
 unfolding coef_of value_of
-returns c = rw c.if1.true refl
+returns c = rw c.if-q-eq0.true refl
 
-returns-2 : tie.Need-returns-2
+returns-2 : tie.Need-returns-else-q-eq0
 unfolding coef_of value_of
-returns-2 c = rw (test-false (eqb (c.before.args.q % 2) 0) (eqb-test (c.before.args.q % 2) 0) c.if1.false) refl
+returns-2 c = rw (test-false (eqb (c.before.args.q % 2) 0) (eqb-test (c.before.args.q % 2) 0) c.if-q-eq0.false) refl
 
-pub coefficient-spec : {M : Type 1} → statement M
-coefficient-spec = tie.close (tie.spec returns returns-2)
+pub coefficient_spec : {M : Type 1} → statement M
+coefficient_spec = tie.close (tie.spec returns returns-2)

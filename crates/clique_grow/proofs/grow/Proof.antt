@@ -9,10 +9,10 @@ use Rattle.clique_grow.proofs.CandidateLaws.{GrownTo, grown-length, grown-most, 
 use Rattle.clique_grow.proofs.grow.Statement.{statement}
 use Rattle.clique_grow.proofs.grow.Tie as tie
 
-abbrev invariant-loop : tie.invariant-loop
+abbrev invariant-loop : tie.invariant-loop-i
 invariant-loop n table p flags₀ row₀ size₀ zeros₀ i₀ flags row size zeros i = (i ≤ 2 * n) × GrownTo n table (grow_to i n table p) flags row size zeros
 
-abbrev decreases-loop : tie.decreases-loop
+abbrev decreases-loop : tie.decreases-loop-i
 decreases-loop n table p flags₀ row₀ size₀ zeros₀ i₀ flags row size zeros i = 2 * n - i
 
 take-requires : tie.Need-take-requires invariant-loop decreases-loop
@@ -20,68 +20,68 @@ take-requires c κs =
     let s = c.before.before.before.before in
     ((s.requires.0.0, rw s.requires.0.1 length-ones), (s.requires.1.0, rw s.requires.1.1 (length-zero_row s.args.n)))
 
-sub-zeros : tie.Need-overflow-sub-zeros invariant-loop decreases-loop
+sub-zeros : tie.Need-overflow_sub-zeros invariant-loop decreases-loop
 sub-zeros c = omega arith
 
-loop-holds : tie.Need-loop-init invariant-loop decreases-loop
+loop-holds : tie.Need-loop-i-init invariant-loop decreases-loop
 unfolding value_of
 loop-holds c =
     let s = c.before.before.before.before.before.before.before.before in
     let told = c.before.before.before.take.ensures in
     (omega arith, grown-start s.args.table.now s.args.p s.requires.0.0.most s.requires.0.1 s.requires.1.1 told.0 told.1)
 
-mul-loop : tie.Need-overflow-mul-loop invariant-loop decreases-loop
+mul-loop : tie.Need-overflow_mul-n invariant-loop decreases-loop
 mul-loop c = let m = c.before.before.before.before.before.before.before.before.before.requires.0.0.most in omega arith
 
-slice-read-if1 : tie.Need-slice-read-if1 invariant-loop decreases-loop
+slice-read-if1 : tie.Need-bounds-flags-i invariant-loop decreases-loop
 slice-read-if1 c =
     let m = c.before.before.before.before.before.before.before.before.before.before.before.requires.0.0.most in
-    let e = c.before.before.loop.invariant.1.flags.len in omega arith
+    let e = c.before.before.loop-i.invariant.1.flags.len in omega arith
 
-take-requires-2 : tie.Need-take-requires-2 invariant-loop decreases-loop
+take-requires-2 : tie.Need-take-requires-then-flags-i-eq1 invariant-loop decreases-loop
 take-requires-2 c κs =
     let s = c.before.before.before.before.before.before.before.before.before.before.before.before.before.before in
-    let v = c.before.before.before.before.before.loop.invariant.1 in
+    let v = c.before.before.before.before.before.loop-i.invariant.1 in
     ((s.requires.0.0, v.flags.len), (omega arith, grown-length _ _ v))
 
-add-size : tie.Need-overflow-add-size invariant-loop decreases-loop
-add-size c = let m = (grown-most _ _ c.before.before.before.before.before.before.before.before.before.loop.invariant.1).0 in let k = c.before.before.before.before.before.before.before.before.before.before.before.before.before.before.before.before.before.before.requires.0.0.most in omega arith
+add-size : tie.Need-overflow_add-size invariant-loop decreases-loop
+add-size c = let m = (grown-most _ _ c.before.before.before.before.before.before.before.before.before.loop-i.invariant.1).0 in let k = c.before.before.before.before.before.before.before.before.before.before.before.before.before.before.before.before.before.before.requires.0.0.most in omega arith
 
-sub-zeros-2 : tie.Need-overflow-sub-zeros-2 invariant-loop decreases-loop
+sub-zeros-2 : tie.Need-overflow_sub-zeros-then-flags-i-eq1 invariant-loop decreases-loop
 sub-zeros-2 c = omega arith
 
-add-zeros : tie.Need-overflow-add-zeros invariant-loop decreases-loop
-add-zeros c = let m = (grown-most _ _ c.before.before.before.before.before.before.before.before.before.loop.invariant.1).1 in let k = c.before.before.before.before.before.before.before.before.before.before.before.before.before.before.before.before.before.before.requires.0.0.most in omega arith
+add-zeros : tie.Need-overflow_add-zeros invariant-loop decreases-loop
+add-zeros c = let m = (grown-most _ _ c.before.before.before.before.before.before.before.before.before.loop-i.invariant.1).1 in let k = c.before.before.before.before.before.before.before.before.before.before.before.before.before.before.before.before.before.before.requires.0.0.most in omega arith
 
-add-i : tie.Need-overflow-add-i invariant-loop decreases-loop
+add-i : tie.Need-overflow_add-i invariant-loop decreases-loop
 add-i c = omega arith
 
-loop-less : tie.Need-loop-smaller invariant-loop decreases-loop
+loop-less : tie.Need-loop-i-smaller invariant-loop decreases-loop
 loop-less c = omega arith
 
-loop-again : tie.Need-loop-preserved invariant-loop decreases-loop
+loop-again : tie.Need-loop-i-preserved invariant-loop decreases-loop
 unfolding value_of
 loop-again c =
-    let l = c.before.before.before.loop in
+    let l = c.before.before.before.loop-i in
     let m = c.before.before.before.before.before.before.before.before.before.before.before.before.requires.0.0.most in (
       omega arith,
       ⊎_elim
-          (λ w. grown-takes _ _ l.invariant.1 (omega arith) m w.0.taken (w.7 ∙ w.3.ensures.0) (w.8 ∙ w.3.ensures.1) w.9 w.10)
-          (λ w. grown-passes _ _ l.invariant.1 (omega arith) w.0.left w.1 w.2 w.3 w.4)
-          c.if1.branch,
+          (λ w. grown-takes _ _ l.invariant.1 (omega arith) m w.if-flags-i-eq1.true (w.flags-is ∙ w.take-then-flags-i-eq1.ensures.0) (w.row-is ∙ w.take-then-flags-i-eq1.ensures.1) w.size-is w.zeros-is)
+          (λ w. grown-passes _ _ l.invariant.1 (omega arith) w.if-flags-i-eq1.false w.flags-is w.row-is w.size-is w.zeros-is)
+          c.if-flags-i-eq1.branch-raw,
     )
 
-same_length : tie.Need-same-length invariant-loop decreases-loop
-same_length c = c.before.loop.invariant.1.flags.len ∙ sym (rw c.before.before.before.before.before.before.before.before.before.before.requires.0.1 length-ones)
+same_length : tie.Need-shape_of-flags invariant-loop decreases-loop
+same_length c = c.before.loop-i.invariant.1.flags.len ∙ sym (rw c.before.before.before.before.before.before.before.before.before.before.requires.0.1 length-ones)
 
-same-length-2 : tie.Need-same-length-2 invariant-loop decreases-loop
+same-length-2 : tie.Need-shape_of-row invariant-loop decreases-loop
 same-length-2 c =
-    let s = c.before.before.before.before.before.before.before.before.before.before in grown-length _ _ c.before.loop.invariant.1 ∙ sym (rw s.requires.1.1 (length-zero_row s.args.n))
+    let s = c.before.before.before.before.before.before.before.before.before.before in grown-length _ _ c.before.loop-i.invariant.1 ∙ sym (rw s.requires.1.1 (length-zero_row s.args.n))
 
 returns : tie.Need-returns invariant-loop decreases-loop
 unfolding grow
 returns c =
-    let l = c.before.loop in
+    let l = c.before.loop-i in
     let s = c.before.before.before.before.before.before.before.before.before.before in
     let end : l.i ≡ 2 * s.args.n = omega arith in
     let v = rw end at l.invariant.1 in

@@ -6,18 +6,18 @@ use borrow.Author.Rules.{rules}
 use Rattle.clique_grow.proofs.opposite.Statement.{statement}
 use Rattle.clique_grow.proofs.opposite.Tie as tie
 
-mul-result : tie.Need-overflow-mul-result
+mul-result : tie.Need-overflow_mul-result
 mul-result c = search rules
 
-sub-result : tie.Need-overflow-sub-result
+sub-result : tie.Need-overflow_sub-result
 sub-result c = search rules
 
-add-result : tie.Need-overflow-add-result
+add-result : tie.Need-overflow_add-result
 add-result c = search rules
 
 returns : tie.Need-returns
 unfolding opposite variable_of value_of literal
 returns c = refl
 
-pub opposite-spec : {M : Type 1} → statement M
-opposite-spec = tie.close (tie.spec mul-result sub-result add-result returns)
+pub opposite_spec : {M : Type 1} → statement M
+opposite_spec = tie.close (tie.spec mul-result sub-result add-result returns)

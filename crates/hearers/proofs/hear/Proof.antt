@@ -15,14 +15,14 @@ use Rattle.hearers.proofs.hear.Statement.{statement}
 use Rattle.hearers.proofs.hear.Tie as tie
 
 -- where neither test was taken
-abbrev start : tie.Else2 → tie.Start
+abbrev start : tie.Else-kind-eq1 → tie.Start
 start c = c.before.before.before.before
 
-returns : tie.Need-returns
+returns : tie.Need-returns-then-a-eq0
 returns c =
     let s = c.before.before.before in
     let e = eqb s.args.kind 1 in
-    let zero = eq-read w32 s.ranges.a (sfits_lit {z = pos 0} tt) c.if1.true in (
+    let zero = eq-read w32 s.ranges.a (sfits_lit {z = pos 0} tt) c.if-a-eq0.true in (
       (λ t. absurd (true≢false (sym t ∙ ap (hears_rise e) zero ∙ rise-none e))),
       ((λ t. absurd (true≢false (sym t ∙ ap (hears_fall e) zero ∙ fall-none e))), λ i n. (refl, refl)),
     )
@@ -30,53 +30,53 @@ returns c =
 insert-requires : tie.Need-insert-requires
 insert-requires c κs = search rules
 
-insert-requires-2 : tie.Need-insert-requires-2
+insert-requires-2 : tie.Need-insert-requires-then-kind-eq1
 insert-requires-2 c κs = search rules
 
-same_length : tie.Need-same-length
+same_length : tie.Need-shape_of-rise-then-kind-eq1
 same_length c = search rules
 
-same-length-2 : tie.Need-same-length-2
+same-length-2 : tie.Need-shape_of-fall-then-kind-eq1
 same-length-2 c = search rules
 
-returns-2 : tie.Need-returns-2
+returns-2 : tie.Need-returns-then-kind-eq1
 returns-2 c =
-    let second = c.before.before.insert2.ensures in
-    let first = c.before.before.before.before.before.before.insert.ensures in
+    let second = c.insert-then-kind-eq1.ensures in
+    let first = c.insert.ensures in
     ((λ t. first.0), ((λ t. second.0), λ i n. (first.1 i n, second.1 i n)))
 
-insert-requires-3 : tie.Need-insert-requires-3
+insert-requires-3 : tie.Need-insert-requires-then-a-gt0
 insert-requires-3 c κs = search rules
 
-same-length-3 : tie.Need-same-length-3
+same-length-3 : tie.Need-shape_of-rise-then-a-gt0
 same-length-3 c = search rules
 
-returns-3 : tie.Need-returns-3
+returns-3 : tie.Need-returns-then-a-gt0
 returns-3 c =
-    let put = c.before.before.insert3.ensures in
+    let put = c.insert-then-a-gt0.ensures in
     let f = c.before.before.before.before in
     let s = start f.before in
-    let above : pos 0 <ℤ s.args.a = lt-read refl (to_z-of_z {w = w32} s.fits.a) f.if3.true in
-    let deaf : hears_fall (eqb s.args.kind 1) s.args.a ≡ false = rw (not-equality s.args.kind f.before.if2.false) (fall-above (omega zarith)) in
+    let above : pos 0 <ℤ s.args.a = lt-read refl (to_z-of_z {w = w32} s.ranges.a) f.if-a-gt0.true in
+    let deaf : hears_fall (eqb s.args.kind 1) s.args.a ≡ false = rw (not-equality s.args.kind f.if-kind-eq1.false) (fall-above (omega zarith)) in
     ((λ t. put.0), ((λ t. absurd (true≢false (sym t ∙ deaf))), λ i n. (put.1 i n, refl)))
 
-insert-requires-4 : tie.Need-insert-requires-4
+insert-requires-4 : tie.Need-insert-requires-2
 insert-requires-4 c κs = search rules
 
-same-length-4 : tie.Need-same-length-4
+same-length-4 : tie.Need-shape_of-fall
 same-length-4 c = search rules
 
-returns-4 : tie.Need-returns-4
+returns-4 : tie.Need-returns
 returns-4 c =
-    let put = c.before.before.insert4.ensures in
+    let put = c.insert-2.ensures in
     let f = c.before.before.before.before in
     let s = start f.before in
-    let below = ge-read refl (to_z-of_z {w = w32} s.fits.a) f.if3.false in
-    let deaf : hears_rise (eqb s.args.kind 1) s.args.a ≡ false = rw (not-equality s.args.kind f.before.if2.false) (rise-below below) in
+    let below = ge-read refl (to_z-of_z {w = w32} s.ranges.a) f.if-a-gt0.false in
+    let deaf : hears_rise (eqb s.args.kind 1) s.args.a ≡ false = rw (not-equality s.args.kind f.if-kind-eq1.false) (rise-below below) in
     ((λ t. absurd (true≢false (sym t ∙ deaf))), ((λ t. put.0), λ i n. (refl, put.1 i n)))
 
-pub hear-spec : {M : Type 1} → statement M
-hear-spec =
+pub hear_spec : {M : Type 1} → statement M
+hear_spec =
     tie.close
     (tie.spec
     returns

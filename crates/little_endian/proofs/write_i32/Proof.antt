@@ -8,13 +8,13 @@ use Rattle.little_endian.specs.Pieces.{overwrite}
 use Rattle.little_endian.proofs.write_i32.Statement.{statement}
 use Rattle.little_endian.proofs.write_i32.Tie as tie
 
-bits-of-requires : tie.Need-bits-of-requires
+bits-of-requires : tie.Need-bits_of-requires
 bits-of-requires c κs = search rules
 
-write-u32-requires : tie.Need-write-u32-requires
+write-u32-requires : tie.Need-write_u32-requires
 write-u32-requires c κs = search rules
 
-same_length : tie.Need-same-length
+same_length : tie.Need-shape_of-bytes
 same_length c = search rules
 
 returns : tie.Need-returns
@@ -22,8 +22,8 @@ unfolding integer_bytes
 returns c =
     let a = c.before.before.before.before.before.before.args in
     let fx = c.before.before.before.before.before.before.ranges.x in
-    c.before.before.write-u32.ensures
+    c.before.before.write_u32.ensures
     ∙ ap (λ (x : ℕ). overwrite a.at (bytes_of 4 x) a.bytes.now) (simp to_z-of_z at c.before.before.before.bits_of.ensures)
 
-pub write-i32-spec : {M : Type 1} → statement M
-write-i32-spec = tie.close (tie.spec bits-of-requires write-u32-requires same_length returns)
+pub write_i32_spec : {M : Type 1} → statement M
+write_i32_spec = tie.close (tie.spec bits-of-requires write-u32-requires same_length returns)

@@ -13,22 +13,22 @@ use Rattle.little_endian.specs.Pieces.{overwrite}
 use Rattle.little_endian.proofs.write_u16.Statement.{statement}
 use Rattle.little_endian.proofs.write_u16.Tie as tie
 
-cast-bytes : tie.Need-overflow-cast-bytes
+cast-bytes : tie.Need-overflow_cast-bytes
 cast-bytes c = search rules
 
-slice-write-bytes : tie.Need-slice-write-bytes
+slice-write-bytes : tie.Need-bounds-bytes-at
 slice-write-bytes c = search rules
 
-cast-bytes-2 : tie.Need-overflow-cast-bytes-2
+cast-bytes-2 : tie.Need-overflow_cast-bytes-2
 cast-bytes-2 c = search rules
 
-add-bytes : tie.Need-overflow-add-bytes
+add-bytes : tie.Need-overflow_add-bytes
 add-bytes c = search rules
 
-slice-write-bytes-2 : tie.Need-slice-write-bytes-2
+slice-write-bytes-2 : tie.Need-bounds-bytes-at-2
 slice-write-bytes-2 c = simp length-set (omega arith)
 
-same_length : tie.Need-same-length
+same_length : tie.Need-shape_of-bytes
 same_length c = search rules
 
 returns : tie.Need-returns
@@ -39,8 +39,8 @@ returns c =
     let high : x / 256 % 256 ≡ x / 256 = omega arith in
     rw (add-one, high) (sets-eq (x % 256 ∷ x / 256 ∷ []) c.args.bytes.now at (omega arith))
 
-pub write-u16-spec : {M : Type 1} → statement M
-write-u16-spec =
+pub write_u16_spec : {M : Type 1} → statement M
+write_u16_spec =
     tie.close
     (tie.spec
     cast-bytes

@@ -12,28 +12,28 @@ use Rattle.little_endian.proofs.PieceLaws.{overwrite-next}
 use Rattle.little_endian.proofs.write_u32.Statement.{statement}
 use Rattle.little_endian.proofs.write_u32.Tie as tie
 
-cast-write-u16 : tie.Need-overflow-cast-write-u16
+cast-write-u16 : tie.Need-overflow_cast-x
 cast-write-u16 c = search rules
 
-write-u16-requires : tie.Need-write-u16-requires
+write-u16-requires : tie.Need-write_u16-requires
 write-u16-requires c κs = search rules
 
-add-write-u16 : tie.Need-overflow-add-write-u16
+add-write-u16 : tie.Need-overflow_add-at
 add-write-u16 c = search rules
 
-cast-write-u16-2 : tie.Need-overflow-cast-write-u16-2
+cast-write-u16-2 : tie.Need-overflow_cast-x-2
 cast-write-u16-2 c = search rules
 
-write-u16-requires-2 : tie.Need-write-u16-requires-2
+write-u16-requires-2 : tie.Need-write_u16-requires-2
 write-u16-requires-2 c κs = search rules
 
-same_length : tie.Need-same-length
+same_length : tie.Need-shape_of-bytes
 same_length c = search rules
 
 returns : tie.Need-returns
 returns c =
-    let second = c.before.before.write-u162 in
-    let first = c.before.before.before.before.before.before.write-u16 in
+    let second = c.before.before.write_u16-2 in
+    let first = c.before.before.before.before.before.before.write_u16 in
     let a = c.before.before.before.before.before.before.before.before.before.args in
     let bs = a.bytes.now in
     second.ensures
@@ -42,8 +42,8 @@ returns c =
     (omega (arith, length-bytes_of 2 a.x)) (omega (arith, length-bytes_of 2 (a.x / 65_536)))
     ∙ ap (λ (ys : List ℕ). overwrite a.at ys bs) (sym (bytes-append 2 2 a.x))
 
-pub write-u32-spec : {M : Type 1} → statement M
-write-u32-spec =
+pub write_u32_spec : {M : Type 1} → statement M
+write_u32_spec =
     tie.close
     (tie.spec
     cast-write-u16

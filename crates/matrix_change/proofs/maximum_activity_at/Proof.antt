@@ -9,15 +9,15 @@ use Rattle.matrix_change.proofs.maximum_activity_at.Tie as tie
 coefficients-requires : tie.Need-coefficients-requires
 coefficients-requires c κs = search rules
 
-maximum-activity-requires : tie.Need-maximum-activity-requires
+maximum-activity-requires : tie.Need-maximum_activity-requires
 maximum-activity-requires c κs = let s = c.before in rw (c.coefficients.ensures, s.requires.1.len) s.requires.1
 
 returns : tie.Need-returns
 returns c =
     let s = c.before.before in
-    to_z-of_z {w = w64} (record { sfits = c.maximum-activity.type-inv })
-    ∙ (rw (c.before.coefficients.ensures, s.requires.1.len) at c.maximum-activity.ensures)
+    to_z-of_z {w = w64} (record { sfits = c.maximum_activity.type_inv })
+    ∙ (rw (c.coefficients.ensures, s.requires.1.len) at c.maximum_activity.ensures)
 
-pub maximum-activity-at-spec : {M : Type 1} → statement M
-maximum-activity-at-spec =
+pub maximum_activity_at_spec : {M : Type 1} → statement M
+maximum_activity_at_spec =
     tie.close (tie.spec coefficients-requires maximum-activity-requires returns)

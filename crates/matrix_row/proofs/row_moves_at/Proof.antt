@@ -16,13 +16,13 @@ rhs-is s = to_z-of_z {w = w32} (within-fits w32 tt (rhs-within s.requires.1.rhs)
 coefficients-requires : tie.Need-coefficients-requires
 coefficients-requires c κs = search rules
 
-mul-moves : tie.Need-overflow-mul-moves
+mul-moves : tie.Need-offset_bounds-rhs-r
 mul-moves c = search rules
 
-shared-slice-copy-out-moves : tie.Need-shared-slice-copy-out-moves
+shared-slice-copy-out-moves : tie.Need-bounds-rhs-r
 shared-slice-copy-out-moves c = search rules
 
-shared-slice-read-moves : tie.Need-shared-slice-read-moves
+shared-slice-read-moves : tie.Need-bounds-kinds-r
 shared-slice-read-moves c = search rules
 
 moves-requires : tie.Need-moves-requires
@@ -37,8 +37,8 @@ returns c =
     let s = k.before.before in
     rw (k.coefficients.ensures, s.requires.1.coefs.len, rhs-is s) at c.moves.ensures
 
-pub row-moves-at-spec : {M : Type 1} → statement M
-row-moves-at-spec =
+pub row_moves_at_spec : {M : Type 1} → statement M
+row_moves_at_spec =
     tie.close
     (tie.spec
     coefficients-requires

@@ -16,34 +16,34 @@ rhs-is s = to_z-of_z {w = w32} (within-fits w32 tt (rhs-within s.requires.0.1.rh
 coefficients-requires : tie.Need-coefficients-requires
 coefficients-requires c κs = search rules
 
-row-bytes-requires : tie.Need-row-bytes-requires
+row-bytes-requires : tie.Need-row_bytes-requires
 row-bytes-requires c κs = search rules
 
-mul-moves-by : tie.Need-overflow-mul-moves-by
+mul-moves-by : tie.Need-offset_bounds-rhs-r
 mul-moves-by c = search rules
 
-shared-slice-copy-out-moves-by : tie.Need-shared-slice-copy-out-moves-by
+shared-slice-copy-out-moves-by : tie.Need-bounds-rhs-r
 shared-slice-copy-out-moves-by c = search rules
 
-shared-slice-read-moves-by : tie.Need-shared-slice-read-moves-by
+shared-slice-read-moves-by : tie.Need-bounds-kinds-r
 shared-slice-read-moves-by c = search rules
 
-moves-by-requires : tie.Need-moves-by-requires
+moves-by-requires : tie.Need-moves_by-requires
 moves-by-requires c κs =
     let t = c.before.before in
     let k = t.before in
     let s = k.before.before.before in
-    rw (k.coefficients.ensures, t.row-bytes.ensures, s.requires.0.1.coefs.len, rhs-is s) (s.requires.0.1, s.requires.1.good)
+    rw (k.coefficients.ensures, t.row_bytes.ensures, s.requires.0.1.coefs.len, rhs-is s) (s.requires.0.1, s.requires.1.good)
 
 returns : tie.Need-returns
 returns c =
     let t = c.before.before.before in
     let k = t.before in
     let s = k.before.before.before in
-    rw (k.coefficients.ensures, s.requires.0.1.coefs.len, rhs-is s) at c.moves-by.ensures
+    rw (k.coefficients.ensures, s.requires.0.1.coefs.len, rhs-is s) at c.moves_by.ensures
 
-pub row-moves-at-by-spec : {M : Type 1} → statement M
-row-moves-at-by-spec =
+pub row_moves_at_by_spec : {M : Type 1} → statement M
+row_moves_at_by_spec =
     tie.close
     (tie.spec
     coefficients-requires

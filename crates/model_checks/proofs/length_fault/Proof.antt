@@ -18,36 +18,36 @@ accepted : (M : Model) → LengthsFit M → 0 ≡ first (length_checks M)
 unfolding length_checks
 accepted M h = sym ((first-none (length_checks M) tt).1 ((length-test M).1 h, tt))
 
-is-product-requires : tie.Need-is-product-requires
+is-product-requires : tie.Need-is_product-requires
 is-product-requires c κs = search rules
 
-returns : tie.Need-returns
-returns c = refused _ (λ h. eqb-false _ _ (told-false _ c.before.is-product.ensures c.if1.true) h.0)
+returns : tie.Need-returns-then-not-is_product
+returns c = refused _ (λ h. eqb-false _ _ (told-false _ c.before.is_product.ensures c.if-not-is_product.true-raw) h.0)
 
-is-product-requires-2 : tie.Need-is-product-requires-2
+is-product-requires-2 : tie.Need-is_product-requires-2
 is-product-requires-2 c κs = search rules
 
-returns-2 : tie.Need-returns-2
-returns-2 c = refused _ (λ h. eqb-false _ _ (told-false _ c.before.is-product2.ensures c.if2.true) h.1)
+returns-2 : tie.Need-returns-then-not-is_product-2
+returns-2 c = refused _ (λ h. eqb-false _ _ (told-false _ c.before.is_product-2.ensures c.if-not-is_product-2.true-raw) h.1)
 
-returns-3 : tie.Need-returns-3
+returns-3 : tie.Need-returns-then-rhs-m
 returns-3 c = refused _ (λ h. omega arith)
 
-returns-4 : tie.Need-returns-4
+returns-4 : tie.Need-returns-then-kinds-m
 returns-4 c = refused _ (λ h. omega arith)
 
-returns-5 : tie.Need-returns-5
+returns-5 : tie.Need-returns
 returns-5 c =
     let after2 = c.before.before.before in
     let after1 = after2.before.before in
     accepted _ (
-      eqb-true _ _ (told-true _ after1.is-product.ensures after2.before.if1.false),
-      eqb-true _ _ (told-true _ after2.is-product2.ensures c.before.before.if2.false),
-      c.before.if3.false,
-      c.if4.false,
+      eqb-true _ _ (told-true _ after1.is_product.ensures after2.before.if-not-is_product.false-raw),
+      eqb-true _ _ (told-true _ after2.is_product-2.ensures c.before.before.if-not-is_product-2.false-raw),
+      c.before.if-rhs-m.false,
+      c.if-kinds-m.false,
     )
 
-pub length-fault-spec : {M : Type 1} → statement M
-length-fault-spec =
+pub length_fault_spec : {M : Type 1} → statement M
+length_fault_spec =
     tie.close
     (tie.spec is-product-requires returns is-product-requires-2 returns-2 returns-3 returns-4 returns-5)

@@ -18,44 +18,44 @@ sizes s = size_checks s.args.n s.args.m
 abbrev lengths : tie.Start → List Check
 lengths s = length_checks (model_of s.args.n s.args.m s.args.bounds.now (rows_of s.args.coefs.now s.args.rhs.now s.args.kinds.now))
 
-size-fault-requires : tie.Need-size-fault-requires
+size-fault-requires : tie.Need-size_fault-size-requires
 size-fault-requires c κs = search rules
 
-returns : tie.Need-returns
+returns : tie.Need-returns-then-size-ne0
 unfolding model_fault model_checks
-returns c = stops _ _ c.before.size-fault.ensures c.if1.true
+returns c = stops _ _ c.before.size_fault-size.ensures c.if-size-ne0.true
 
-length-fault-requires : tie.Need-length-fault-requires
+length-fault-requires : tie.Need-length_fault-length-requires
 length-fault-requires c κs = search rules
 
 -- past a list of checks, what the later ones answer is the answer
-past-1 : (c : tie.Else1) {r : ℕ} (ys : List Check) → r ≡ first ys → r ≡ first (sizes c.before.before.before ++ ys)
+past-1 : (c : tie.Else-size-ne0) {r : ℕ} (ys : List Check) → r ≡ first ys → r ≡ first (sizes c.before.before.before ++ ys)
 unfolding size_checks
-past-1 c ys h = goes (sizes c.before.before.before) ys tt c.before.size-fault.ensures c.if1.false h
+past-1 c ys h = goes (sizes c.before.before.before) ys tt c.before.size_fault-size.ensures c.if-size-ne0.false h
 
-returns-2 : tie.Need-returns-2
+returns-2 : tie.Need-returns-then-length-ne0
 unfolding model_fault model_checks
-returns-2 c = past-1 c.before.before _ (stops _ _ c.before.length-fault.ensures c.if2.true)
+returns-2 c = past-1 c.before.before _ (stops _ _ c.before.length_fault-length.ensures c.if-length-ne0.true)
 
-past-2 : (c : tie.Else2) {r : ℕ} (ys : List Check) → r ≡ first ys
+past-2 : (c : tie.Else-length-ne0) {r : ℕ} (ys : List Check) → r ≡ first ys
     → let s = c.before.before.before.before.before in r ≡ first (sizes s ++ (lengths s ++ ys))
 unfolding length_checks
 past-2 c ys h =
-    past-1 c.before.before _ (goes (lengths c.before.before.before.before.before) ys tt c.before.length-fault.ensures c.if2.false h)
+    past-1 c.before.before _ (goes (lengths c.before.before.before.before.before) ys tt c.before.length_fault-length.ensures c.if-length-ne0.false h)
 
-returns-3 : tie.Need-returns-3
+returns-3 : tie.Need-returns-then-not-fits
 unfolding model_fault model_checks table_length_checks
-returns-3 c = past-2 c.before _ (fails _ 5 _ (told-false _ refl c.if3.true))
+returns-3 c = past-2 c.before _ (fails _ 5 _ (told-false _ refl c.if-not-fits.true-raw))
 
-number-fault-requires : tie.Need-number-fault-requires
+number-fault-requires : tie.Need-number_fault-requires
 number-fault-requires c κs = search rules
 
-returns-4 : tie.Need-returns-4
+returns-4 : tie.Need-returns
 unfolding model_fault model_checks table_length_checks box_checks number_checks table_byte_checks
-returns-4 c = past-2 c.before.before _ (past _ 5 _ (told-true _ refl c.before.if3.false) c.number-fault.ensures)
+returns-4 c = past-2 c.before.before _ (past _ 5 _ (told-true _ refl c.before.if-not-fits.false-raw) c.number_fault.ensures)
 
-pub model-fault-spec : {M : Type 1} → statement M
-model-fault-spec =
+pub model_fault_spec : {M : Type 1} → statement M
+model_fault_spec =
     tie.close
     (tie.spec
     size-fault-requires

@@ -17,17 +17,17 @@ accepted : (n m : ℕ) → (0 < n) × (n ≤ max_variables) × (m ≤ max_rows) 
 unfolding size_checks
 accepted n m h = sym ((first-none (size_checks n m) tt).1 ((size-test n m).1 h, tt))
 
-returns : tie.Need-returns
+returns : tie.Need-returns-then-n-lt1
 returns c = refused _ _ (λ h. omega arith)
 
-returns-2 : tie.Need-returns-2
+returns-2 : tie.Need-returns-then-n-gt-MAX_VARIABLES
 returns-2 c = refused _ _ (λ h. omega arith)
 
-returns-3 : tie.Need-returns-3
+returns-3 : tie.Need-returns-then-m-gt-MAX_ROWS
 returns-3 c = refused _ _ (λ h. omega arith)
 
-returns-4 : tie.Need-returns-4
+returns-4 : tie.Need-returns
 returns-4 c = accepted c.before.before.before.args.n c.before.before.before.args.m (omega arith)
 
-pub size-fault-spec : {M : Type 1} → statement M
-size-fault-spec = tie.close (tie.spec returns returns-2 returns-3 returns-4)
+pub size_fault_spec : {M : Type 1} → statement M
+size_fault_spec = tie.close (tie.spec returns returns-2 returns-3 returns-4)

@@ -20,32 +20,32 @@ use native.Mathlib.Omega.{arith}
 use Rattle.one_proposal.proofs.value_at.Statement.{statement}
 use Rattle.one_proposal.proofs.value_at.Tie as tie
 
-abbrev invariant-loop : tie.invariant-loop
+abbrev invariant-loop : tie.invariant-loop-j
 invariant-loop coefs steps x sum₀ j₀ sum j = (j ≤ length coefs) × (to_z w64 sum ≡ total j (term_at coefs x))
 
-abbrev decreases-loop : tie.decreases-loop
+abbrev decreases-loop : tie.decreases-loop-j
 decreases-loop coefs steps x sum₀ j₀ sum j = length coefs - j
 
-loop-holds : tie.Need-loop-init invariant-loop decreases-loop
+loop-holds : tie.Need-loop-j-init invariant-loop decreases-loop
 unfolding total
 loop-holds c = (omega arith, refl)
 
 -- the turn's coefficient and number
-module _ (h : tie.At-loop invariant-loop decreases-loop) where
+module _ (h : tie.At-loop-j invariant-loop decreases-loop) where
   abbrev j : ℕ
-  j = h.loop.j
+  j = h.loop-j.j
 
   abbrev A : List ℤ
-  A = h.before.args.coefs.now
+  A = h.args.coefs.now
 
   abbrev S : List ℕ
-  S = h.before.args.steps.now
+  S = h.args.steps.now
 
   abbrev x : List ℤ
-  x = h.before.args.x.now
+  x = h.args.x.now
 
   small : Holdable (length A) A x
-  small = h.before.pre.0
+  small = h.requires.0
 
   a-fits : SFits w32 (at A j)
   a-fits = within-fits w32 tt (small.coefs j)
@@ -60,62 +60,62 @@ module _ (h : tie.At-loop invariant-loop decreases-loop) where
   next = to_z-of_z product-fits ∙ (rw (read_wide a-fits, read_wide x_fits) refl)
 
   step_in : j < length A → j + get_or S j 0 ≤ length A
-  step_in k = h.before.pre.1.within j k
+  step_in k = h.requires.1.within j k
 
   step-on : j < length A → 0 < get_or S j 0
-  step-on k = h.before.pre.1.forward j k
+  step-on k = h.requires.1.forward j k
 
-mul-sum : tie.Need-overflow-mul-sum invariant-loop decreases-loop
+mul-sum : tie.Need-offset_bounds-coefs-j invariant-loop decreases-loop
 mul-sum c = omega arith
 
-shared-slice-copy-out-sum : tie.Need-shared-slice-copy-out-sum invariant-loop decreases-loop
+shared-slice-copy-out-sum : tie.Need-bounds-coefs-j invariant-loop decreases-loop
 shared-slice-copy-out-sum c = omega arith
 
-cast-sum : tie.Need-overflow-cast-sum invariant-loop decreases-loop
+cast-sum : tie.Need-overflow_cast-sum invariant-loop decreases-loop
 cast-sum c = wide_fits (a-fits c.before.before)
 
-mul-sum-2 : tie.Need-overflow-mul-sum-2 invariant-loop decreases-loop
+mul-sum-2 : tie.Need-offset_bounds-x-j invariant-loop decreases-loop
 mul-sum-2 c = omega arith
 
-shared-slice-copy-out-sum-2 : tie.Need-shared-slice-copy-out-sum-2 invariant-loop decreases-loop
+shared-slice-copy-out-sum-2 : tie.Need-bounds-x-j invariant-loop decreases-loop
 shared-slice-copy-out-sum-2 c = omega (arith, (small c.before.before).len)
 
-cast-sum-2 : tie.Need-overflow-cast-sum-2 invariant-loop decreases-loop
+cast-sum-2 : tie.Need-overflow_cast-sum-in-loop-j invariant-loop decreases-loop
 cast-sum-2 c = wide_fits (x_fits c.before.before.before)
 
-mul-sum-3 : tie.Need-overflow-mul-sum-3 invariant-loop decreases-loop
+mul-sum-3 : tie.Need-overflow_mul-sum invariant-loop decreases-loop
 mul-sum-3 c = product-fits c.before.before.before
 
-add-sum : tie.Need-overflow-add-sum invariant-loop decreases-loop
-add-sum c = let h = c.before.before.before in turn-fits (terms (small h)) (j h) h.loop.invariant.1 (next h) (omega arith)
+add-sum : tie.Need-overflow_add-sum invariant-loop decreases-loop
+add-sum c = let h = c.before.before.before in turn-fits (terms (small h)) (j h) h.loop-j.invariant.1 (next h) (omega arith)
 
-shared-slice-read-j : tie.Need-shared-slice-read-j invariant-loop decreases-loop
-shared-slice-read-j c = omega (arith, c.before.before.before.before.before.requires.1.len)
+shared-slice-read-j : tie.Need-bounds-steps-j invariant-loop decreases-loop
+shared-slice-read-j c = omega (arith, c.requires.1.len)
 
-cast-j : tie.Need-overflow-cast-j invariant-loop decreases-loop
+cast-j : tie.Need-overflow_cast-j invariant-loop decreases-loop
 cast-j c = let h = c.before.before.before.before in omega (arith, step_in h (omega arith))
 
-add-j : tie.Need-overflow-add-j invariant-loop decreases-loop
+add-j : tie.Need-overflow_add-j invariant-loop decreases-loop
 add-j c = let h = c.before.before.before.before in omega (arith, step_in h (omega arith))
 
-loop-less : tie.Need-loop-smaller invariant-loop decreases-loop
+loop-less : tie.Need-loop-j-smaller invariant-loop decreases-loop
 loop-less c = let h = c.before.before.before.before in omega (arith, step_in h (omega arith), step-on h (omega arith))
 
-loop-again : tie.Need-loop-preserved invariant-loop decreases-loop
+loop-again : tie.Need-loop-j-preserved invariant-loop decreases-loop
 loop-again c =
     let h = c.before.before.before.before in
     let k : j h < length (A h) = omega arith in
-    (step_in h k, to_z-of_z (add-sum c.before) ∙ turn (terms (small h)) (j h) h.loop.invariant.1 (next h) ∙ step-dot h.before.requires.1 (x h) k)
+    (step_in h k, to_z-of_z (add-sum c.before) ∙ turn (terms (small h)) (j h) h.loop-j.invariant.1 (next h) ∙ step-dot h.requires.1 (x h) k)
 
 returns : tie.Need-returns invariant-loop decreases-loop
 unfolding dot
 returns c =
     let h = c.before in
-    let end : h.loop.j ≡ length (A h) = omega arith in
-    h.loop.invariant.1 ∙ ap (λ (i : ℕ). total i (term_at (A h) (x h))) end
+    let end : h.loop-j.j ≡ length (A h) = omega arith in
+    h.loop-j.invariant.1 ∙ ap (λ (i : ℕ). total i (term_at (A h) (x h))) end
 
-pub value-at-spec : {M : Type 1} → statement M
-value-at-spec =
+pub value_at_spec : {M : Type 1} → statement M
+value_at_spec =
     tie.close
     (tie.spec
     invariant-loop

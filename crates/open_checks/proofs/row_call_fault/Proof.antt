@@ -10,7 +10,7 @@ use Rattle.open_checks.proofs.RefusalLaws.{refused-first, refused-own}
 use Rattle.open_checks.proofs.row_call_fault.Statement.{statement}
 use Rattle.open_checks.proofs.row_call_fault.Tie as tie
 
-model-fault-requires : tie.Need-model-fault-requires
+model-fault-requires : tie.Need-model_fault-fault-requires
 model-fault-requires c κs = search rules
 
 abbrev rows : tie.Start → Rows
@@ -19,27 +19,27 @@ rows s = rows_of s.args.coefs.now s.args.rhs.now s.args.kinds.now
 abbrev before : tie.Start → State
 before s = state_of s.args.n s.args.m s.args.bounds.now (rows s) []
 
-returns : tie.Need-returns
+returns : tie.Need-returns-then-fault-ne0
 unfolding kind_of has_table
 returns c =
     let s = c.before.before.before in
     let a = s.args in (
-      refused-first a.n a.m a.bounds.now (rows s) 1 a.row 0 0 tt c.before.model-fault.ensures c.if1.true,
-      refused-first a.n a.m a.bounds.now (rows s) 5 a.row 0 0 tt c.before.model-fault.ensures c.if1.true,
+      refused-first a.n a.m a.bounds.now (rows s) 1 a.row 0 0 tt c.model_fault-fault.ensures c.if-fault-ne0.true,
+      refused-first a.n a.m a.bounds.now (rows s) 5 a.row 0 0 tt c.model_fault-fault.ensures c.if-fault-ne0.true,
     )
 
-row-fault-requires : tie.Need-row-fault-requires
+row-fault-requires : tie.Need-row_fault-requires
 row-fault-requires c κs = search rules
 
-returns-2 : tie.Need-returns-2
+returns-2 : tie.Need-returns
 unfolding kind_of has_table state_of
 returns-2 c =
     let e = c.before in
     let s = e.before.before.before in
     let a = s.args in (
-      refused-own a.n a.m a.bounds.now (rows s) 1 a.row 0 0 tt e.before.model-fault.ensures e.if1.false (c.row-fault.ensures ∙ own_row (before s) a.row),
-      refused-own a.n a.m a.bounds.now (rows s) 5 a.row 0 0 tt e.before.model-fault.ensures e.if1.false (c.row-fault.ensures ∙ own-removal (before s) a.row),
+      refused-own a.n a.m a.bounds.now (rows s) 1 a.row 0 0 tt e.model_fault-fault.ensures e.if-fault-ne0.false (c.row_fault.ensures ∙ own_row (before s) a.row),
+      refused-own a.n a.m a.bounds.now (rows s) 5 a.row 0 0 tt e.model_fault-fault.ensures e.if-fault-ne0.false (c.row_fault.ensures ∙ own-removal (before s) a.row),
     )
 
-pub row-call-fault-spec : {M : Type 1} → statement M
-row-call-fault-spec = tie.close (tie.spec model-fault-requires returns row-fault-requires returns-2)
+pub row_call_fault_spec : {M : Type 1} → statement M
+row_call_fault_spec = tie.close (tie.spec model-fault-requires returns row-fault-requires returns-2)

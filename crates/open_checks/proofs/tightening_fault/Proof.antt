@@ -13,7 +13,7 @@ use Rattle.open_checks.proofs.RefusalLaws.{refused-first, refused-own}
 use Rattle.open_checks.proofs.tightening_fault.Statement.{statement}
 use Rattle.open_checks.proofs.tightening_fault.Tie as tie
 
-model-fault-requires : tie.Need-model-fault-requires
+model-fault-requires : tie.Need-model_fault-fault-requires
 model-fault-requires c κs = search rules
 
 abbrev rows : tie.Start → Rows
@@ -22,28 +22,28 @@ rows s = rows_of s.args.coefs.now s.args.rhs.now s.args.kinds.now
 abbrev before : tie.Start → State
 before s = state_of s.args.n s.args.m s.args.bounds.now (rows s) []
 
-returns : tie.Need-returns
+returns : tie.Need-returns-then-fault-ne0
 unfolding kind_of has_table
 returns c =
     let s = c.before.before.before in
     let a = s.args in
-    refused-first a.n a.m a.bounds.now (rows s) 4 a.row a.variable 0 tt c.before.model-fault.ensures c.if1.true
+    refused-first a.n a.m a.bounds.now (rows s) 4 a.row a.variable 0 tt c.model_fault-fault.ensures c.if-fault-ne0.true
 
-valid : (c : tie.Else1) → let s = c.before.before.before in ValidModel (model_of s.args.n s.args.m s.args.bounds.now (rows s))
+valid : (c : tie.Else-fault-ne0) → let s = c.before.before.before in ValidModel (model_of s.args.n s.args.m s.args.bounds.now (rows s))
 valid c =
     let s = c.before.before.before in
-    (fault-none (model_of s.args.n s.args.m s.args.bounds.now (rows s))).0 (sym c.before.model-fault.ensures ∙ c.if1.false)
+    (fault-none (model_of s.args.n s.args.m s.args.bounds.now (rows s))).0 (sym c.model_fault-fault.ensures ∙ c.if-fault-ne0.false)
 
-tightening-fields-fault-requires : tie.Need-tightening-fields-fault-requires
+tightening-fields-fault-requires : tie.Need-tightening_fields_fault-requires
 tightening-fields-fault-requires c κs = ((valid c).box, (valid c).some)
 
-returns-2 : tie.Need-returns-2
+returns-2 : tie.Need-returns
 unfolding kind_of has_table state_of
 returns-2 c =
     let e = c.before in
     let s = e.before.before.before in
     let a = s.args in
-    refused-own a.n a.m a.bounds.now (rows s) 4 a.row a.variable 0 tt e.before.model-fault.ensures e.if1.false (c.tightening-fields-fault.ensures ∙ own-tightening (before s) a.row a.variable)
+    refused-own a.n a.m a.bounds.now (rows s) 4 a.row a.variable 0 tt e.model_fault-fault.ensures e.if-fault-ne0.false (c.tightening_fields_fault.ensures ∙ own-tightening (before s) a.row a.variable)
 
-pub tightening-fault-spec : {M : Type 1} → statement M
-tightening-fault-spec = tie.close (tie.spec model-fault-requires returns tightening-fields-fault-requires returns-2)
+pub tightening_fault_spec : {M : Type 1} → statement M
+tightening_fault_spec = tie.close (tie.spec model-fault-requires returns tightening-fields-fault-requires returns-2)

@@ -14,55 +14,55 @@ use Rattle.pack.proofs.PackLaws.{length-row, row-range, row_room, rows_more, row
 use Rattle.pack.proofs.pack_rows.Statement.{statement}
 use Rattle.pack.proofs.pack_rows.Tie as tie
 
-abbrev invariant-loop : tie.invariant-loop
+abbrev invariant-loop : tie.invariant-loop-r
 invariant-loop n m coefs ws₀ r₀ ws r =
     (r ≤ m) × SameBut 1_408 (1_408 + r * n) ws₀ ws × ((q : ℕ) → q < r → coefs_from (row_words n ws q) 0 ≡ row_of n coefs q)
 
-abbrev decreases-loop : tie.decreases-loop
+abbrev decreases-loop : tie.decreases-loop-r
 decreases-loop n m coefs ws₀ r₀ ws r = m - r
 
-loop-holds : tie.Need-loop-init invariant-loop decreases-loop
-loop-holds c = (omega arith, same-wider (omega arith) (same_none 1_408 c.before.args.ws.now), below_none _)
+loop-holds : tie.Need-loop-r-init invariant-loop decreases-loop
+loop-holds c = (omega arith, same-wider (omega arith) (same_none 1_408 c.args.ws.now), below_none _)
 
 -- a row lies in the matrix
-room : (h : tie.At-loop invariant-loop decreases-loop) → h.loop.r < h.before.before.args.m
-    → (h.loop.r * h.before.before.args.n + h.before.before.args.n ≤ length h.before.before.args.coefs.now)
-    × (length h.before.before.args.coefs.now ≤ 15_360)
+room : (h : tie.At-loop-r invariant-loop decreases-loop) → h.loop-r.r < h.args.m
+    → (h.loop-r.r * h.args.n + h.args.n ≤ length h.args.coefs.now)
+    × (length h.args.coefs.now ≤ 15_360)
 room h k =
     let s = h.before.before in
-    row_room s.args.n s.args.m h.loop.r s.args.coefs.now s.requires.0 s.requires.1 s.requires.2 k
+    row_room s.args.n s.args.m h.loop-r.r s.args.coefs.now s.requires.0 s.requires.1 s.requires.2 k
 
 coefficients-requires : tie.Need-coefficients-requires invariant-loop decreases-loop
 coefficients-requires c κs = (room c.before (omega arith)).0
 
-mul-pack-row : tie.Need-overflow-mul-pack-row invariant-loop decreases-loop
+mul-pack-row : tie.Need-overflow_mul-r invariant-loop decreases-loop
 mul-pack-row c = omega (arith, room c.before.before (omega arith))
 
-add-pack-row : tie.Need-overflow-add-pack-row invariant-loop decreases-loop
+add-pack-row : tie.Need-overflow_add-r invariant-loop decreases-loop
 add-pack-row c = omega (arith, room c.before.before (omega arith))
 
-pack-row-requires : tie.Need-pack-row-requires invariant-loop decreases-loop
+pack-row-requires : tie.Need-pack_row-requires invariant-loop decreases-loop
 pack-row-requires c κs =
     let h = c.before.before.before in
     let s = h.before.before in
     let C = s.args.coefs.now in
     let n = s.args.n in
-    let r = h.loop.r in
+    let r = h.loop-r.r in
     let in_rows : r < s.args.m = omega arith in
-    rw c.before.coefficients.ensures (
+    rw c.coefficients.ensures (
       omega (arith, length-row n s.args.m r C s.requires.0 s.requires.1 s.requires.2 in_rows, s.requires.0),
       row-range n s.args.m r C s.requires.0 s.requires.1 s.requires.2 in_rows s.requires.3,
       omega (arith, length-row n s.args.m r C s.requires.0 s.requires.1 s.requires.2 in_rows, room h in_rows),
-      h.loop.invariant.1.len ∙ s.requires.4,
+      h.loop-r.invariant.1.len ∙ s.requires.4,
     )
 
-add_r : tie.Need-overflow-add-r invariant-loop decreases-loop
-add_r c = let h = c.before.before.before.before.before.before in omega (arith, h.before.before.requires.1)
+add_r : tie.Need-overflow_add-r-in-loop-r invariant-loop decreases-loop
+add_r c = let h = c.before.before.before.before.before.before in omega (arith, h.requires.1)
 
-loop-less : tie.Need-loop-smaller invariant-loop decreases-loop
+loop-less : tie.Need-loop-r-smaller invariant-loop decreases-loop
 loop-less c = omega arith
 
-loop-again : tie.Need-loop-preserved invariant-loop decreases-loop
+loop-again : tie.Need-loop-r-preserved invariant-loop decreases-loop
 unfolding row_words
 loop-again c =
     let h = c.before.before.before.before.before.before in
@@ -70,29 +70,29 @@ loop-again c =
     let C = s.args.coefs.now in
     let n = s.args.n in
     let m = s.args.m in
-    let r = h.loop.r in
+    let r = h.loop-r.r in
     let in_rows : r < m = omega arith in
-    let part = c.before.before.before.before.coefficients.ensures in
+    let part = c.coefficients.ensures in
     let long = length-row n m r C s.requires.0 s.requires.1 s.requires.2 in_rows in
-    let told = rw (part, long) at c.before.before.pack-row.ensures in
+    let told = rw (part, long) at c.pack_row.ensures in
     let fits : 1_408 + r * n + n ≤ length s.args.ws.now = omega (arith, room h in_rows, s.requires.4) in (
       omega arith,
-      rows_same n r C _ _ _ fits h.loop.invariant.1 told.1,
-      rows_more n r C _ _ _ fits h.loop.invariant.1 told.1 h.loop.invariant.2 told.0,
+      rows_same n r C _ _ _ fits h.loop-r.invariant.1 told.1,
+      rows_more n r C _ _ _ fits h.loop-r.invariant.1 told.1 h.loop-r.invariant.2 told.0,
     )
 
-same_length : tie.Need-same-length invariant-loop decreases-loop
-same_length c = c.before.loop.invariant.1.len
+same_length : tie.Need-shape_of-ws invariant-loop decreases-loop
+same_length c = c.loop-r.invariant.1.len
 
 returns : tie.Need-returns invariant-loop decreases-loop
 returns c =
     let h = c.before in
     let s = h.before.before in
-    let all : h.loop.r * s.args.n ≤ 120 * s.args.n = mul-le-mul_right s.args.n (omega (arith, s.requires.1)) in
-    ((λ r k. h.loop.invariant.2 r (omega arith)), same-wider (omega (arith, s.requires.0)) h.loop.invariant.1)
+    let all : h.loop-r.r * s.args.n ≤ 120 * s.args.n = mul-le-mul_right s.args.n (omega (arith, s.requires.1)) in
+    ((λ r k. h.loop-r.invariant.2 r (omega arith)), same-wider (omega (arith, s.requires.0)) h.loop-r.invariant.1)
 
-pub pack-rows-spec : {M : Type 1} → statement M
-pack-rows-spec =
+pub pack_rows_spec : {M : Type 1} → statement M
+pack_rows_spec =
     tie.close
     (tie.spec
     invariant-loop

@@ -14,26 +14,26 @@ use Rattle.packed_row.proofs.PackedLaws.{coef-in, coef-inside, coef-outside}
 use Rattle.packed_row.proofs.coef.Statement.{statement}
 use Rattle.packed_row.proofs.coef.Tie as tie
 
-returns : tie.Need-returns
-returns c = sym (coef-outside c.before.args.word c.if1.true)
+returns : tie.Need-returns-then-c-gt-RAISED_COEF
+returns c = sym (coef-outside c.args.word c.if-c-gt-RAISED_COEF.true)
 
-cast-result : tie.Need-overflow-cast-result
+cast-result : tie.Need-overflow_cast-result
 cast-result c = search rules
 
 -- in range
-module _ (c : tie.Else1) where
-  in-range : c.before.args.word / 128 ≤ 2_000_000
+module _ (c : tie.Else-c-gt-RAISED_COEF) where
+  in-range : c.args.word / 128 ≤ 2_000_000
   in-range = omega arith
 
-  read : to_z w32 (c.before.args.word / 128) ≡ pos (c.before.args.word / 128)
+  read : to_z w32 (c.args.word / 128) ≡ pos (c.args.word / 128)
   read = to_z_pos w32 (omega (arith, in-range))
 
-sub-result : tie.Need-overflow-sub-result
+sub-result : tie.Need-overflow_sub-result
 sub-result c =
-    fits_read (ap (λ (z : ℤ). z -ℤ pos 1_000_000) (read c) ∙ sym (coef-inside c.before.args.word (in-range c))) (within-fits w32 tt (within-coef (coef-in c.before.args.word)))
+    fits_read (ap (λ (z : ℤ). z -ℤ pos 1_000_000) (read c) ∙ sym (coef-inside c.args.word (in-range c))) (within-fits w32 tt (within-coef (coef-in c.args.word)))
 
-returns-2 : tie.Need-returns-2
-returns-2 c = to_z-of_z {w = w32} (sub-result c) ∙ ap (λ (z : ℤ). z -ℤ pos 1_000_000) (read c) ∙ sym (coef-inside c.before.args.word (in-range c))
+returns-2 : tie.Need-returns
+returns-2 c = to_z-of_z {w = w32} (sub-result c) ∙ ap (λ (z : ℤ). z -ℤ pos 1_000_000) (read c) ∙ sym (coef-inside c.args.word (in-range c))
 
-pub coef-spec : {M : Type 1} → statement M
-coef-spec = tie.close (tie.spec returns cast-result sub-result returns-2)
+pub coef_spec : {M : Type 1} → statement M
+coef_spec = tie.close (tie.spec returns cast-result sub-result returns-2)

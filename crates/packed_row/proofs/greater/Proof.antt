@@ -6,17 +6,17 @@ use Rattle.model.proofs.BitTests.{le-bits}
 use Rattle.packed_row.proofs.greater.Statement.{statement}
 use Rattle.packed_row.proofs.greater.Tie as tie
 
-returns : tie.Need-returns
+returns : tie.Need-returns-then-x-y
 unfolding max_z
 returns c =
-    let f = c.before.ranges in
-    rw (le-bits w64 f.x f.y c.if1.true) (to_z-of_z f.y)
+    let f = c.ranges in
+    rw (le-bits w64 f.x f.y c.if-x-y.true) (to_z-of_z f.y)
 
-returns-2 : tie.Need-returns-2
+returns-2 : tie.Need-returns-else-x-y
 unfolding max_z
 returns-2 c =
-    let f = c.before.ranges in
-    rw (le-bits w64 f.x f.y c.if1.false) (to_z-of_z f.x)
+    let f = c.ranges in
+    rw (le-bits w64 f.x f.y c.if-x-y.false) (to_z-of_z f.x)
 
-pub greater-spec : {M : Type 1} → statement M
-greater-spec = tie.close (tie.spec returns returns-2)
+pub greater_spec : {M : Type 1} → statement M
+greater_spec = tie.close (tie.spec returns returns-2)

@@ -21,17 +21,17 @@ product-fits s = within-fits w64 tt (within-mul s.requires.0 s.requires.1)
 
 ruleset decode = (to_z-of_z, wide, a-fits, x_fits, product-fits)
 
-cast-result : tie.Need-overflow-cast-result
+cast-result : tie.Need-overflow_cast-result
 cast-result c = simp decode (wide (a-fits c))
 
-cast-result-2 : tie.Need-overflow-cast-result-2
+cast-result-2 : tie.Need-overflow_cast-result-2
 cast-result-2 c = simp decode (wide (x_fits c))
 
-mul-result : tie.Need-overflow-mul-result
+mul-result : tie.Need-overflow_mul-result
 mul-result c = simp decode (product-fits c)
 
 returns : tie.Need-returns
 returns c = simp decode
 
-pub product-spec : {M : Type 1} → statement M
-product-spec = tie.close (tie.spec cast-result cast-result-2 mul-result returns)
+pub product_spec : {M : Type 1} → statement M
+product_spec = tie.close (tie.spec cast-result cast-result-2 mul-result returns)

@@ -14,26 +14,26 @@ use Rattle.packed_row.proofs.PackedLaws.{rhs-in, rhs-inside, rhs-outside}
 use Rattle.packed_row.proofs.right_side.Statement.{statement}
 use Rattle.packed_row.proofs.right_side.Tie as tie
 
-returns : tie.Need-returns
-returns c = sym (rhs-outside c.before.args.rhs-word c.if1.true)
+returns : tie.Need-returns-then-b-gt-RAISED_RHS
+returns c = sym (rhs-outside c.args.rhs_word c.if-b-gt-RAISED_RHS.true)
 
-cast-result : tie.Need-overflow-cast-result
+cast-result : tie.Need-overflow_cast-result
 cast-result c = search rules
 
 -- in range
-module _ (c : tie.Else1) where
-  in-range : c.before.args.rhs-word / 2 ≤ 2_000_000_000
+module _ (c : tie.Else-b-gt-RAISED_RHS) where
+  in-range : c.args.rhs_word / 2 ≤ 2_000_000_000
   in-range = omega arith
 
-  read : to_z w32 (c.before.args.rhs-word / 2) ≡ pos (c.before.args.rhs-word / 2)
+  read : to_z w32 (c.args.rhs_word / 2) ≡ pos (c.args.rhs_word / 2)
   read = to_z_pos w32 (omega (arith, in-range))
 
-sub-result : tie.Need-overflow-sub-result
+sub-result : tie.Need-overflow_sub-result
 sub-result c =
-    fits_read (ap (λ (z : ℤ). z -ℤ pos 1_000_000_000) (read c) ∙ sym (rhs-inside c.before.args.rhs-word (in-range c))) (within-fits w32 tt (rhs-within (rhs-in c.before.args.rhs-word)))
+    fits_read (ap (λ (z : ℤ). z -ℤ pos 1_000_000_000) (read c) ∙ sym (rhs-inside c.args.rhs_word (in-range c))) (within-fits w32 tt (rhs-within (rhs-in c.args.rhs_word)))
 
-returns-2 : tie.Need-returns-2
-returns-2 c = to_z-of_z {w = w32} (sub-result c) ∙ ap (λ (z : ℤ). z -ℤ pos 1_000_000_000) (read c) ∙ sym (rhs-inside c.before.args.rhs-word (in-range c))
+returns-2 : tie.Need-returns
+returns-2 c = to_z-of_z {w = w32} (sub-result c) ∙ ap (λ (z : ℤ). z -ℤ pos 1_000_000_000) (read c) ∙ sym (rhs-inside c.args.rhs_word (in-range c))
 
-pub right-side-spec : {M : Type 1} → statement M
-right-side-spec = tie.close (tie.spec returns cast-result sub-result returns-2)
+pub right_side_spec : {M : Type 1} → statement M
+right_side_spec = tie.close (tie.spec returns cast-result sub-result returns-2)

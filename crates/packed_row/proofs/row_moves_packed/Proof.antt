@@ -15,24 +15,24 @@ use Rattle.packed_row.proofs.PackedLaws.{readable_row}
 use Rattle.packed_row.proofs.row_moves_packed.Statement.{statement}
 use Rattle.packed_row.proofs.row_moves_packed.Tie as tie
 
-right-side-requires : tie.Need-right-side-requires
+right-side-requires : tie.Need-right_side-requires
 right-side-requires c κs = search rules
 
-rhs-is : (c : tie.After-right-side) → to_z w32 (of_z w32 c.right_side.result) ≡ rhs_of c.before.before.args.rhs-word
-rhs-is c = to_z-of_z {w = w32} (record { sfits = c.right_side.type-inv }) ∙ c.right_side.ensures
+rhs-is : (c : tie.After-right_side) → to_z w32 (of_z w32 c.right_side.result) ≡ rhs_of c.args.rhs_word
+rhs-is c = to_z-of_z {w = w32} (record { sfits = c.right_side.type_inv }) ∙ c.right_side.ensures
 
-forms-move-requires : tie.Need-forms-move-requires
+forms-move-requires : tie.Need-forms_move-requires
 forms-move-requires c κs =
     let s = c.before.before in
     let W = s.args.words.now in
-    subst⁻¹ (λ (z : ℤ). ValidRow (length W) (coefs_from W 0) z s.args.bounds.now) (rhs-is c) (readable_row W s.args.rhs-word s.requires)
+    subst⁻¹ (λ (z : ℤ). ValidRow (length W) (coefs_from W 0) z s.args.bounds.now) (rhs-is c) (readable_row W s.args.rhs_word s.requires)
 
 returns : tie.Need-returns
 unfolding row_of_words
 returns c =
     let s = c.before.before.before in
     let W = s.args.words.now in
-    c.forms-move.ensures ∙ ap (λ (z : ℤ). row_moves_of (length W) (row_with (coefs_from W 0) z (s.args.rhs-word % 2)) s.args.bounds.now) (rhs-is c.before)
+    c.forms_move.ensures ∙ ap (λ (z : ℤ). row_moves_of (length W) (row_with (coefs_from W 0) z (s.args.rhs_word % 2)) s.args.bounds.now) (rhs-is c.before)
 
-pub row-moves-packed-spec : {M : Type 1} → statement M
-row-moves-packed-spec = tie.close (tie.spec right-side-requires forms-move-requires returns)
+pub row_moves_packed_spec : {M : Type 1} → statement M
+row_moves_packed_spec = tie.close (tie.spec right-side-requires forms-move-requires returns)

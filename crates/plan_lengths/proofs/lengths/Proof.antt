@@ -10,36 +10,36 @@ use Rattle.plan_lengths.proofs.lengths.Tie as tie
 trailer-requires : tie.Need-trailer-requires
 trailer-requires c κs = search rules
 
-enum-known-number : tie.Need-enum-known-number
+enum-known-number : tie.Need-enum_known-number
 enum-known-number c = search rules
 
-enum-known-n : tie.Need-enum-known-n
+enum-known-n : tie.Need-enum_known-n
 enum-known-n c = search rules
 
-lengths-for-requires : tie.Need-lengths-for-requires
+lengths-for-requires : tie.Need-lengths_for-requires
 unfolding sizes_answer
 lengths-for-requires c κs =
-    let p = c.before.before.before in
-    sizes-few p.before.before.args.bytes.now c.before.n.given.0.0 c.before.n.given.0.1.0
-    (sym (ap sizes_answer c.before.n.given.1) ∙ p.trailer.ensures)
+    let p = c.before in
+    sizes-few p.before.before.args.bytes.now c.in-Sizes.n c.in-Sizes.m
+    (sym (ap sizes_answer c.in-Sizes.is) ∙ p.trailer.ensures)
 
-returns : tie.Need-returns
+returns : tie.Need-returns-in-Refused
 unfolding lengths_answer sizes_answer
 returns c =
-    let p = c.before.before.before in
-    lengths-refused p.before.before.args.bytes.now c.before.number.given.0.0
-    (sym (ap sizes_answer c.before.number.given.1) ∙ p.trailer.ensures)
+    let p = c.before in
+    lengths-refused p.before.before.args.bytes.now c.in-Refused.number
+    (sym (ap sizes_answer c.in-Refused.is) ∙ p.trailer.ensures)
 
-returns-2 : tie.Need-returns-2
+returns-2 : tie.Need-returns-in-Sizes
 unfolding lengths_answer sizes_answer
 returns-2 c =
-    let p = c.before.before.before.before in
-    ap lengths_are c.lengths-for.ensures
-    ∙ lengths-needed p.before.before.args.bytes.now c.before.before.n.given.0.0 c.before.before.n.given.0.1.0
-    (sym (ap sizes_answer c.before.before.n.given.1) ∙ p.trailer.ensures)
+    let p = c.before.before in
+    ap lengths_are c.lengths_for.ensures
+    ∙ lengths-needed p.before.before.args.bytes.now c.before.in-Sizes.n c.before.in-Sizes.m
+    (sym (ap sizes_answer c.before.in-Sizes.is) ∙ p.trailer.ensures)
 
-pub lengths-spec : {M : Type 1} → statement M
-lengths-spec =
+pub lengths_spec : {M : Type 1} → statement M
+lengths_spec =
     tie.close
     (tie.spec
     trailer-requires

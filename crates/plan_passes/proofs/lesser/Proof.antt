@@ -4,13 +4,13 @@ use Rattle.demands.specs.Passes.{lesser}
 use Rattle.plan_passes.proofs.lesser.Statement.{statement}
 use Rattle.plan_passes.proofs.lesser.Tie as tie
 
-returns : tie.Need-returns
+returns : tie.Need-returns-then-x-y
 unfolding lesser
-returns c = rw (le-leb c.before.args.x c.before.args.y c.if1.true)
+returns c = rw (le-leb c.args.x c.args.y c.if-x-y.true)
 
-returns-2 : tie.Need-returns-2
+returns-2 : tie.Need-returns-else-x-y
 unfolding lesser
-returns-2 c = rw (lt-leb c.before.args.x c.before.args.y c.if1.false)
+returns-2 c = rw (lt-leb c.args.x c.args.y c.if-x-y.false)
 
-pub lesser-spec : {M : Type 1} → statement M
-lesser-spec = tie.close (tie.spec returns returns-2)
+pub lesser_spec : {M : Type 1} → statement M
+lesser_spec = tie.close (tie.spec returns returns-2)

@@ -12,51 +12,51 @@ use borrow.Author.Rules.{rules}
 use Rattle.plan_passes.proofs.passes.Statement.{statement}
 use Rattle.plan_passes.proofs.passes.Tie as tie
 
-list-fits-requires : tie.Need-list-fits-requires
+list-fits-requires : tie.Need-list_fits-requires
 list-fits-requires c κs = search rules
 
-bounds-fault-requires : tie.Need-bounds-fault-requires
+bounds-fault-requires : tie.Need-bounds_fault-fault-requires
 bounds-fault-requires c κs = search rules
 
 -- the number is that of the checks with the list's length among them
-checked : (c : tie.After-bounds-fault) → let a = c.before.before.before.args in
-    c.bounds-fault.result ≡ first (bounds_checks a.n a.bounds.now (list_fits (length a.calls.now)))
-checked c = let a = c.before.before.before.args in
-    c.bounds-fault.ensures ∙ ap (λ (fits : Bool). first (bounds_checks a.n a.bounds.now fits)) c.before.list-fits.ensures
+checked : (c : tie.After-bounds_fault-fault) → let a = c.args in
+    c.bounds_fault-fault.result ≡ first (bounds_checks a.n a.bounds.now (list_fits (length a.calls.now)))
+checked c = let a = c.args in
+    c.bounds_fault-fault.ensures ∙ ap (λ (fits : Bool). first (bounds_checks a.n a.bounds.now fits)) c.list_fits.ensures
 
-returns : tie.Need-returns
+returns : tie.Need-returns-then-fault-ne0
 unfolding passes_answer passes_call
 returns c =
-    let a = c.before.before.before.before.args in
-    passes-promised a.n a.bounds.now a.calls.now _ (refused-by (checked c.before) c.if1.true _)
+    let a = c.args in
+    passes-promised a.n a.bounds.now a.calls.now _ (refused-by (checked c.before) c.if-fault-ne0.true _)
 
-passed : (c : tie.Else1) → let a = c.before.before.before.before.args in
+passed : (c : tie.Else-fault-ne0) → let a = c.args in
     first (bounds_checks a.n a.bounds.now (list_fits (length a.calls.now))) ≡ 0
-passed c = sym (checked c.before) ∙ c.if1.false
+passed c = sym (checked c.before) ∙ c.if-fault-ne0.false
 
-total-width-requires : tie.Need-total-width-requires
+total-width-requires : tie.Need-total_width-width-requires
 total-width-requires c κs =
-    let a = c.before.before.before.before.args in
+    let a = c.args in
     let v = bounds-passed a.n a.bounds.now (list_fits (length a.calls.now)) (passed c) in
     (v.0, v.1, v.2)
 
-add-t8 : tie.Need-overflow-add-t8
+add-t8 : tie.Need-overflow_add-result
 add-t8 c = search rules
 
-pass-limit-requires : tie.Need-pass-limit-requires
+pass-limit-requires : tie.Need-pass_limit-requires
 pass-limit-requires c κs =
-    let a = c.before.before.before.before.before.args in
+    let a = c.args in
     list-few (length a.calls.now) (bounds-passed a.n a.bounds.now (list_fits (length a.calls.now)) (passed c.before)).3
 
-returns-2 : tie.Need-returns-2
+returns-2 : tie.Need-returns
 unfolding passes_answer passes_call enough_budget
 returns-2 c =
-    let a = c.before.before.before.before.before.before.args in
+    let a = c.args in
     passes-promised a.n a.bounds.now a.calls.now _
-    (rw (c.pass-limit.ensures, c.before.total-width.ensures.0) (accepted-by (passed c.before.before) _))
+    (rw (c.pass_limit.ensures, c.total_width-width.ensures.0) (accepted-by (passed c.before.before) _))
 
-pub passes-spec : {M : Type 1} → statement M
-passes-spec =
+pub passes_spec : {M : Type 1} → statement M
+passes_spec =
     tie.close
     (tie.spec
     list-fits-requires

@@ -19,36 +19,36 @@ use Rattle.prepared_box.proofs.TakenLaws.{copied_none, copied-one}
 use Rattle.prepared_box.proofs.copy_same.Statement.{statement}
 use Rattle.prepared_box.proofs.copy_same.Tie as tie
 
-abbrev invariant-loop : tie.invariant-loop
+abbrev invariant-loop : tie.invariant-loop-i
 invariant-loop ws from to seen₀ new same₀ i₀ seen same i =
     (from ≤ i) × (i ≤ to) × Copied from i new seen₀ seen
     × (same ≡ true → (k : ℕ) → from ≤ k → k < i → bound_of (get_or ws (8 + k) 0) ≡ at new k)
 
-abbrev decreases-loop : tie.decreases-loop
+abbrev decreases-loop : tie.decreases-loop-i
 decreases-loop ws from to seen₀ new same₀ i₀ seen same i = to - i
 
-loop-holds : tie.Need-loop-init invariant-loop decreases-loop
-loop-holds c = (omega arith, c.before.requires.1, copied_none _, λ e k a b. absurd (let z : ⊥ = omega arith in z))
+loop-holds : tie.Need-loop-i-init invariant-loop decreases-loop
+loop-holds c = (omega arith, c.requires.1, copied_none _, λ e k a b. absurd (let z : ⊥ = omega arith in z))
 
-mul-bound : tie.Need-overflow-mul-bound invariant-loop decreases-loop
-mul-bound c = omega (arith, c.before.before.before.requires)
+mul-bound : tie.Need-offset_bounds-new-i invariant-loop decreases-loop
+mul-bound c = omega (arith, c.requires)
 
-shared-slice-copy-out-bound : tie.Need-shared-slice-copy-out-bound invariant-loop decreases-loop
-shared-slice-copy-out-bound c = omega (arith, c.before.before.before.requires)
+shared-slice-copy-out-bound : tie.Need-bounds-new-i invariant-loop decreases-loop
+shared-slice-copy-out-bound c = omega (arith, c.requires)
 
-mul-bound-2 : tie.Need-overflow-mul-bound-2 invariant-loop decreases-loop
-mul-bound-2 c = omega (arith, c.before.before.before.before.requires)
+mul-bound-2 : tie.Need-offset_bounds-seen-i invariant-loop decreases-loop
+mul-bound-2 c = omega (arith, c.requires)
 
-slice-set-from-bound : tie.Need-slice-set-from-bound invariant-loop decreases-loop
-slice-set-from-bound c = omega (arith, c.before.before.before.before.requires.3, c.before.before.loop.invariant.2.len)
+slice-set-from-bound : tie.Need-bounds-seen-i invariant-loop decreases-loop
+slice-set-from-bound c = omega (arith, c.requires.3, c.loop-i.invariant.2.len)
 
-kept-bound-requires : tie.Need-kept-bound-requires invariant-loop decreases-loop
-kept-bound-requires c κs = let p = c.before.before.before.before.requires in (p.0, omega (arith, p.2))
+kept-bound-requires : tie.Need-kept_bound-requires invariant-loop decreases-loop
+kept-bound-requires c κs = let p = c.requires in (p.0, omega (arith, p.2))
 
-add-i : tie.Need-overflow-add-i invariant-loop decreases-loop
-add-i c = omega (arith, c.before.before.before.before.before.requires)
+add-i : tie.Need-overflow_add-i invariant-loop decreases-loop
+add-i c = omega (arith, c.requires)
 
-loop-less : tie.Need-loop-smaller invariant-loop decreases-loop
+loop-less : tie.Need-loop-i-smaller invariant-loop decreases-loop
 loop-less c = omega arith
 
 -- the flag is still true after bits were compared
@@ -56,33 +56,33 @@ still : (f : Bool) (x y : ℕ) → (f && eqb x y) ≡ true → (f ≡ true) × (
 still true x y e = (refl, eqb→eq x y (true→T _ e))
 still false x y e = absurd (true≢false (sym e))
 
-loop-again : tie.Need-loop-preserved invariant-loop decreases-loop
+loop-again : tie.Need-loop-i-preserved invariant-loop decreases-loop
 loop-again c =
     let h = c.before.before.before in
-    let W = h.before.before.args.ws.now in
-    let new = h.before.before.args.new.now in
-    let i = h.loop.i in
-    let f : SFits w32 (at new i) = record { sfits = c.before.bound.given } in (
+    let W = h.args.ws.now in
+    let new = h.args.new.now in
+    let i = h.loop-i.i in
+    let f : SFits w32 (at new i) = record { sfits = c.bound-1.given } in (
       omega arith,
       omega arith,
-      copied-one h.loop.invariant.0 (omega (arith, h.before.before.requires.3)) (to_z-of_z f) h.loop.invariant.2,
+      copied-one h.loop-i.invariant.0 (omega (arith, h.requires.3)) (to_z-of_z f) h.loop-i.invariant.2,
       λ e k a b.
           let w = still _ _ _ e in
-          let now : bound_of (get_or W (8 + i) 0) ≡ at new i = sym c.kept-bound.ensures ∙ eq-read w32 (record { sfits = c.kept-bound.type-inv }) f w.1 in
-          below_more (λ (q : ℕ). h.before.before.args.from ≤ q → bound_of (get_or W (8 + q) 0) ≡ at new q) i (λ q l g. h.loop.invariant.3 w.0 q g l) (λ _. now) k b a,
+          let now : bound_of (get_or W (8 + i) 0) ≡ at new i = sym c.kept_bound.ensures ∙ eq-read w32 (record { sfits = c.kept_bound.type_inv }) f w.1 in
+          below_more (λ (q : ℕ). h.args.from ≤ q → bound_of (get_or W (8 + q) 0) ≡ at new q) i (λ q l g. h.loop-i.invariant.3 w.0 q g l) (λ _. now) k b a,
     )
 
-same_length : tie.Need-same-length invariant-loop decreases-loop
-same_length c = c.before.loop.invariant.2.len
+same_length : tie.Need-shape_of-seen invariant-loop decreases-loop
+same_length c = c.loop-i.invariant.2.len
 
 returns : tie.Need-returns invariant-loop decreases-loop
 returns c =
     let h = c.before in
-    let e : h.loop.i ≡ h.before.before.args.to = omega arith in
-    (rw e at h.loop.invariant.2, rw e at h.loop.invariant.3)
+    let e : h.loop-i.i ≡ h.args.to = omega arith in
+    (rw e at h.loop-i.invariant.2, rw e at h.loop-i.invariant.3)
 
-pub copy-same-spec : {M : Type 1} → statement M
-copy-same-spec =
+pub copy_same_spec : {M : Type 1} → statement M
+copy_same_spec =
     tie.close
     (tie.spec
     invariant-loop

@@ -14,14 +14,14 @@ use Rattle.prepared_checks.specs.Checks.{reasons_fit}
 use Rattle.prepared_checks.proofs.fits.Statement.{statement}
 use Rattle.prepared_checks.proofs.fits.Tie as tie
 
-is-ours-requires : tie.Need-is-ours-requires
+is-ours-requires : tie.Need-is_ours-requires
 is-ours-requires c κs = search rules
 
-returns : tie.Need-returns
-returns c = rw (told-false _ c.before.is_ours.ensures c.if1.true)
+returns : tie.Need-returns-then-not-is_ours
+returns c = rw (told-false _ c.is_ours.ensures c.if-not-is_ours.true-raw)
 
 -- the workspace is ours
-module _ (c : tie.Else1) where
+module _ (c : tie.Else-not-is_ours) where
   abbrev s : tie.Start
   s = c.before.before.before.before
 
@@ -29,15 +29,15 @@ module _ (c : tie.Else1) where
   len = 2 * variables_of s.args.ws.now
 
   ours : is_ours s.args.ws.now ≡ true
-  ours = told-true _ c.before.is_ours.ensures c.if1.false
+  ours = told-true _ c.is_ours.ensures c.if-not-is_ours.false-raw
 
-shared-slice-read-len : tie.Need-shared-slice-read-len
+shared-slice-read-len : tie.Need-bounds-ws-1
 shared-slice-read-len c = omega (arith, (ours-is (ours c.before)).len)
 
-cast-len : tie.Need-overflow-cast-len
+cast-len : tie.Need-overflow_cast-len
 cast-len c = omega (arith, (ours-is (ours c.before)).few)
 
-mul-len : tie.Need-overflow-mul-len
+mul-len : tie.Need-overflow_mul-len
 mul-len c = omega (arith, (ours-is (ours c.before)).few)
 
 no_length : (o l f : Bool) → o ≡ true → l ≡ false → false ≡ (o && (l && f))
@@ -46,16 +46,16 @@ no_length o l f a b = rw (a, b)
 all_fit : {r : Bool} (o l f : Bool) → o ≡ true → l ≡ true → r ≡ f → r ≡ (o && (l && f))
 all_fit o l f a b e = rw (a, b) e
 
-returns-2 : tie.Need-returns-2
+returns-2 : tie.Need-returns-then-bounds-len
 returns-2 c =
     let e = c.before.before in
     let a = (s e).args in
     no_length (is_ours a.ws.now) (eqb (length a.bounds.now) (len e)) (reasons_fit (variables_of a.ws.now) a.reasons.now)
-    (ours e) (test-false (eqb (length a.bounds.now) (len e)) (eqb-test (length a.bounds.now) (len e)) c.if2.true)
+    (ours e) (test-false (eqb (length a.bounds.now) (len e)) (eqb-test (length a.bounds.now) (len e)) c.if-bounds-len.true)
 
 -- the bounds fit
-module _ (c : tie.Else2) where
-  abbrev e : tie.Else1
+module _ (c : tie.Else-bounds-len) where
+  abbrev e : tie.Else-not-is_ours
   e = c.before.before
 
   abbrev R : List ℕ
@@ -66,7 +66,7 @@ module _ (c : tie.Else2) where
   bounds-fit =
       let B = (s e).args.bounds.now in
       all_fit (is_ours (s e).args.ws.now) (eqb (length B) (len e)) (reasons_fit (variables_of (s e).args.ws.now) R)
-      (ours e) (test-true (eqb (length B) (len e)) (eqb-test (length B) (len e)) c.if2.false)
+      (ours e) (test-true (eqb (length B) (len e)) (eqb-test (length B) (len e)) c.if-bounds-len.false)
 
 or_yes : (a b : Bool) → a ≡ true → true ≡ (a || b)
 or_yes a b h = rw h
@@ -74,20 +74,20 @@ or_yes a b h = rw h
 or_no : (a b : Bool) → a ≡ false → b ≡ (a || b)
 or_no a b h = rw h
 
-returns-3 : tie.Need-returns-3
+returns-3 : tie.Need-returns-then-reasons-eq0
 unfolding reasons_fit
 returns-3 c =
     let d = c.before in
-    bounds-fit d (or_yes (eqb (length (R d)) 0) (eqb (length (R d)) (len (e d))) (test-true (eqb (length (R d)) 0) (eqb-test (length (R d)) 0) c.if3.true))
+    bounds-fit d (or_yes (eqb (length (R d)) 0) (eqb (length (R d)) (len (e d))) (test-true (eqb (length (R d)) 0) (eqb-test (length (R d)) 0) c.if-reasons-eq0.true))
 
-returns-4 : tie.Need-returns-4
+returns-4 : tie.Need-returns
 unfolding reasons_fit
 returns-4 c =
     let d = c.before in
-    bounds-fit d (or_no (eqb (length (R d)) 0) (eqb (length (R d)) (len (e d))) (test-false (eqb (length (R d)) 0) (eqb-test (length (R d)) 0) c.if3.false))
+    bounds-fit d (or_no (eqb (length (R d)) 0) (eqb (length (R d)) (len (e d))) (test-false (eqb (length (R d)) 0) (eqb-test (length (R d)) 0) c.if-reasons-eq0.false))
 
-pub fits-spec : {M : Type 1} → statement M
-fits-spec =
+pub fits_spec : {M : Type 1} → statement M
+fits_spec =
     tie.close
     (tie.spec
     is-ours-requires

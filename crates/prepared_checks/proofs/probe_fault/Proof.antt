@@ -22,15 +22,15 @@ use Rattle.prepared_checks.proofs.ProbeCheckLaws.{box-valid}
 use Rattle.prepared_checks.proofs.probe_fault.Statement.{statement}
 use Rattle.prepared_checks.proofs.probe_fault.Tie as tie
 
-is-ours-requires : tie.Need-is-ours-requires
+is-ours-requires : tie.Need-is_ours-requires
 is-ours-requires c κs = search rules
 
-returns : tie.Need-returns
+returns : tie.Need-returns-then-not-is_ours
 unfolding probe_fault prepared_probe_checks lent_checks
-returns c = fails _ 5 _ (told-false _ c.before.is_ours.ensures c.if1.true)
+returns c = fails _ 5 _ (told-false _ c.is_ours.ensures c.if-not-is_ours.true-raw)
 
 -- the workspace is ours
-module _ (c : tie.Else1) where
+module _ (c : tie.Else-not-is_ours) where
   abbrev start : tie.Start
   start = c.before.before.before.before.before
 
@@ -49,69 +49,69 @@ module _ (c : tie.Else1) where
   abbrev n : ℕ
   n = variables_of W
 
-  is_ours : is_ours W ≡ true
-  is_ours = told-true _ c.before.is_ours.ensures c.if1.false
+  is_ours_lem : is_ours W ≡ true
+  is_ours_lem = told-true _ c.is_ours.ensures c.if-not-is_ours.false-raw
 
   ours : Ours W
-  ours = ours-is is_ours
+  ours = ours-is is_ours_lem
 
   square : n * n ≤ 16_384
   square = let a = mul-le-mul_right n ours.few in omega (arith, ours.few)
 
-shared-slice-read-n : tie.Need-shared-slice-read-n
+shared-slice-read-n : tie.Need-bounds-ws-1
 shared-slice-read-n c = omega (arith, (ours c.before).len)
 
-cast-n : tie.Need-overflow-cast-n
+cast-n : tie.Need-overflow_cast-n
 cast-n c = omega (arith, (ours c.before).few)
 
-mul-if2 : tie.Need-overflow-mul-if2
+mul-if2 : tie.Need-overflow_mul-n
 mul-if2 c = omega (arith, (ours c.before).few)
 
-returns-2 : tie.Need-returns-2
+returns-2 : tie.Need-returns-then-bounds-n
 unfolding probe_fault prepared_probe_checks lent_checks
 returns-2 c =
     let e = c.before.before in
-    past _ 5 _ (is_ours e) (fails (eqb (length (B e)) (2 * n e)) 5 _ (test-false _ (eqb-test (length (B e)) (2 * n e)) c.if2.true))
+    past _ 5 _ (is_ours_lem e) (fails (eqb (length (B e)) (2 * n e)) 5 _ (test-false _ (eqb-test (length (B e)) (2 * n e)) c.if-bounds-n.true))
 
-mul-if3 : tie.Need-overflow-mul-if3
+mul-if3 : tie.Need-overflow_mul-n-2
 mul-if3 c = omega (arith, square c.before.before)
 
-mul-if3-2 : tie.Need-overflow-mul-if3-2
+mul-if3-2 : tie.Need-overflow_mul-n-3
 mul-if3-2 c = omega (arith, square c.before.before)
 
 -- it is lent 2n bounds
-fits-box : (c : tie.Else2) → let e = c.before.before in eqb (length (B e)) (2 * n e) ≡ true
-fits-box c = let e = c.before.before in test-true _ (eqb-test (length (B e)) (2 * n e)) c.if2.false
+fits-box : (c : tie.Else-bounds-n) → let e = c.before.before in eqb (length (B e)) (2 * n e) ≡ true
+fits-box c = let e = c.before.before in test-true _ (eqb-test (length (B e)) (2 * n e)) c.if-bounds-n.false
 
-returns-3 : tie.Need-returns-3
+returns-3 : tie.Need-returns-then-table-n
 unfolding probe_fault prepared_probe_checks lent_checks
 returns-3 c =
     let d = c.before in
     let e = d.before.before in
-    past _ 5 _ (is_ours e) (past (eqb (length (B e)) (2 * n e)) 5 _ (fits-box d)
-    (fails (eqb (length (t e)) (4 * (n e * n e))) 5 _ (test-false _ (eqb-test (length (t e)) (4 * (n e * n e))) c.if3.true)))
+    past _ 5 _ (is_ours_lem e) (past (eqb (length (B e)) (2 * n e)) 5 _ (fits-box d)
+    (fails (eqb (length (t e)) (4 * (n e * n e))) 5 _ (test-false _ (eqb-test (length (t e)) (4 * (n e * n e))) c.if-table-n.true)))
 
 -- and 4n² bytes
-fits-table : (c : tie.Else3) → let e = c.before.before.before in eqb (length (t e)) (4 * (n e * n e)) ≡ true
-fits-table c = let e = c.before.before.before in test-true _ (eqb-test (length (t e)) (4 * (n e * n e))) c.if3.false
+fits-table : (c : tie.Else-table-n) → let e = c.before.before.before in eqb (length (t e)) (4 * (n e * n e)) ≡ true
+fits-table c = let e = c.before.before.before in test-true _ (eqb-test (length (t e)) (4 * (n e * n e))) c.if-table-n.false
 
-sides-fit-requires : tie.Need-sides-fit-requires
+sides-fit-requires : tie.Need-sides_fit-requires
 sides-fit-requires c κs = let e = c.before.before.before in (ours e).few
 
-returns-4 : tie.Need-returns-4
+returns-4 : tie.Need-returns-then-not-sides_fit
 unfolding probe_fault prepared_probe_checks lent_checks
 returns-4 c =
     let d = c.before.before in
     let e = d.before.before.before in
-    past _ 5 _ (is_ours e) (past (eqb (length (B e)) (2 * n e)) 5 _ (fits-box d.before) (past (eqb (length (t e)) (4 * (n e * n e))) 5 _ (fits-table d)
-    (fails (sides_fit (n e) (R e)) 5 _ (told-false _ c.before.sides-fit.ensures c.if4.true))))
+    past _ 5 _ (is_ours_lem e) (past (eqb (length (B e)) (2 * n e)) 5 _ (fits-box d.before) (past (eqb (length (t e)) (4 * (n e * n e))) 5 _ (fits-table d)
+    (fails (sides_fit (n e) (R e)) 5 _ (told-false _ c.sides_fit.ensures c.if-not-sides_fit.true-raw))))
 
 -- and 0 or 4n reasons: the checks of lengths are passed
-module _ (c : tie.Else4) where
-  abbrev else3 : tie.Else3
+module _ (c : tie.Else-not-sides_fit) where
+  abbrev else3 : tie.Else-table-n
   else3 = c.before.before
 
-  abbrev else1 : tie.Else1
+  abbrev else1 : tie.Else-not-is_ours
   else1 = else3.before.before.before
 
   passed : {r : ℕ} → let s = (start else1).args in
@@ -119,42 +119,42 @@ module _ (c : tie.Else4) where
       → r ≡ probe_fault (W else1) (B else1) (t else1) (R else1) s.variable s.budget
   unfolding probe_fault prepared_probe_checks lent_checks
   passed h =
-      past _ 5 _ (is_ours else1) (past (eqb (length (B else1)) (2 * n else1)) 5 _ (fits-box else3.before)
+      past _ 5 _ (is_ours_lem else1) (past (eqb (length (B else1)) (2 * n else1)) 5 _ (fits-box else3.before)
       (past (eqb (length (t else1)) (4 * (n else1 * n else1))) 5 _ (fits-table else3)
-      (past (sides_fit (n else1) (R else1)) 5 _ (told-true _ c.before.sides-fit.ensures c.if4.false) h)))
+      (past (sides_fit (n else1) (R else1)) 5 _ (told-true _ c.sides_fit.ensures c.if-not-sides_fit.false-raw) h)))
 
-box-fault-requires : tie.Need-box-fault-requires
+box-fault-requires : tie.Need-box_fault-fault-requires
 box-fault-requires c κs = search rules
 
-returns-5 : tie.Need-returns-5
+returns-5 : tie.Need-returns-then-fault-ne0
 returns-5 c =
     let f = c.before in
     let d = f.before in
     let e = else1 d in
     passed d (stops (box_checks (n e) (B e) ++ table_byte_checks (table (t e))) _
-    (stops (box_checks (n e) (B e)) (table_byte_checks (table (t e))) f.box-fault.ensures c.if5.true) c.if5.true)
+    (stops (box_checks (n e) (B e)) (table_byte_checks (table (t e))) f.box_fault-fault.ensures c.if-fault-ne0.true) c.if-fault-ne0.true)
 
-is-bits-requires : tie.Need-is-bits-requires
+is-bits-requires : tie.Need-is_bits-requires
 is-bits-requires c κs = search rules
 
-returns-6 : tie.Need-returns-6
+returns-6 : tie.Need-returns-then-not-is_bits
 unfolding box_checks table_byte_checks
 returns-6 c =
     let g = c.before.before in
     let d = g.before.before in
     let e = else1 d in
     passed d (stops (box_checks (n e) (B e) ++ table_byte_checks (table (t e))) _
-    (goes (box_checks (n e) (B e)) (table_byte_checks (table (t e))) tt g.before.box-fault.ensures g.if5.false
-    (fails (bits (t e)) 10 [] (told-false _ c.before.is-bits.ensures c.if6.true))) (λ z. let y : ⊥ = omega arith in y))
+    (goes (box_checks (n e) (B e)) (table_byte_checks (table (t e))) tt g.box_fault-fault.ensures g.if-fault-ne0.false
+    (fails (bits (t e)) 10 [] (told-false _ c.is_bits.ensures c.if-not-is_bits.true-raw))) (λ z. let y : ⊥ = omega arith in y))
 
-probe-fields-fault-requires : tie.Need-probe-fields-fault-requires
+probe-fields-fault-requires : tie.Need-probe_fields_fault-requires
 probe-fields-fault-requires c κs =
     let g = c.before.before in
     let d = g.before.before in
     let e = else1 d in
-    (box-valid (n e) (B e) (else3 d).before.if2.false (sym g.before.box-fault.ensures ∙ g.if5.false), (ours e).some)
+    (box-valid (n e) (B e) (else3 d).if-bounds-n.false (sym g.box_fault-fault.ensures ∙ g.if-fault-ne0.false), (ours e).some)
 
-returns-7 : tie.Need-returns-7
+returns-7 : tie.Need-returns
 unfolding box_checks table_byte_checks
 returns-7 c =
     let h = c.before in
@@ -162,11 +162,11 @@ returns-7 c =
     let d = g.before.before in
     let e = else1 d in
     passed d (goes (box_checks (n e) (B e) ++ table_byte_checks (table (t e))) _ tt
-    (goes (box_checks (n e) (B e)) (table_byte_checks (table (t e))) tt g.before.box-fault.ensures g.if5.false
-    (past (bits (t e)) 10 [] (told-true _ h.before.is-bits.ensures h.if6.false) ends)) refl c.probe-fields-fault.ensures)
+    (goes (box_checks (n e) (B e)) (table_byte_checks (table (t e))) tt g.box_fault-fault.ensures g.if-fault-ne0.false
+    (past (bits (t e)) 10 [] (told-true _ h.is_bits.ensures h.if-not-is_bits.false-raw) ends)) refl c.probe_fields_fault.ensures)
 
-pub probe-fault-spec : {M : Type 1} → statement M
-probe-fault-spec =
+pub probe_fault_spec : {M : Type 1} → statement M
+probe_fault_spec =
     tie.close
     (tie.spec
     is-ours-requires

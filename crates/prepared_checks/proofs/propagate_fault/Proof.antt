@@ -18,12 +18,12 @@ use Rattle.prepared_checks.proofs.propagate_fault.Tie as tie
 fits-requires : tie.Need-fits-requires
 fits-requires c κs = search rules
 
-returns : tie.Need-returns
+returns : tie.Need-returns-then-not-fits
 unfolding propagate_fault propagate_checks
-returns c = fails _ 5 _ (told-false _ c.before.fits2.ensures c.if1.true)
+returns c = fails _ 5 _ (told-false _ c.before.fits.ensures c.if-not-fits.true-raw)
 
 -- all that is lent fits
-module _ (c : tie.Else1) where
+module _ (c : tie.Else-not-fits) where
   abbrev s : tie.Start
   s = c.before.before.before.before
 
@@ -34,37 +34,37 @@ module _ (c : tie.Else1) where
   B = s.args.bounds.now
 
   ours : Ours s.args.ws.now
-  ours = fits-ours s.args.ws.now B s.args.reasons.now (told-true _ c.before.fits2.ensures c.if1.false)
+  ours = fits-ours s.args.ws.now B s.args.reasons.now (told-true _ c.before.fits.ensures c.if-not-fits.false-raw)
 
-shared-slice-read-box-fault : tie.Need-shared-slice-read-box-fault
+shared-slice-read-box-fault : tie.Need-bounds-ws-1
 shared-slice-read-box-fault c = omega (arith, (ours c.before).len)
 
-cast-box-fault : tie.Need-overflow-cast-box-fault
+cast-box-fault : tie.Need-overflow_cast-ws
 cast-box-fault c = omega (arith, (ours c.before).few)
 
-box-fault-requires : tie.Need-box-fault-requires
+box-fault-requires : tie.Need-box_fault-fault-requires
 box-fault-requires c κs = search rules
 
-returns-2 : tie.Need-returns-2
+returns-2 : tie.Need-returns-then-fault-ne0
 unfolding propagate_fault propagate_checks
 returns-2 c =
     let e = c.before.before.before in
-    past _ 5 _ (told-true _ e.before.fits2.ensures e.if1.false)
-    (stops (box_checks (n e) (B e)) (budget_checks (s e).args.budget) c.before.box-fault.ensures c.if2.true)
+    past _ 5 _ (told-true _ e.before.fits.ensures e.if-not-fits.false-raw)
+    (stops (box_checks (n e) (B e)) (budget_checks (s e).args.budget) c.box_fault-fault.ensures c.if-fault-ne0.true)
 
-budget-fault-requires : tie.Need-budget-fault-requires
+budget-fault-requires : tie.Need-budget_fault-requires
 budget-fault-requires c κs = search rules
 
-returns-3 : tie.Need-returns-3
+returns-3 : tie.Need-returns
 unfolding propagate_fault propagate_checks box_checks
 returns-3 c =
     let d = c.before in
     let e = d.before.before.before in
-    past _ 5 _ (told-true _ e.before.fits2.ensures e.if1.false)
-    (goes (box_checks (n e) (B e)) (budget_checks (s e).args.budget) tt d.before.box-fault.ensures d.if2.false c.budget-fault.ensures)
+    past _ 5 _ (told-true _ e.before.fits.ensures e.if-not-fits.false-raw)
+    (goes (box_checks (n e) (B e)) (budget_checks (s e).args.budget) tt d.box_fault-fault.ensures d.if-fault-ne0.false c.budget_fault.ensures)
 
-pub propagate-fault-spec : {M : Type 1} → statement M
-propagate-fault-spec =
+pub propagate_fault_spec : {M : Type 1} → statement M
+propagate_fault_spec =
     tie.close
     (tie.spec
     fits-requires

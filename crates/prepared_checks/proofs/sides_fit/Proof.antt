@@ -8,16 +8,16 @@ use Rattle.prepared_checks.specs.Checks.{sides_fit}
 use Rattle.prepared_checks.proofs.sides_fit.Statement.{statement}
 use Rattle.prepared_checks.proofs.sides_fit.Tie as tie
 
-returns : tie.Need-returns
+returns : tie.Need-returns-then-reasons-eq0
 unfolding sides_fit
-returns c = let R = c.before.args.reasons.now in rw (test-true (eqb (length R) 0) (eqb-test (length R) 0) c.if1.true) refl
+returns c = let R = c.args.reasons.now in rw (test-true (eqb (length R) 0) (eqb-test (length R) 0) c.if-reasons-eq0.true) refl
 
-mul-result : tie.Need-overflow-mul-result
+mul-result : tie.Need-overflow_mul-result
 mul-result c = search rules
 
-returns-2 : tie.Need-returns-2
+returns-2 : tie.Need-returns
 unfolding sides_fit
-returns-2 c = let R = c.before.args.reasons.now in rw (test-false (eqb (length R) 0) (eqb-test (length R) 0) c.if1.false) refl
+returns-2 c = let R = c.args.reasons.now in rw (test-false (eqb (length R) 0) (eqb-test (length R) 0) c.if-reasons-eq0.false) refl
 
-pub sides-fit-spec : {M : Type 1} → statement M
-sides-fit-spec = tie.close (tie.spec returns mul-result returns-2)
+pub sides_fit_spec : {M : Type 1} → statement M
+sides_fit_spec = tie.close (tie.spec returns mul-result returns-2)

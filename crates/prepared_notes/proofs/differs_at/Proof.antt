@@ -8,64 +8,64 @@ use Rattle.integer.proofs.Reading.{eq-read}
 use Rattle.prepared_notes.proofs.differs_at.Statement.{statement}
 use Rattle.prepared_notes.proofs.differs_at.Tie as tie
 
-mul-if1 : tie.Need-overflow-mul-if1
+mul-if1 : tie.Need-overflow_mul-j
 mul-if1 c = search rules
 
-mul-if1-2 : tie.Need-overflow-mul-if1-2
+mul-if1-2 : tie.Need-offset_bounds-old-j
 mul-if1-2 c = search rules
 
-shared-slice-copy-out-if1 : tie.Need-shared-slice-copy-out-if1
+shared-slice-copy-out-if1 : tie.Need-bounds-old-j
 shared-slice-copy-out-if1 c = search rules
 
-mul-if1-3 : tie.Need-overflow-mul-if1-3
+mul-if1-3 : tie.Need-overflow_mul-j-2
 mul-if1-3 c = search rules
 
-mul-if1-4 : tie.Need-overflow-mul-if1-4
+mul-if1-4 : tie.Need-offset_bounds-new-j
 mul-if1-4 c = search rules
 
-shared-slice-copy-out-if1-2 : tie.Need-shared-slice-copy-out-if1-2
+shared-slice-copy-out-if1-2 : tie.Need-bounds-new-j
 shared-slice-copy-out-if1-2 c = search rules
 
-returns : tie.Need-returns
+returns : tie.Need-returns-then-old-j
 returns c = λ e. absurd (true≢false e)
 
-mul-if2 : tie.Need-overflow-mul-if2
+mul-if2 : tie.Need-overflow_mul-j-3
 mul-if2 c = search rules
 
-add-if2 : tie.Need-overflow-add-if2
+add-if2 : tie.Need-overflow_add-j
 add-if2 c = search rules
 
-mul-if2-2 : tie.Need-overflow-mul-if2-2
+mul-if2-2 : tie.Need-offset_bounds-old-j-2
 mul-if2-2 c = search rules
 
-shared-slice-copy-out-if2 : tie.Need-shared-slice-copy-out-if2
+shared-slice-copy-out-if2 : tie.Need-bounds-old-j-2
 shared-slice-copy-out-if2 c = search rules
 
-mul-if2-3 : tie.Need-overflow-mul-if2-3
+mul-if2-3 : tie.Need-overflow_mul-j-4
 mul-if2-3 c = search rules
 
-add-if2-2 : tie.Need-overflow-add-if2-2
+add-if2-2 : tie.Need-overflow_add-j-2
 add-if2-2 c = search rules
 
-mul-if2-4 : tie.Need-overflow-mul-if2-4
+mul-if2-4 : tie.Need-offset_bounds-new-j-2
 mul-if2-4 c = search rules
 
-shared-slice-copy-out-if2-2 : tie.Need-shared-slice-copy-out-if2-2
+shared-slice-copy-out-if2-2 : tie.Need-bounds-new-j-2
 shared-slice-copy-out-if2-2 c = search rules
 
-returns-2 : tie.Need-returns-2
+returns-2 : tie.Need-returns-then-old-j-2
 returns-2 c = λ e. absurd (true≢false e)
 
-returns-3 : tie.Need-returns-3
+returns-3 : tie.Need-returns
 returns-3 c =
     let first = c.before.before.before in
     λ _. (
-      sym (eq-read w32 (record { sfits = first.before.before.if12.given }) (record { sfits = first.before.if13.given }) first.if1.false),
-      sym (eq-read w32 (record { sfits = c.before.before.if22.given }) (record { sfits = c.before.if23.given }) c.if2.false),
+      sym (eq-read w32 (record { sfits = first.t7-1.given }) (record { sfits = first.t11-1.given }) first.if-old-j.false),
+      sym (eq-read w32 (record { sfits = c.t11-2-1.given }) (record { sfits = c.t7-2-1.given }) c.if-old-j-2.false),
     )
 
-pub differs-at-spec : {M : Type 1} → statement M
-differs-at-spec =
+pub differs_at_spec : {M : Type 1} → statement M
+differs_at_spec =
     tie.close
     (tie.spec
     mul-if1

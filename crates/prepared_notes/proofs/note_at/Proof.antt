@@ -12,112 +12,112 @@ use Rattle.prepared_notes.proofs.HeardLaws.{deaf-read}
 use Rattle.prepared_notes.proofs.note_at.Statement.{statement}
 use Rattle.prepared_notes.proofs.note_at.Tie as tie
 
-mul_low : tie.Need-overflow-mul-low
+mul_low : tie.Need-overflow_mul-low
 mul_low c = search rules
 
-mul-low-2 : tie.Need-overflow-mul-low-2
+mul-low-2 : tie.Need-offset_bounds-new-j
 mul-low-2 c = search rules
 
-shared-slice-copy-out-low : tie.Need-shared-slice-copy-out-low
+shared-slice-copy-out-low : tie.Need-bounds-new-j
 shared-slice-copy-out-low c = search rules
 
-mul-high : tie.Need-overflow-mul-high
+mul-high : tie.Need-overflow_mul-high
 mul-high c = search rules
 
-add-high : tie.Need-overflow-add-high
+add-high : tie.Need-overflow_add-high
 add-high c = search rules
 
-mul-high-2 : tie.Need-overflow-mul-high-2
+mul-high-2 : tie.Need-offset_bounds-new-j-2
 mul-high-2 c = search rules
 
-shared-slice-copy-out-high : tie.Need-shared-slice-copy-out-high
+shared-slice-copy-out-high : tie.Need-bounds-new-j-2
 shared-slice-copy-out-high c = search rules
 
-mul-old-low : tie.Need-overflow-mul-old-low
+mul-old-low : tie.Need-overflow_mul-old_low
 mul-old-low c = search rules
 
-mul-old-low-2 : tie.Need-overflow-mul-old-low-2
+mul-old-low-2 : tie.Need-offset_bounds-old-j
 mul-old-low-2 c = search rules
 
-slice-copy-out-old-low : tie.Need-slice-copy-out-old-low
+slice-copy-out-old-low : tie.Need-slice_copy_out-old_low
 slice-copy-out-old-low c = search rules
 
-mul-old-high : tie.Need-overflow-mul-old-high
+mul-old-high : tie.Need-overflow_mul-old_high
 mul-old-high c = search rules
 
-add-old-high : tie.Need-overflow-add-old-high
+add-old-high : tie.Need-overflow_add-old_high
 add-old-high c = search rules
 
-mul-old-high-2 : tie.Need-overflow-mul-old-high-2
+mul-old-high-2 : tie.Need-offset_bounds-old-j-2
 mul-old-high-2 c = search rules
 
-slice-copy-out-old-high : tie.Need-slice-copy-out-old-high
+slice-copy-out-old-high : tie.Need-slice_copy_out-old_high
 slice-copy-out-old-high c = search rules
 
-note-bound-requires : tie.Need-note-bound-requires
+note-bound-requires : tie.Need-note_bound-requires
 note-bound-requires c κs = search rules
 
-note-bound-requires-2 : tie.Need-note-bound-requires-2
+note-bound-requires-2 : tie.Need-note_bound-requires-2
 note-bound-requires-2 c κs = search rules
 
-mul-low-3 : tie.Need-overflow-mul-low-3
+mul-low-3 : tie.Need-overflow_mul-low-2
 mul-low-3 c = search rules
 
-mul-low-4 : tie.Need-overflow-mul-low-4
+mul-low-4 : tie.Need-offset_bounds-old-j-3
 mul-low-4 c = search rules
 
-slice-set-from-low : tie.Need-slice-set-from-low
+slice-set-from-low : tie.Need-bounds-old-j
 slice-set-from-low c = search rules
 
-mul-high-3 : tie.Need-overflow-mul-high-3
+mul-high-3 : tie.Need-overflow_mul-high-2
 mul-high-3 c = search rules
 
-add-high-2 : tie.Need-overflow-add-high-2
+add-high-2 : tie.Need-overflow_add-high-2
 add-high-2 c = search rules
 
-mul-high-4 : tie.Need-overflow-mul-high-4
+mul-high-4 : tie.Need-offset_bounds-old-j-4
 mul-high-4 c = search rules
 
-slice-set-from-high : tie.Need-slice-set-from-high
+slice-set-from-high : tie.Need-bounds-old-j-2
 slice-set-from-high c = search rules
 
-same_length : tie.Need-same-length
+same_length : tie.Need-shape_of-old
 same_length c = search rules
 
-same-length-2 : tie.Need-same-length-2
+same-length-2 : tie.Need-shape_of-dirty
 same-length-2 c = search rules
 
-module _ (c : tie.After-slice-known3) where
-  abbrev first : tie.After-note-bound
+module _ (c : tie.After-slice_known-3-1) where
+  abbrev first : tie.After-note_bound
   first = c.before.before.before.before.before.before
 
   abbrev s : tie.Start
   s = first.before.before.before.before.before.before.before.before
 
   low-is : to_z w32 (of_z w32 (lower s.args.new.now s.args.j)) ≡ lower s.args.new.now s.args.j
-  low-is = to_z-of_z {w = w32} (record { sfits = first.before.before.before.before.before.low.given })
+  low-is = to_z-of_z {w = w32} (record { sfits = first.low-1.given })
 
   high_is : to_z w32 (of_z w32 (upper s.args.new.now s.args.j)) ≡ upper s.args.new.now s.args.j
-  high_is = to_z-of_z {w = w32} (record { sfits = first.before.before.before.before.high.given })
+  high_is = to_z-of_z {w = w32} (record { sfits = first.high-1.given })
 
   old-low-is : to_z w32 (of_z w32 (lower s.args.old.now s.args.j)) ≡ lower s.args.old.now s.args.j
-  old-low-is = to_z-of_z {w = w32} (record { sfits = first.before.before.before.old-low.given })
+  old-low-is = to_z-of_z {w = w32} (record { sfits = first.old_low-1.given })
 
   old-high-is : to_z w32 (of_z w32 (upper s.args.old.now s.args.j)) ≡ upper s.args.old.now s.args.j
-  old-high-is = to_z-of_z {w = w32} (record { sfits = first.before.before.old-high.given })
+  old-high-is = to_z-of_z {w = w32} (record { sfits = first.old_high-1.given })
 
 returns : tie.Need-returns
 unfolding with_bounds
 returns c = (
   ap₂ (λ (l u : ℤ). set (set (s c).args.old.now (2 * (s c).args.j) l) (2 * (s c).args.j + 1) u) (low-is c) (high_is c),
   λ r h e.
-      let two = c.before.before.note-bound2.ensures r h e in
-      let one = (first c).note-bound.ensures r h two.0 in
+      let two = c.note_bound-2.ensures r h e in
+      let one = (first c).note_bound.ensures r h two.0 in
       (one.0, record { low = deaf-read (old-low-is c) (low-is c) one.1; high = deaf-read (old-high-is c) (high_is c) two.1 }),
 )
 
-pub note-at-spec : {M : Type 1} → statement M
-note-at-spec =
+pub note_at_spec : {M : Type 1} → statement M
+note_at_spec =
     tie.close
     (tie.spec
     mul_low

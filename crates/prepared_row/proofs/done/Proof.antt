@@ -6,14 +6,14 @@ use Rattle.prepared_row.proofs.done.Tie as tie
 remove-requires : tie.Need-remove-requires
 remove-requires c κs = search rules
 
-same_length : tie.Need-same-length
+same_length : tie.Need-shape_of-dirty
 same_length c = search rules
 
-returns : tie.Need-returns
-returns c = (c.before.before.remove.ensures, λ e. absurd (c.before.before.before.before.if1.true e))
+returns : tie.Need-returns-then-rhs_word-ne1
+returns c = (c.remove.ensures, λ e. absurd (c.if-rhs_word-ne1.true e))
 
-returns-2 : tie.Need-returns-2
+returns-2 : tie.Need-returns-else-rhs_word-ne1
 returns-2 c = search rules
 
-pub done-spec : {M : Type 1} → statement M
-done-spec = tie.close (tie.spec remove-requires same_length returns returns-2)
+pub done_spec : {M : Type 1} → statement M
+done_spec = tie.close (tie.spec remove-requires same_length returns returns-2)

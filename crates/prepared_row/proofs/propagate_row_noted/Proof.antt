@@ -17,11 +17,11 @@ use Rattle.prepared_row.proofs.CalmLaws.{calm-broken, calm-moved, calm-unmoved, 
 use Rattle.prepared_row.proofs.propagate_row_noted.Statement.{statement}
 use Rattle.prepared_row.proofs.propagate_row_noted.Tie as tie
 
-propagate-row-packed-requires : tie.Need-propagate-row-packed-requires
-propagate-row-packed-requires c κs = c.before.before.before.before.before.requires.0.words
+propagate-row-packed-requires : tie.Need-propagate_row_packed-requires
+propagate-row-packed-requires c κs = c.requires.0.words
 
 -- what the row says and leaves
-module _ (k : tie.After-propagate-row-packed) where
+module _ (k : tie.After-propagate_row_packed) where
   abbrev s : tie.Start
   s = k.before.before.before.before.before.before
 
@@ -29,32 +29,32 @@ module _ (k : tie.After-propagate-row-packed) where
   n = length s.args.words.now
 
   abbrev row : Row
-  row = row_of_words s.args.words.now s.args.rhs-word
+  row = row_of_words s.args.words.now s.args.rhs_word
 
   abbrev B : List ℤ
   B = s.args.bounds.now
 
   abbrev Q : List ℤ
-  Q = k.propagate-row-packed.last.1.1.0
+  Q = k.propagate_row_packed.new.bounds
 
-  heard : propagated_row_of k.propagate-row-packed.result Q ≡ propagate_row_of n row B
-  heard = k.propagate-row-packed.ensures
+  heard : propagated_row_of k.propagate_row_packed.result Q ≡ propagate_row_of n row B
+  heard = k.propagate_row_packed.ensures
 
   left : Q ≡ (propagate_row_of n row B).box
   left = left_by _ Q heard
 
-enum_told : tie.Need-enum-told
+enum_told : tie.Need-enum_told-1
 enum_told c = search rules
 
-same_length : tie.Need-same-length
+same_length : tie.Need-shape_of-bounds-in-Infeasible
 same_length c = search rules
 
-returns : tie.Need-returns
+returns : tie.Need-returns-in-Infeasible
 returns c =
-    let k = c.before.before.before in
+    let k = c.before.before in
     let v = (s k).requires.0 in
-    let t = broken _ (Q k) (heard k) c.enum_told.given.1 in (
-      said _ (Q k) (heard k) c.enum_told.given.1,
+    let t = broken _ (Q k) (heard k) c.in-Infeasible.is in (
+      said _ (Q k) (heard k) c.in-Infeasible.is,
       (
         nothing-in v.words.some (left k ∙ kinded-infeasible-box (n k) (row k) (B k) t),
         (
@@ -65,91 +65,91 @@ returns c =
       ),
     )
 
-enum-known-moved : tie.Need-enum-known-moved
+enum-known-moved : tie.Need-enum_known-moved
 enum-known-moved c = search rules
 
-cast-blame : tie.Need-overflow-cast-blame
+cast-blame : tie.Need-overflow_cast-r
 cast-blame c = search rules
 
 blame-requires : tie.Need-blame-requires
 blame-requires c κs =
-    let k = c.before.before.before.before.before.before.before in
-    moved-blaming (s k).requires.0 (s k).args.rhs-word (s k).requires.1 (left k) (tightened _ (Q k) (heard k) c.before.before.before.before.moved.given.1)
+    let k = c.before.before.before in
+    moved-blaming (s k).requires.0 (s k).args.rhs_word (s k).requires.1 (left k) (tightened _ (Q k) (heard k) c.in-Tightened.is)
 
 note-requires : tie.Need-note-requires
 note-requires c κs =
-    let k = c.before.before.before.before.before.before.before.before.before.before.before.before.before in
-    moved-noting (s k).requires.0 (s k).args.rhs-word (left k) (tightened _ (Q k) (heard k) c.before.before.before.before.before.before.before.before.before.before.moved.given.1)
+    let k = c.before.before.before.before.before.before.before.before in
+    moved-noting (s k).requires.0 (s k).args.rhs_word (left k) (tightened _ (Q k) (heard k) c.in-Tightened.is)
 
 done-requires : tie.Need-done-requires
 done-requires c κs = search rules
 
-same-length-2 : tie.Need-same-length-2
+same-length-2 : tie.Need-shape_of-bounds-in-Tightened
 same-length-2 c = search rules
 
-same-length-3 : tie.Need-same-length-3
+same-length-3 : tie.Need-shape_of-seen-in-Tightened
 same-length-3 c = search rules
 
-same-length-4 : tie.Need-same-length-4
+same-length-4 : tie.Need-shape_of-dirty-in-Tightened
 same-length-4 c = search rules
 
-same-length-5 : tie.Need-same-length-5
+same-length-5 : tie.Need-shape_of-reasons-in-Tightened
 same-length-5 c = search rules
 
-returns-2 : tie.Need-returns-2
+returns-2 : tie.Need-returns-in-Tightened
 returns-2 c =
-    let told = c.before.before.before.before.before.before.before.before.before.before.before.before.before.before.before.before.before.before.moved.given.1 in
-    let noted = c.before.before.before.before.before.before.before.note in
-    let k = c.before.before.before.before.before.before.before.before.before.before.before.before.before.before.before.before.before.before.before.before.before in
+    let told = c.in-Tightened.is in
+    let noted = c.note in
+    let k = c.before.before.before.before.before.before.before.before.before.before.before.before.before.before.before.before in
     let v = (s k).requires.0 in
     let f = tightened _ (Q k) (heard k) told in
-    let d = c.before.before.done in (
+    let d = c.done in (
       said _ (Q k) (heard k) told,
       (
         (λ _. noted.ensures.0),
         (
           (λ m A few same hearers calm.
               calm-moved (s k).args.ws.now (s k).args.r (row k) same few v.words.some v.non_empty hearers calm (left k) f
-              noted.new.1.1.1.1.0 d.new.1.1.0 (rw v.known at noted.ensures.1) d.ensures.0 (kept-kind v (s k).args.rhs-word d.ensures.1)),
-          blames-moved _ _ _ _ f (left k) _ v.known c.before.before.before.before.before.before.before.before.before.before.before.before.before.blame.ensures,
+              noted.new.dirty d.new.dirty (rw v.known at noted.ensures.1) d.ensures.0 (kept-kind v (s k).args.rhs_word d.ensures.1)),
+          blames-moved _ _ _ _ f (left k) _ v.known c.blame.ensures,
         ),
       ),
     )
 
-enum-told-2 : tie.Need-enum-told-2
+enum-told-2 : tie.Need-enum_told-in-Unchanged
 enum-told-2 c = search rules
 
 remove-requires : tie.Need-remove-requires
 remove-requires c κs = search rules
 
-same-length-6 : tie.Need-same-length-6
+same-length-6 : tie.Need-shape_of-bounds-in-Unchanged
 same-length-6 c = search rules
 
-same-length-7 : tie.Need-same-length-7
+same-length-7 : tie.Need-shape_of-dirty-in-Unchanged
 same-length-7 c = search rules
 
-returns-3 : tie.Need-returns-3
+returns-3 : tie.Need-returns-in-Unchanged
 returns-3 c =
-    let k = c.before.before.before.before.before.before.before in
-    let told = c.before.before.before.before.enum-told2.given.1 in
+    let k = c.before.before.before.before.before.before in
+    let told = c.in-Unchanged.is in
     let f = unmoved _ (Q k) (heard k) told in
     let v = (s k).requires.0 in
     let still : Q k ≡ B k = left k ∙ kinded-unchanged (row k) v.non_empty f.0 f.1 in
-    let r = c.before.before.remove in (
+    let r = c.remove in (
       said _ (Q k) (heard k) told,
       (
         (λ _. v.known ∙ sym still),
         (
           (λ m A few same hearers calm.
               calm-unmoved (s k).args.ws.now (s k).args.r (row k) same few v.words.some v.non_empty hearers calm (left k) f.0 f.1
-              r.new.1.0 r.ensures),
+              r.new.set r.ensures),
           blames-still _ _ _ _ f.0 (left k) still,
         ),
       ),
     )
 
-pub propagate-row-noted-spec : {M : Type 1} → statement M
-propagate-row-noted-spec =
+pub propagate_row_noted_spec : {M : Type 1} → statement M
+propagate_row_noted_spec =
     tie.close
     (tie.spec
     propagate-row-packed-requires

@@ -10,38 +10,38 @@ use Rattle.model.specs.Box.{at, with_bounds}
 use Rattle.remarking.proofs.remark_at.Statement.{statement}
 use Rattle.remarking.proofs.remark_at.Tie as tie
 
-mul-remark-bound : tie.Need-overflow-mul-remark-bound
+mul-remark-bound : tie.Need-overflow_mul-j
 mul-remark-bound c = search rules
 
-remark-bound-requires : tie.Need-remark-bound-requires
+remark-bound-requires : tie.Need-remark_bound-requires
 remark-bound-requires c κs = search rules
 
-mul-remark-bound-2 : tie.Need-overflow-mul-remark-bound-2
+mul-remark-bound-2 : tie.Need-overflow_mul-j-2
 mul-remark-bound-2 c = search rules
 
-add-remark-bound : tie.Need-overflow-add-remark-bound
+add-remark-bound : tie.Need-overflow_add-j
 add-remark-bound c = search rules
 
-remark-bound-requires-2 : tie.Need-remark-bound-requires-2
+remark-bound-requires-2 : tie.Need-remark_bound-requires-2
 remark-bound-requires-2 c κs =
-    let p = c.before.before.before.before.before.before.before.before.before.before.before.before.before.before.before.requires in
-    let first = c.before.before.before.before.before.before.before.before.remark-bound in
-    (first.ensures.1.1, p.1, p.2, omega (arith, p.3, first.auto.1.1.1.1.1.1.1.1.1.1.0), omega (arith, p.4, first.auto.1.1.1.1.1.1.1.1.0), p.5)
+    let p = c.requires in
+    let first = c.remark_bound in
+    (first.ensures.1.1, p.1, p.2, omega (arith, p.3, first.auto.marks), omega (arith, p.4, first.auto.old), p.5)
 
-same_length : tie.Need-same-length
+same_length : tie.Need-shape_of-signs
 same_length c = search rules
 
-same-length-2 : tie.Need-same-length-2
+same-length-2 : tie.Need-shape_of-old
 same-length-2 c = search rules
 
-same-length-3 : tie.Need-same-length-3
+same-length-3 : tie.Need-shape_of-marks
 same-length-3 c = search rules
 
 returns : tie.Need-returns
 unfolding with_bounds
 returns c =
-    let second = c.before.before.before.before.before.remark-bound2 in
-    let first = c.before.before.before.before.before.before.before.before.before.before.before.before.before.before.remark-bound in
+    let second = c.remark_bound-2 in
+    let first = c.remark_bound in
     let s = c.before.before.before.before.before.before.before.before.before.before.before.before.before.before.before.before.before.before.before.before.before in
     let j = s.args.j in
     let old = s.args.old.now in
@@ -56,8 +56,8 @@ returns c =
       ),
     )
 
-pub remark-at-spec : {M : Type 1} → statement M
-remark-at-spec =
+pub remark_at_spec : {M : Type 1} → statement M
+remark_at_spec =
     tie.close
     (tie.spec
     mul-remark-bound

@@ -17,48 +17,48 @@ positive (suc n) i h = omega arith
 some : (s : tie.Start) → 0 < s.args.n
 some s = positive s.args.n s.args.i (omega arith)
 
-shared-slice-read-if1 : tie.Need-shared-slice-read-if1
+shared-slice-read-if1 : tie.Need-bounds-table-i
 shared-slice-read-if1 c = search rules
 
-returns : tie.Need-returns
+returns : tie.Need-returns-then-table-i-ne1
 unfolding implication_at
-returns c = rw (ne_eqb _ _ c.if1.true) (wrote_none _ _ (omega arith))
+returns c = rw (ne_eqb _ _ c.if-table-i-ne1.true) (wrote_none _ _ (omega arith))
 
-mul-p : tie.Need-overflow-mul-p
+mul-p : tie.Need-overflow_mul-p
 mul-p c = search rules
 
-div-p : tie.Need-nonzero-div-p
+div-p : tie.Need-nonzero_div-p
 div-p c = omega (arith, some c.before.before.before.before)
 
-cast-p : tie.Need-overflow-cast-p
+cast-p : tie.Need-overflow_cast-p
 cast-p c =
     let s = c.before.before.before.before in
     omega (arith, div-le_self s.args.i (2 * s.args.n), mul-le-mul_right s.args.n s.requires.0)
 
-mul-q : tie.Need-overflow-mul-q
+mul-q : tie.Need-overflow_mul-q
 mul-q c = search rules
 
-rem-q : tie.Need-nonzero-rem-q
+rem-q : tie.Need-nonzero_rem-q
 rem-q c = omega (arith, some c.before.before.before.before)
 
-cast-q : tie.Need-overflow-cast-q
+cast-q : tie.Need-overflow_cast-q
 cast-q c =
     let s = c.before.before.before.before in
     let h : 0 < 2 * s.args.n = omega (arith, some s) in
     omega (arith, mod-lt s.args.i h)
 
-write-implication-requires : tie.Need-write-implication-requires
+write-implication-requires : tie.Need-write_implication-requires
 write-implication-requires c κs = search rules
 
-same_length : tie.Need-same-length
+same_length : tie.Need-shape_of-buf
 same_length c = search rules
 
-returns-2 : tie.Need-returns-2
+returns-2 : tie.Need-returns
 unfolding implication_at byte_line
-returns-2 c = rw (eq-eqb _ _ c.before.before.before.before.if1.false) c.before.before.write-implication.ensures.0
+returns-2 c = rw (eq-eqb _ _ c.before.before.before.before.if-table-i-ne1.false) c.before.before.write_implication.ensures.0
 
-pub write-implication-at-spec : {M : Type 1} → statement M
-write-implication-at-spec =
+pub write_implication_at_spec : {M : Type 1} → statement M
+write_implication_at_spec =
     tie.close
     (tie.spec
     shared-slice-read-if1

@@ -6,16 +6,13 @@ use Rattle.text.proofs.TextLaws.{◌⨾◌}
 use Rattle.report_line.proofs.write_none.Statement.{statement}
 use Rattle.report_line.proofs.write_none.Tie as tie
 
-slice-aggregate-write-text : tie.Need-slice-aggregate-write-text
-slice-aggregate-write-text c = search rules
-
-write-text-requires : tie.Need-write-text-requires
+write-text-requires : tie.Need-write_text-end-requires
 write-text-requires c κs = search rules
 
-write-byte-requires : tie.Need-write-byte-requires
+write-byte-requires : tie.Need-write_byte-requires
 write-byte-requires c κs = search rules
 
-same_length : tie.Need-same-length
+same_length : tie.Need-shape_of-buf
 same_length c = search rules
 
 returns : tie.Need-returns
@@ -23,13 +20,12 @@ unfolding none_line
 returns c =
     let w2 = c.before.before in
     let w1 = w2.before.before.before.before in
-    (w1.write-text.ensures ⨾ w2.write_byte.ensures, omega arith)
+    (w1.write_text-end.ensures ⨾ w2.write_byte.ensures, omega arith)
 
-pub write-none-spec : {M : Type 1} → statement M
-write-none-spec =
+pub write_none_spec : {M : Type 1} → statement M
+write_none_spec =
     tie.close
     (tie.spec
-    slice-aggregate-write-text
     write-text-requires
     write-byte-requires
     same_length

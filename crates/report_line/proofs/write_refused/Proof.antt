@@ -6,19 +6,16 @@ use Rattle.text.proofs.TextLaws.{◌⨾◌}
 use Rattle.report_line.proofs.write_refused.Statement.{statement}
 use Rattle.report_line.proofs.write_refused.Tie as tie
 
-slice-aggregate-write-text : tie.Need-slice-aggregate-write-text
-slice-aggregate-write-text c = search rules
-
-write-text-requires : tie.Need-write-text-requires
+write-text-requires : tie.Need-write_text-word-requires
 write-text-requires c κs = search rules
 
-write-natural-requires : tie.Need-write-natural-requires
+write-natural-requires : tie.Need-write_natural-end-requires
 write-natural-requires c κs = search rules
 
-write-byte-requires : tie.Need-write-byte-requires
+write-byte-requires : tie.Need-write_byte-requires
 write-byte-requires c κs = search rules
 
-same_length : tie.Need-same-length
+same_length : tie.Need-shape_of-buf
 same_length c = search rules
 
 returns : tie.Need-returns
@@ -27,13 +24,12 @@ returns c =
     let w3 = c.before.before in
     let w2 = w3.before.before.before.before in
     let w1 = w2.before.before.before.before in
-    (w1.write-text.ensures ⨾ w2.write-natural.ensures.0 ⨾ w3.write_byte.ensures, omega arith)
+    (w1.write_text-word.ensures ⨾ w2.write_natural-end.ensures.0 ⨾ w3.write_byte.ensures, omega arith)
 
-pub write-refused-spec : {M : Type 1} → statement M
-write-refused-spec =
+pub write_refused_spec : {M : Type 1} → statement M
+write_refused_spec =
     tie.close
     (tie.spec
-    slice-aggregate-write-text
     write-text-requires
     write-natural-requires
     write-byte-requires

@@ -7,22 +7,22 @@ use Rattle.text.proofs.TextLaws.{◌⨾◌}
 use Rattle.report_line.proofs.write_row.Statement.{statement}
 use Rattle.report_line.proofs.write_row.Tie as tie
 
-write-byte-requires : tie.Need-write-byte-requires
+write-byte-requires : tie.Need-write_byte-letter-requires
 write-byte-requires c κs = search rules
 
-write-natural-requires : tie.Need-write-natural-requires
+write-natural-requires : tie.Need-write_natural-row-requires
 write-natural-requires c κs = search rules
 
-write-integer-requires : tie.Need-write-integer-requires
+write-integer-requires : tie.Need-write_integer-rhs-requires
 write-integer-requires c κs = search rules
 
-write-integers-requires : tie.Need-write-integers-requires
+write-integers-requires : tie.Need-write_integers-end-requires
 write-integers-requires c κs = search rules
 
-write-byte-requires-2 : tie.Need-write-byte-requires-2
+write-byte-requires-2 : tie.Need-write_byte-requires
 write-byte-requires-2 c κs = search rules
 
-same_length : tie.Need-same-length
+same_length : tie.Need-shape_of-buf
 same_length c = search rules
 
 returns : tie.Need-returns
@@ -35,10 +35,10 @@ returns c =
     let w1 = w2.before.before.before.before in
     let s = w1.before.before.before in
     let fb = s.ranges.b in
-    (w1.write_byte.ensures ⨾ w2.write-natural.ensures.0 ⨾ (simp to_z-of_z at w3.write-integer.ensures.0) ⨾ w4.write-integers.ensures.0 ⨾ w5.write-byte2.ensures, omega arith)
+    (w1.write_byte-letter.ensures ⨾ w2.write_natural-row.ensures.0 ⨾ (simp to_z-of_z at w3.write_integer-rhs.ensures.0) ⨾ w4.write_integers-end.ensures.0 ⨾ w5.write_byte.ensures, omega arith)
 
-pub write-row-spec : {M : Type 1} → statement M
-write-row-spec =
+pub write_row_spec : {M : Type 1} → statement M
+write_row_spec =
     tie.close
     (tie.spec
     write-byte-requires

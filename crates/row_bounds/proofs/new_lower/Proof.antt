@@ -51,19 +51,19 @@ need-fits s =
 
 ruleset decode = (to_z-of_z, wide, a-fits, b-fits, least_fits, l-fits, u-fits, g-fits, gl-fits, gu-fits)
 
-cast-g : tie.Need-overflow-cast-g
+cast-g : tie.Need-overflow_cast-g
 cast-g c = simp decode (wide (a-fits c))
 
-sub-g : tie.Need-overflow-sub-g
+sub-g : tie.Need-overflow_sub-g
 sub-g c = simp decode (g-fits c)
 
-cast-need : tie.Need-overflow-cast-need
+cast-need : tie.Need-overflow_cast-need
 cast-need c = simp decode (wide (u-fits c))
 
-mul-need : tie.Need-overflow-mul-need
+mul-need : tie.Need-overflow_mul-need
 mul-need c = simp decode (gu-fits c)
 
-add-need : tie.Need-overflow-add-need
+add-need : tie.Need-overflow_add-need
 add-need c = simp decode (add-fits c)
 
 -- g, g · l and what the row needs, from the machine's numbers
@@ -73,13 +73,13 @@ g-is s = simp decode (zero_minus s.args.a)
 add_is : (s : tie.Start) → asked (add-need s) ≡ s.args.least +ℤ neg_ℤ s.args.a *ℤ s.args.u
 add_is s = simp decode (ap (λ (g : ℤ). s.args.least +ℤ g *ℤ s.args.u) (zero_minus s.args.a))
 
-sub-need : tie.Need-overflow-sub-need
+sub-need : tie.Need-overflow_sub-need
 sub-need c = fits_read (ap₂ ◌-ℤ◌ (read w64 (add-need c) (add_is c)) (to_z-of_z {w = w64} (b-fits c))) (need-fits c)
 
-cast-if1 : tie.Need-overflow-cast-if1
+cast-if1 : tie.Need-overflow_cast-l
 cast-if1 c = simp decode (wide (l-fits c))
 
-mul-if1 : tie.Need-overflow-mul-if1
+mul-if1 : tie.Need-overflow_mul-g
 mul-if1 c = simp decode (gl-fits c)
 
 need-is : (s : tie.Start) → asked (sub-need s) ≡ s.args.least +ℤ neg_ℤ s.args.a *ℤ s.args.u -ℤ s.args.b
@@ -88,40 +88,40 @@ need-is s = ap₂ ◌-ℤ◌ (read w64 (add-need s) (add_is s)) (to_z-of_z {w = 
 gl-is : (s : tie.Start) → asked (mul-if1 s) ≡ neg_ℤ s.args.a *ℤ s.args.l
 gl-is s = simp decode (ap (λ (g : ℤ). g *ℤ s.args.l) (zero_minus s.args.a))
 
-returns : tie.Need-returns
+returns : tie.Need-returns-then-need-g
 returns c =
     let s = c.before in
-    let h = le_read (read w64 (sub-need s) (need-is s)) (read w64 (mul-if1 s) (gl-is s)) c.if1.true in
+    let h = le_read (read w64 (sub-need s) (need-is s)) (read w64 (mul-if1 s) (gl-is s)) c.if-need-g.true in
     simp decode (sym (lower-stays _ _ _ _ _ s.requires.1 h))
 
-ceil-div-requires : tie.Need-ceil-div-requires
+ceil-div-requires : tie.Need-ceil_div-requires
 ceil-div-requires c κs = rw (read w64 (sub-g c.before) (g-is c.before)) (g-pos c.before.requires.1)
 
 -- the quotient, and that it fits
-module _ (c : tie.After-ceil-div) where
+module _ (c : tie.After-ceil_div) where
   abbrev s : tie.Start
   s = c.before.before
 
-  quotient : c.ceil-div.result ≡ ceil_div (s.args.least +ℤ neg_ℤ s.args.a *ℤ s.args.u -ℤ s.args.b) (neg_ℤ s.args.a)
-  quotient = c.ceil-div.ensures ∙ ap₂ ceil_div (read w64 (sub-need s) (need-is s)) (read w64 (sub-g s) (g-is s))
+  quotient : c.ceil_div.result ≡ ceil_div (s.args.least +ℤ neg_ℤ s.args.a *ℤ s.args.u -ℤ s.args.b) (neg_ℤ s.args.a)
+  quotient = c.ceil_div.ensures ∙ ap₂ ceil_div (read w64 (sub-need s) (need-is s)) (read w64 (sub-g s) (g-is s))
 
   moves : (neg_ℤ s.args.a *ℤ s.args.l) <ℤ (s.args.least +ℤ neg_ℤ s.args.a *ℤ s.args.u -ℤ s.args.b)
-  moves = gt-read (read w64 (sub-need s) (need-is s)) (read w64 (mul-if1 s) (gl-is s)) c.before.if1.false
+  moves = gt-read (read w64 (sub-need s) (need-is s)) (read w64 (mul-if1 s) (gl-is s)) c.before.if-need-g.false
 
-abbrev result_fits : (c : tie.After-ceil-div) → SFits w64 c.ceil-div.result
-result_fits c = record { sfits = c.ceil-div.type-inv }
+abbrev result_fits : (c : tie.After-ceil_div) → SFits w64 c.ceil_div.result
+result_fits c = record { sfits = c.ceil_div.type_inv }
 
-abbrev quotient_fits : (c : tie.After-ceil-div) → SFits w32 c.ceil-div.result
+abbrev quotient_fits : (c : tie.After-ceil_div) → SFits w32 c.ceil_div.result
 quotient_fits c = rw (quotient c) (within-fits w32 tt (lower-small _ _ _ _ _ (s c).requires.1 (s c).requires.0 (moves c)))
 
-cast-result : tie.Need-overflow-cast-result
+cast-result : tie.Need-overflow_cast-result
 cast-result c = simp (to_z-of_z, result_fits) (quotient_fits c)
 
-returns-2 : tie.Need-returns-2
+returns-2 : tie.Need-returns
 returns-2 c = simp (to_z-of_z, result_fits, quotient_fits) (quotient c ∙ sym (lower-moves _ _ _ _ _ (s c).requires.1 (moves c)))
 
-pub new-lower-spec : {M : Type 1} → statement M
-new-lower-spec =
+pub new_lower_spec : {M : Type 1} → statement M
+new_lower_spec =
     tie.close
     (tie.spec
     cast-g

@@ -47,25 +47,25 @@ room_fits s =
 
 ruleset decode = (to_z-of_z, wide, a-fits, b-fits, least_fits, l-fits, u-fits, sub-fits, al-fits, au-fits)
 
-cast-g : tie.Need-overflow-cast-g
+cast-g : tie.Need-overflow_cast-g
 cast-g c = simp decode (wide (a-fits c))
 
-sub-room : tie.Need-overflow-sub-room
+sub-room : tie.Need-overflow_sub-room
 sub-room c = simp decode (sub-fits c)
 
-cast-room : tie.Need-overflow-cast-room
+cast-room : tie.Need-overflow_cast-room
 cast-room c = simp decode (wide (l-fits c))
 
-mul-room : tie.Need-overflow-mul-room
+mul-room : tie.Need-overflow_mul-room
 mul-room c = simp decode (al-fits c)
 
-add-room : tie.Need-overflow-add-room
+add-room : tie.Need-overflow_add-room
 add-room c = simp decode (room_fits c)
 
-cast-if1 : tie.Need-overflow-cast-if1
+cast-if1 : tie.Need-overflow_cast-u
 cast-if1 c = simp decode (wide (u-fits c))
 
-mul-if1 : tie.Need-overflow-mul-if1
+mul-if1 : tie.Need-overflow_mul-g
 mul-if1 c = simp decode (au-fits c)
 
 -- a · u and the room, from the machine's numbers
@@ -75,40 +75,40 @@ au-is s = simp decode
 room-is : (s : tie.Start) → asked (add-room s) ≡ s.args.b -ℤ s.args.least +ℤ s.args.a *ℤ s.args.l
 room-is s = simp decode
 
-returns : tie.Need-returns
+returns : tie.Need-returns-then-g-u
 returns c =
     let s = c.before in
-    let h = le_read (read w64 (mul-if1 s) (au-is s)) (read w64 (add-room s) (room-is s)) c.if1.true in
+    let h = le_read (read w64 (mul-if1 s) (au-is s)) (read w64 (add-room s) (room-is s)) c.if-g-u.true in
     simp decode (sym (upper-stays _ _ _ _ _ s.requires.1 h))
 
-floor-div-requires : tie.Need-floor-div-requires
+floor-div-requires : tie.Need-floor_div-requires
 floor-div-requires c κs = simp decode c.before.requires.1
 
 -- the quotient, and that it fits
-module _ (c : tie.After-floor-div) where
+module _ (c : tie.After-floor_div) where
   abbrev s : tie.Start
   s = c.before.before
 
-  quotient : c.floor-div.result ≡ floor_div (s.args.b -ℤ s.args.least +ℤ s.args.a *ℤ s.args.l) s.args.a
-  quotient = c.floor-div.ensures ∙ ap₂ floor_div (read w64 (add-room s) (room-is s)) (simp decode)
+  quotient : c.floor_div.result ≡ floor_div (s.args.b -ℤ s.args.least +ℤ s.args.a *ℤ s.args.l) s.args.a
+  quotient = c.floor_div.ensures ∙ ap₂ floor_div (read w64 (add-room s) (room-is s)) (simp decode)
 
   moves : (s.args.b -ℤ s.args.least +ℤ s.args.a *ℤ s.args.l) <ℤ (s.args.a *ℤ s.args.u)
-  moves = gt-read (read w64 (mul-if1 s) (au-is s)) (read w64 (add-room s) (room-is s)) c.before.if1.false
+  moves = gt-read (read w64 (mul-if1 s) (au-is s)) (read w64 (add-room s) (room-is s)) c.before.if-g-u.false
 
-abbrev result_fits : (c : tie.After-floor-div) → SFits w64 c.floor-div.result
-result_fits c = record { sfits = c.floor-div.type-inv }
+abbrev result_fits : (c : tie.After-floor_div) → SFits w64 c.floor_div.result
+result_fits c = record { sfits = c.floor_div.type_inv }
 
-abbrev quotient_fits : (c : tie.After-floor-div) → SFits w32 c.floor-div.result
+abbrev quotient_fits : (c : tie.After-floor_div) → SFits w32 c.floor_div.result
 quotient_fits c = rw (quotient c) (within-fits w32 tt (upper-small _ _ _ _ _ (s c).requires.1 (s c).requires.0 (moves c)))
 
-cast-result : tie.Need-overflow-cast-result
+cast-result : tie.Need-overflow_cast-result
 cast-result c = simp (to_z-of_z, result_fits) (quotient_fits c)
 
-returns-2 : tie.Need-returns-2
+returns-2 : tie.Need-returns
 returns-2 c = simp (to_z-of_z, result_fits, quotient_fits) (quotient c ∙ sym (upper-moves _ _ _ _ _ (s c).requires.1 (moves c)))
 
-pub new-upper-spec : {M : Type 1} → statement M
-new-upper-spec =
+pub new_upper_spec : {M : Type 1} → statement M
+new_upper_spec =
     tie.close
     (tie.spec
     cast-g

@@ -22,29 +22,29 @@ use Rattle.row.proofs.SignedLaws.{sign-bits, sign-is, signed-bits, signed-fits, 
 use Rattle.row_bounds.proofs.tighten_bounds.Statement.{statement}
 use Rattle.row_bounds.proofs.tighten_bounds.Tie as tie
 
-abbrev invariant-loop : tie.invariant-loop
+abbrev invariant-loop : tie.invariant-loop-j
 invariant-loop coefs sign b least bounds₀ moved₀ j₀ bounds moved j =
     (j ≤ length coefs)
     × (length bounds ≡ length bounds₀)
     × (bounds ≡ tighten_to (signed (to_z w32 sign) coefs) (to_z w64 b) (to_z w64 least) bounds₀ j)
     × (moved ≡ moved_to (signed (to_z w32 sign) coefs) (to_z w64 b) (to_z w64 least) bounds₀ (length coefs) j)
 
-abbrev decreases-loop : tie.decreases-loop
+abbrev decreases-loop : tie.decreases-loop-j
 decreases-loop coefs sign b least bounds₀ moved₀ j₀ bounds moved j = length coefs - j
 
-loop-holds : tie.Need-loop-init invariant-loop decreases-loop
+loop-holds : tie.Need-loop-j-init invariant-loop decreases-loop
 unfolding write_to moved_bounds
 loop-holds c = (omega arith, refl, refl, refl)
 
-mul-tighten-bounds-at : tie.Need-overflow-mul-tighten-bounds-at invariant-loop decreases-loop
+mul-tighten-bounds-at : tie.Need-offset_bounds-coefs-j invariant-loop decreases-loop
 mul-tighten-bounds-at c = omega arith
 
 shared-slice-copy-out-tighten-bounds-at :
-    tie.Need-shared-slice-copy-out-tighten-bounds-at invariant-loop decreases-loop
+    tie.Need-bounds-coefs-j invariant-loop decreases-loop
 shared-slice-copy-out-tighten-bounds-at c = omega arith
 
 -- in a turn
-module _ (h : tie.At-loop invariant-loop decreases-loop) where
+module _ (h : tie.At-loop-j invariant-loop decreases-loop) where
   abbrev s : tie.Start invariant-loop decreases-loop
   s = h.before
 
@@ -64,78 +64,78 @@ module _ (h : tie.At-loop invariant-loop decreases-loop) where
   L = to_z w64 (of_z w64 s.args.least)
 
   abbrev j : ℕ
-  j = h.loop.j
+  j = h.loop-j.j
 
   v : ImpliesBox (length C) A s.args.b s.args.least B
-  v = signed-implies (sign-bits s.pre.1) s.pre.0
+  v = signed-implies (sign-bits s.requires.1) s.requires.0
 
   a-is : to_z w32 (of_z w32 (to_z w32 (of_z w32 s.args.sign) *ℤ to_z w32 (of_z w32 (at C j)))) ≡ at A j
-  a-is = signed-bits s.pre.1 C j (s.pre.0.coefs j)
+  a-is = signed-bits s.requires.1 C j (s.requires.0.coefs j)
 
   b-is : b ≡ s.args.b
-  b-is = to_z-of_z {w = w64} s.fits.b
+  b-is = to_z-of_z {w = w64} s.ranges.b
 
   least-is : L ≡ s.args.least
-  least-is = to_z-of_z {w = w64} s.fits.least
+  least-is = to_z-of_z {w = w64} s.ranges.least
 
-  l-is : lower h.loop.bounds j ≡ lower B j
-  l-is = ap (λ (P : List ℤ). lower P j) h.loop.inv.2 ∙ lower-there A b L B j
+  l-is : lower h.loop-j.bounds j ≡ lower B j
+  l-is = ap (λ (P : List ℤ). lower P j) h.loop-j.invariant.2 ∙ lower-there A b L B j
 
-  u-is : upper h.loop.bounds j ≡ upper B j
-  u-is = ap (λ (P : List ℤ). upper P j) h.loop.inv.2 ∙ upper-there A b L B j
+  u-is : upper h.loop-j.bounds j ≡ upper B j
+  u-is = ap (λ (P : List ℤ). upper P j) h.loop-j.invariant.2 ∙ upper-there A b L B j
 
-mul-tighten-bounds-at-2 : tie.Need-overflow-mul-tighten-bounds-at-2 invariant-loop decreases-loop
+mul-tighten-bounds-at-2 : tie.Need-overflow_mul-sign invariant-loop decreases-loop
 mul-tighten-bounds-at-2 c = let h = c.before.before in signed-fits (s h).requires.1 (C h) (j h) ((s h).requires.0.coefs (j h))
 
-tighten-bounds-at-requires : tie.Need-tighten-bounds-at-requires invariant-loop decreases-loop
+tighten-bounds-at-requires : tie.Need-tighten_bounds_at-requires invariant-loop decreases-loop
 tighten-bounds-at-requires c κs =
     let h = c.before.before.before in
     (rw (a-is h, b-is h, least-is h, l-is h, u-is h) (implies-at (A h) (s h).args.b (s h).args.least (B h) (v h) (j h)), omega (arith, (s h).requires.0.box_len))
 
-add-moved : tie.Need-overflow-add-moved invariant-loop decreases-loop
+add-moved : tie.Need-overflow_add-moved invariant-loop decreases-loop
 add-moved c =
     let h = c.before.before.before.before.before.before in
-    omega (arith, (s h).requires.0.few, h.loop.invariant.3, moved-le (j h) (B h) (implied_box (length (C h)) (A h) (b h) (L h) (B h)))
+    omega (arith, (s h).requires.0.few, h.loop-j.invariant.3, moved-le (j h) (B h) (implied_box (length (C h)) (A h) (b h) (L h) (B h)))
 
-add-j : tie.Need-overflow-add-j invariant-loop decreases-loop
+add-j : tie.Need-overflow_add-j invariant-loop decreases-loop
 add-j c = omega arith
 
-loop-less : tie.Need-loop-smaller invariant-loop decreases-loop
+loop-less : tie.Need-loop-j-smaller invariant-loop decreases-loop
 loop-less c = omega arith
 
-loop-again : tie.Need-loop-preserved invariant-loop decreases-loop
+loop-again : tie.Need-loop-j-preserved invariant-loop decreases-loop
 loop-again c =
     let h = c.before.before.before.before.before.before in
-    let call = c.before.before.tighten-bounds-at in (
+    let call = c.before.before.tighten_bounds_at in (
       omega arith,
-      call.auto.1.1.1.0 ∙ h.loop.invariant.1,
-      tighten-more (A h) (b h) (L h) (B h) (j h) (a-is h) h.loop.invariant.2 call.ensures.0,
-      moved_more (A h) (b h) (L h) (B h) (length (C h)) (j h) (omega arith) (a-is h) h.loop.invariant.2 h.loop.invariant.3 call.ensures.1
-          (⊎_elim (λ w. inl (w.0.taken, w.1)) (λ w. inr (w.0.left, w.1)) c.if1.branch),
+      call.auto.bounds ∙ h.loop-j.invariant.1,
+      tighten-more (A h) (b h) (L h) (B h) (j h) (a-is h) h.loop-j.invariant.2 call.ensures.0,
+      moved_more (A h) (b h) (L h) (B h) (length (C h)) (j h) (omega arith) (a-is h) h.loop-j.invariant.2 h.loop-j.invariant.3 call.ensures.1
+          (⊎_elim (λ w. inl (w.if-tighten_bounds_at.true, w.moved-is)) (λ w. inr (w.if-tighten_bounds_at.false, w.moved-is)) c.if-tighten_bounds_at.branch-raw),
     )
 
-same_length : tie.Need-same-length invariant-loop decreases-loop
+same_length : tie.Need-shape_of-bounds invariant-loop decreases-loop
 same_length c = omega arith
 
 returns : tie.Need-returns invariant-loop decreases-loop
 returns c =
     let h = c.before in
     let n = length (C h) in
-    let end : h.loop.j ≡ n = omega arith in
+    let end : h.loop-j.j ≡ n = omega arith in
     let e = sign-is (s h).requires.1 in (
-      h.loop.invariant.2
+      h.loop-j.invariant.2
           ∙ ap₂ (λ (x y : ℤ). tighten_to (A h) x y (B h) (j h)) (b-is h) (least-is h)
           ∙ ap (tighten_to (A h) (s h).args.b (s h).args.least (B h)) end
           ∙ tighten-all (A h) (s h).args.b (s h).args.least (B h) n (s h).requires.0.box_len
           ∙ ap (λ (z : ℤ). implied_box n (signed z (C h)) (s h).args.b (s h).args.least (B h)) e,
-      h.loop.invariant.3
+      h.loop-j.invariant.3
           ∙ ap₂ (λ (x y : ℤ). moved_to (A h) x y (B h) n (j h)) (b-is h) (least-is h)
           ∙ ap (moved_to (A h) (s h).args.b (s h).args.least (B h) n) end
           ∙ ap (λ (z : ℤ). moved_bounds n (B h) (implied_box n (signed z (C h)) (s h).args.b (s h).args.least (B h))) e,
     )
 
-pub tighten-bounds-spec : {M : Type 1} → statement M
-tighten-bounds-spec =
+pub tighten_bounds_spec : {M : Type 1} → statement M
+tighten_bounds_spec =
     tie.close
     (tie.spec
     invariant-loop

@@ -16,39 +16,39 @@ one_more marks r s f e i a b = go (ℕ_discrete i s)
     go (yes d) = rw d e
     go (no d) = f i a (omega arith)
 
-abbrev invariant-loop : tie.invariant-loop
+abbrev invariant-loop : tie.invariant-loop-s
 invariant-loop m marks r s₀ s = (r ≤ s) × (s ≤ m) × ((i : ℕ) → r ≤ i → i < s → get_or marks i 0 ≡ 1)
 
-abbrev decreases-loop : tie.decreases-loop
+abbrev decreases-loop : tie.decreases-loop-s
 decreases-loop m marks r s₀ s = m - s
 
-loop-holds : tie.Need-loop-init invariant-loop decreases-loop
+loop-holds : tie.Need-loop-s-init invariant-loop decreases-loop
 loop-holds c = (omega arith, c.requires.0, λ i a b. omega arith)
 
-shared-slice-read-if1 : tie.Need-shared-slice-read-if1 invariant-loop decreases-loop
+shared-slice-read-if1 : tie.Need-bounds-marks-s invariant-loop decreases-loop
 shared-slice-read-if1 c = search rules
 
-returns : tie.Need-returns invariant-loop decreases-loop
-returns c = c.before.before.before.loop.invariant
+returns : tie.Need-returns-then-marks-s-ne1 invariant-loop decreases-loop
+returns c = c.loop-s.invariant
 
-add-s : tie.Need-overflow-add-s invariant-loop decreases-loop
+add-s : tie.Need-overflow_add-s invariant-loop decreases-loop
 add-s c = omega arith
 
-loop-less : tie.Need-loop-smaller invariant-loop decreases-loop
+loop-less : tie.Need-loop-s-smaller invariant-loop decreases-loop
 loop-less c = omega arith
 
-loop-again : tie.Need-loop-preserved invariant-loop decreases-loop
+loop-again : tie.Need-loop-s-preserved invariant-loop decreases-loop
 loop-again c =
-    let i = c.before.before.before.loop.invariant in
-    (omega arith, omega arith, one_more c.before.before.before.before.args.marks.now _ _ i.2 c.if1.false)
+    let i = c.loop-s.invariant in
+    (omega arith, omega arith, one_more c.args.marks.now _ _ i.2 c.if-marks-s-ne1.false)
 
-returns-2 : tie.Need-returns-2 invariant-loop decreases-loop
+returns-2 : tie.Need-returns invariant-loop decreases-loop
 returns-2 c =
-    let i = c.before.loop.invariant in
+    let i = c.loop-s.invariant in
     (omega arith, omega arith, λ k a b. i.2 k a (omega arith))
 
-pub next-row-spec : {M : Type 1} → statement M
-next-row-spec =
+pub next_row_spec : {M : Type 1} → statement M
+next_row_spec =
     tie.close
     (tie.spec
     invariant-loop

@@ -52,44 +52,44 @@ invariant-passes n m bounds₀ coefs rhs kinds budget across₀ signs₀ seen₀
 abbrev decreases-passes : tie.decreases-passes
 decreases-passes n m bounds₀ coefs rhs kinds budget across₀ signs₀ seen₀ marks₀ passes₀ tally₀ bounds across signs seen marks passes tally = budget - passes
 
-is-empty-requires : tie.Need-is-empty-requires invariant-rows decreases-rows invariant-passes decreases-passes
-is-empty-requires c κs = let p = c.before.before.before.before.before.requires.0 in omega (arith, p.some, p.box.len)
+is-empty-requires : tie.Need-is_empty-requires invariant-rows decreases-rows invariant-passes decreases-passes
+is-empty-requires c κs = let p = c.requires.0 in omega (arith, p.some, p.box.len)
 
-same_length : tie.Need-same-length invariant-rows decreases-rows invariant-passes decreases-passes
+same_length : tie.Need-shape_of-bounds-then-is_empty invariant-rows decreases-rows invariant-passes decreases-passes
 same_length c = search rules
 
-returns : tie.Need-returns invariant-rows decreases-rows invariant-passes decreases-passes
+returns : tie.Need-returns-then-is_empty invariant-rows decreases-rows invariant-passes decreases-passes
 unfolding propagate propagation_of
 returns c =
-    let s = c.before.before.before.before.before.before.before in
+    let s = c.before.before.before.before.before.before in
     let p = s.requires.0 in
-    (rw (sym (c.before.is-empty.ensures _ p.some p.box) ∙ c.if1.true), s.requires.1.0)
+    (rw (sym (c.is_empty.ensures _ p.some p.box) ∙ c.if-is_empty.true), s.requires.1.0)
 
 passes-holds : tie.Need-passes-init invariant-rows decreases-rows invariant-passes decreases-passes
 passes-holds c =
-    let s = c.before.before.before.before.before.before.before in
+    let s = c.before.before.before.before.before.before in
     let p = s.requires.0 in
-    let e = sym (c.before.is-empty.ensures _ p.some p.box) ∙ c.if1.false in
+    let e = sym (c.is_empty.ensures _ p.some p.box) ∙ c.if-is_empty.false in
     (omega arith, rw sub-zero, ready p.box (valid-non_empty p.box (false→T (is_empty s.args.n s.args.bounds.now) e)) s.requires.1.0, simp zify (omega zarith))
 
-add-passes : tie.Need-overflow-add-passes invariant-rows decreases-rows invariant-passes decreases-passes
+add-passes : tie.Need-overflow_add-passes invariant-rows decreases-rows invariant-passes decreases-passes
 add-passes c = omega arith
 
-next-row-requires : tie.Need-next-row-requires invariant-rows decreases-rows invariant-passes decreases-passes
+next-row-requires : tie.Need-next_row-r-requires invariant-rows decreases-rows invariant-passes decreases-passes
 next-row-requires c κs =
-    let q = c.before.before in
-    (omega arith, omega (arith, q.before.before.before.before.before.before.before.before.requires.1.1, q.passes.invariant.2.marks_len))
+    let q = c.before in
+    (omega arith, omega (arith, q.requires.1.1, q.passes.invariant.2.marks_len))
 
 rows-holds : tie.Need-rows-init invariant-rows decreases-rows invariant-passes decreases-passes
 rows-holds c =
-    let i = c.before.before.before.passes.invariant in
-    let t = c.next_row.ensures in
+    let i = c.passes.invariant in
+    let t = c.next_row-r.ensures in
     (t.1, pass-over _ 0 _ (pass-begins _ _ _ _) i.2.non_empty i.2.watched.clean t.0 t.1 t.2, ready i.2.box i.2.non_empty i.2.watched)
 
 -- the call, where it comes to a pass
 module _ (h : tie.At-passes invariant-rows decreases-rows invariant-passes decreases-passes) where
   abbrev s : tie.Start invariant-rows decreases-rows invariant-passes decreases-passes
-  s = h.before.before.before.before.before.before.before.before
+  s = h.before.before.before.before.before.before.before
 
   abbrev n : ℕ
   n = s.args.n
@@ -117,36 +117,36 @@ module _ (h : tie.At-passes invariant-rows decreases-rows invariant-passes decre
 
   whole : propagate budget n m A B₀ ≡ propagate_from budget 0 0 n m A B₀
   unfolding propagate
-  whole = rw (sym (h.before.before.is-empty.ensures _ s.pre.0.some s.pre.0.box) ∙ h.before.if1.left)
+  whole = rw (sym (h.is_empty.ensures _ s.requires.0.some s.requires.0.box) ∙ h.if-is_empty.false)
 
 -- and to a row of it, which lies in the matrix
 module _ (c : tie.In-rows invariant-rows decreases-rows invariant-passes decreases-passes) where
   abbrev here : tie.At-passes invariant-rows decreases-rows invariant-passes decreases-passes
-  here = c.before.before.before.before.before
+  here = c.before.before.before.before
 
   abbrev r : ℕ
-  r = c.before.rows.r
+  r = c.rows.r
 
   abbrev P : List ℤ
-  P = c.before.rows.bounds
+  P = c.rows.bounds
 
-propagate-row-marked-requires : tie.Need-propagate-row-marked-requires invariant-rows decreases-rows invariant-passes decreases-passes
+propagate-row-marked-requires : tie.Need-propagate_row_marked-requires invariant-rows decreases-rows invariant-passes decreases-passes
 propagate-row-marked-requires c κs =
     let i = c.before.before.before.before.before in
     let q = here i in
     let t = s q in
-    let y = i.before.rows.invariant.2 in (
+    let y = i.rows.invariant.2 in (
       record {
-        valid = model_at t.pre.0 y.box;
+        valid = model_at t.requires.0 y.box;
         non_empty = y.non_empty;
         watched = y.watched;
-        room = omega (arith, t.pre.1.1, y.marks_len, q.passes.inv.2.marks_len);
+        room = omega (arith, t.requires.1.1, y.marks_len, q.passes.invariant.2.marks_len);
       },
       i.rows-test.true,
     )
 
 -- what the row answers and leaves
-module _ (c : tie.After-propagate-row-marked invariant-rows decreases-rows invariant-passes decreases-passes) where
+module _ (c : tie.After-propagate_row_marked invariant-rows decreases-rows invariant-passes decreases-passes) where
   abbrev row : tie.In-rows invariant-rows decreases-rows invariant-passes decreases-passes
   row = c.before.before.before.before.before.before
 
@@ -154,124 +154,124 @@ module _ (c : tie.After-propagate-row-marked invariant-rows decreases-rows invar
   h = here row
 
   abbrev Q : List ℤ
-  Q = c.propagate-row-marked.new.1.1.0
+  Q = c.propagate_row_marked.new.bounds
 
   abbrev its : Row
   its = row_at (n h) (A h) (r row)
 
-  heard : propagated_row_of c.propagate-row-marked.result Q ≡ propagate_row_of (n h) its (P row)
-  heard = c.propagate-row-marked.ensures.0
+  heard : propagated_row_of c.propagate_row_marked.result Q ≡ propagate_row_of (n h) its (P row)
+  heard = c.propagate_row_marked.ensures.0
 
   left : Q ≡ (propagate_row_of (n h) its (P row)).box
   left = left_by _ Q heard
 
   -- one that is feasible leaves all ready for the next
   row-ready : T (not (is_infeasible (propagate_row_of (n h) its (P row)).outcome)) →
-      let q = c.propagate-row-marked.new.1.1.1.1.1.1.1 in
-      Ready (n h) (m h) (A h) (B h) h.passes.across h.passes.signs h.passes.seen h.passes.marks Q q.0 q.1.0 q.1.1.0 q.1.1.1.0
+      let q = c.propagate_row_marked.new in
+      Ready (n h) (m h) (A h) (B h) h.passes.across h.passes.signs h.passes.seen h.passes.marks Q q.across q.signs q.seen q.marks
   row-ready f =
-      let l = c.propagate-row-marked.auto.1.1 in
-      ready-row its row.before.rows.inv.2 left f c.propagate-row-marked.ensures.1
-      l.0 l.1.1.1.1.1.0 l.1.1.1.1.1.1.0 l.1.1.1.1.1.1.1.0 l.1.1.1.1.1.1.1.1.0
+      let l = c.propagate_row_marked.auto in
+      ready-row its row.rows.invariant.2 left f c.propagate_row_marked.ensures.1
+      l.bounds l.across l.signs l.seen l.marks
 
   -- and the pass so far, with it
-  one-row : {k now : ℕ} → ((c.propagate-row-marked.result ≡ Tightened k) × (now ≡ row.before.rows.tally.moved + k))
-      ⊎ ((c.propagate-row-marked.result ≡ Unchanged) × (now ≡ row.before.rows.tally.moved))
+  one-row : {k now : ℕ} → ((c.propagate_row_marked.result ≡ Tightened k) × (now ≡ row.rows.tally.moved + k))
+      ⊎ ((c.propagate_row_marked.result ≡ Unchanged) × (now ≡ row.rows.tally.moved))
       → PassIs (n h) (r row + 1) (A h) (B h) (before h) false now Q
-  one-row = row-feasible (n h) (r row) (A h) (B h) (before h) _ Q row.before.rows.inv.1 heard
+  one-row = row-feasible (n h) (r row) (A h) (B h) (before h) _ Q row.rows.invariant.1 heard
 
-enum_told : tie.Need-enum-told invariant-rows decreases-rows invariant-passes decreases-passes
+enum_told : tie.Need-enum_told-1 invariant-rows decreases-rows invariant-passes decreases-passes
 enum_told c = search rules
 
-enum-known-moved : tie.Need-enum-known-moved invariant-rows decreases-rows invariant-passes decreases-passes
+enum-known-moved : tie.Need-enum_known-moved invariant-rows decreases-rows invariant-passes decreases-passes
 enum-known-moved c = search rules
 
-add-requires : tie.Need-add-requires invariant-rows decreases-rows invariant-passes decreases-passes
+add-requires : tie.Need-add-tally-requires invariant-rows decreases-rows invariant-passes decreases-passes
 add-requires c κs =
-    let d = c.before.before.before.before.before.before.before.before.before.before.before in
-    let told = c.before.moved.given.1 in
-    sum_fits (one-row d (inl (told, refl))) (B₀ (h d)) (h d).passes.invariant.3 (s (h d)).pre.0 (row-ready d (tightened _ (Q d) (heard d) told)).non_empty
+    let d = c.before.before.before.before.before.before.before.before.before in
+    let told = c.in-Tightened.is in
+    sum_fits (one-row d (inl (told, refl))) (B₀ (h d)) (h d).passes.invariant.3 (s (h d)).requires.0 (row-ready d (tightened _ (Q d) (heard d) told)).non_empty
 
-enum-told-2 : tie.Need-enum-told-2 invariant-rows decreases-rows invariant-passes decreases-passes
+enum-told-2 : tie.Need-enum_told-in-Unchanged invariant-rows decreases-rows invariant-passes decreases-passes
 enum-told-2 c = search rules
 
 -- where the row moved bounds or did not
-module _ (c : tie.At-match-branch invariant-rows decreases-rows invariant-passes decreases-passes) where
-  abbrev d : tie.After-propagate-row-marked invariant-rows decreases-rows invariant-passes decreases-passes
+module _ (c : tie.Joined-propagate_row_marked invariant-rows decreases-rows invariant-passes decreases-passes) where
+  abbrev d : tie.After-propagate_row_marked invariant-rows decreases-rows invariant-passes decreases-passes
   d = c.before.before.before.before.before.before.before.before.before
 
   abbrev k : tie.At-rows invariant-rows decreases-rows invariant-passes decreases-passes
   k = (row d).before
 
   feasible : T (not (is_infeasible (propagate_row_of (n (h d)) (its d) (P (row d))).outcome))
-  feasible = ⊎_elim (λ w. tightened _ (Q d) (heard d) w.1.given.1) (λ w. (unmoved _ (Q d) (heard d) w.1.given.1).0) c.match.branch
+  feasible = ⊎_elim (λ w. tightened _ (Q d) (heard d) w.in-Tightened.is) (λ w. (unmoved _ (Q d) (heard d) w.in-Unchanged.is).0) c.match-propagate_row_marked.branch-raw
 
-  counted : PassIs (n (h d)) (r (row d) + 1) (A (h d)) (B (h d)) (before (h d)) false c.match.tally.moved (Q d)
+  counted : PassIs (n (h d)) (r (row d) + 1) (A (h d)) (B (h d)) (before (h d)) false c.match-propagate_row_marked.tally.moved (Q d)
   counted =
       ⊎_elim
-      (λ w. one-row d (inl (w.1.given.1, ap (λ t. t.moved) w.4 ∙ w.3.ensures)))
-      (λ w. one-row d {k = 0} (inr (w.1.given.1, ap (λ t. t.moved) w.2)))
-      c.match.branch
+      (λ w. one-row d (inl (w.in-Tightened.is, ap (λ t. t.moved) w.tally-is ∙ w.add-tally.ensures)))
+      (λ w. one-row d {k = 0} (inr (w.in-Unchanged.is, ap (λ t. t.moved) w.tally-is)))
+      c.match-propagate_row_marked.branch-raw
 
-add-next-row : tie.Need-overflow-add-next-row invariant-rows decreases-rows invariant-passes decreases-passes
-add-next-row c = let e = d c.before in omega (arith, (row e).rows-test.taken, (s (h e)).pre.0.few_rows)
+add-next-row : tie.Need-overflow_add-r invariant-rows decreases-rows invariant-passes decreases-passes
+add-next-row c = let e = d c in omega (arith, (row e).rows-test.true, (s (h e)).requires.0.few_rows)
 
-next-row-requires-2 : tie.Need-next-row-requires-2 invariant-rows decreases-rows invariant-passes decreases-passes
+next-row-requires-2 : tie.Need-next_row-r-requires-in-rows invariant-rows decreases-rows invariant-passes decreases-passes
 next-row-requires-2 c κs =
-    let e = d c.before in
+    let e = d c in
     let q = h e in
-    let l = e.propagate-row-marked.kept.1.1.1.1.1.1.1.1.1.1.0 in
-    (omega (arith, (row e).rows-test.taken), omega (arith, (s q).pre.1.1, l, (k c.before).rows.inv.2.marks_len, q.passes.inv.2.marks_len))
+    let l = e.propagate_row_marked.auto.marks in
+    (omega (arith, (row e).rows-test.true), omega (arith, (s q).requires.1.1, l, (k c).rows.invariant.2.marks_len, q.passes.invariant.2.marks_len))
 
 rows-less : tie.Need-rows-smaller invariant-rows decreases-rows invariant-passes decreases-passes
-rows-less c = let t = c.next-row2.ensures in omega (arith, t.0, t.1, (row (d c.before.before)).rows-test.taken)
+rows-less c = let t = c.next_row-r-in-rows.ensures in omega (arith, t.0, t.1, (row (d c.before)).rows-test.true)
 
 rows-again : tie.Need-rows-preserved invariant-rows decreases-rows invariant-passes decreases-passes
 rows-again c =
-    let a = c.before.before in
-    let t = c.next-row2.ensures in
+    let a = c.before in
+    let t = c.next_row-r-in-rows.ensures in
     let y = row-ready (d a) (feasible a) in
     (t.1, pass-over _ _ _ (counted a) y.non_empty y.watched.clean t.0 t.1 t.2, y)
 
 -- a pass over all rows
 passed : (c : tie.After-rows invariant-rows decreases-rows invariant-passes decreases-passes) →
-    let q = c.before.before.before.before.before in
-    PassIs (n q) (m q) (A q) (B q) (before q) false c.before.rows.tally.moved c.before.rows.bounds
+    let q = c.before.before.before.before in
+    PassIs (n q) (m q) (A q) (B q) (before q) false c.rows.tally.moved c.rows.bounds
 passed c =
-    let q = c.before.before.before.before.before in
-    let k : c.before.rows.r ≡ m q = omega arith in
-    rw k at c.before.rows.invariant.1
+    let q = c.before.before.before.before in
+    let k : c.rows.r ≡ m q = omega arith in
+    rw k at c.rows.invariant.1
 
 -- box, copy and marks after the rows of a pass
 pass-ready : (c : tie.After-rows invariant-rows decreases-rows invariant-passes decreases-passes) →
-    let q = c.before.before.before.before.before in
-    let w = c.before.rows in
+    let q = c.before.before.before.before in
+    let w = c.rows in
     Ready (n q) (m q) (A q) (B₀ q) (s q).args.across.now (s q).args.signs.now (s q).args.seen.now (s q).args.marks.now w.bounds w.across w.signs w.seen w.marks
-pass-ready c = ready-trans c.before.before.before.before.before.passes.invariant.2 c.before.rows.invariant.2
+pass-ready c = ready-trans c.passes.invariant.2 c.rows.invariant.2
 
-same-length-2 : tie.Need-same-length-2 invariant-rows decreases-rows invariant-passes decreases-passes
+same-length-2 : tie.Need-shape_of-bounds-then-tally-before invariant-rows decreases-rows invariant-passes decreases-passes
 same-length-2 c = (pass-ready c.before.before).box_len
 
-same-length-3 : tie.Need-same-length-3 invariant-rows decreases-rows invariant-passes decreases-passes
+same-length-3 : tie.Need-shape_of-across-then-tally-before invariant-rows decreases-rows invariant-passes decreases-passes
 same-length-3 c = (pass-ready c.before.before).across_len
 
-same-length-4 : tie.Need-same-length-4 invariant-rows decreases-rows invariant-passes decreases-passes
+same-length-4 : tie.Need-shape_of-signs-then-tally-before invariant-rows decreases-rows invariant-passes decreases-passes
 same-length-4 c = (pass-ready c.before.before).signs_len
 
-same-length-5 : tie.Need-same-length-5 invariant-rows decreases-rows invariant-passes decreases-passes
+same-length-5 : tie.Need-shape_of-seen-then-tally-before invariant-rows decreases-rows invariant-passes decreases-passes
 same-length-5 c = (pass-ready c.before.before).seen_len
 
-same-length-6 : tie.Need-same-length-6 invariant-rows decreases-rows invariant-passes decreases-passes
+same-length-6 : tie.Need-shape_of-marks-then-tally-before invariant-rows decreases-rows invariant-passes decreases-passes
 same-length-6 c = (pass-ready c.before.before).marks_len
 
-returns-2 : tie.Need-returns-2 invariant-rows decreases-rows invariant-passes decreases-passes
+returns-2 : tie.Need-returns-then-tally-before invariant-rows decreases-rows invariant-passes decreases-passes
 unfolding propagation_of
 returns-2 c =
     let e = c.before.before in
-    let q = e.before.before.before.before.before in
-    let i = rw c.if2.true at (passed e) in (
-      sym (whole q ∙ pass-converged (budget q) (made q) (before q) (n q) (m q) (A q) (B q) e.before.before.before.before.passes-test.true q.passes.invariant.1 i),
-      e.before.rows.invariant.2.watched,
+    let q = e.before.before.before.before in
+    let i = rw c.if-tally-before.true at (passed e) in (
+      sym (whole q ∙ pass-converged (budget q) (made q) (before q) (n q) (m q) (A q) (B q) e.passes-test.true q.passes.invariant.1 i),
+      e.rows.invariant.2.watched,
     )
 
 passes-less : tie.Need-passes-smaller invariant-rows decreases-rows invariant-passes decreases-passes
@@ -280,9 +280,9 @@ passes-less c = omega arith
 passes-again : tie.Need-passes-preserved invariant-rows decreases-rows invariant-passes decreases-passes
 passes-again c =
     let e = c.before.before in
-    let q = e.before.before.before.before.before in (
+    let q = e.before.before.before.before in (
       omega arith,
-      pass-moved (budget q) (made q) (before q) (n q) (m q) (A q) (B q) e.before.before.before.before.passes-test.true q.passes.invariant.1 (passed e) c.if2.false,
+      pass-moved (budget q) (made q) (before q) (n q) (m q) (A q) (B q) e.passes-test.true q.passes.invariant.1 (passed e) c.if-tally-before.false,
       pass-ready e,
       pass-width (passed e) (B₀ q) q.passes.invariant.3,
     )
@@ -323,107 +323,107 @@ met c =
     let some = (s q).requires.0.some in
     ⊎_elim
     (λ w. record {
-      answer = after_is (n q) (m q) (A q) w.6 (ap (λ t. t.moved) w.7) w.1 ∙ rw (non_empty-isn't some y.non_empty)
-          (sym (whole q ∙ passes-made (budget q) (made q) (before q) (n q) (m q) (A q) (B q) w.0.left q.passes.invariant.1));
-      box = valid-is w.1 y.box;
-      watched = watched-is w.1 w.2 w.3 w.4 w.5 y.watched;
-      box_len = ap length w.1 ∙ y.box_len;
-      across_len = ap length w.2 ∙ y.across_len;
-      signs_len = ap length w.3 ∙ y.signs_len;
-      seen_len = ap length w.4 ∙ y.seen_len;
-      marks_len = ap length w.5 ∙ y.marks_len;
+      answer = after_is (n q) (m q) (A q) w.passes-is (ap (λ t. t.moved) w.tally-is) w.bounds-is ∙ rw (non_empty-isn't some y.non_empty)
+          (sym (whole q ∙ passes-made (budget q) (made q) (before q) (n q) (m q) (A q) (B q) w.passes-test.false q.passes.invariant.1));
+      box = valid-is w.bounds-is y.box;
+      watched = watched-is w.bounds-is w.across-is w.signs-is w.seen-is w.marks-is y.watched;
+      box_len = ap length w.bounds-is ∙ y.box_len;
+      across_len = ap length w.across-is ∙ y.across_len;
+      signs_len = ap length w.signs-is ∙ y.signs_len;
+      seen_len = ap length w.seen-is ∙ y.seen_len;
+      marks_len = ap length w.marks-is ∙ y.marks_len;
     })
     (λ w.
-    let i : tie.In-rows invariant-rows decreases-rows invariant-passes decreases-passes = record { before = record { before = record { before = record { before = record { before = q; passes-test = w.0 }; next-row-arg = w.1 }; next_row = w.2 }; rows = w.3 }; rows-test = w.4 } in
-    let d : tie.After-propagate-row-marked invariant-rows decreases-rows invariant-passes decreases-passes = record {
+    let i : tie.In-rows invariant-rows decreases-rows invariant-passes decreases-passes = record { before = record { before = record { before = record { before = q; passes-test = w.passes-test }; next_row-r = w.next_row-r }; rows = w.rows }; rows-test = w.rows-test } in
+    let d : tie.After-propagate_row_marked invariant-rows decreases-rows invariant-passes decreases-passes = record {
       before = record {
         before = record {
-          before = record { before = record { before = record { before = i; propagate-row-marked-arg = w.5 }; propagate-row-marked-arg2 = w.6 }; propagate-row-marked-arg3 = w.7 };
-          propagate-row-marked-arg4 = w.8;
+          before = record { before = record { before = record { before = i; propagate_row_marked-arg-1 = w.propagate_row_marked-arg-1 }; propagate_row_marked-arg-in-rows-1 = w.propagate_row_marked-arg-in-rows-1 }; propagate_row_marked-arg-in-rows-2-1 = w.propagate_row_marked-arg-in-rows-2-1 };
+          propagate_row_marked-arg-in-rows-3-1 = w.propagate_row_marked-arg-in-rows-3-1;
         };
-        propagate-row-marked-arg5 = w.9;
+        propagate_row_marked-arg-in-rows-4-1 = w.propagate_row_marked-arg-in-rows-4-1;
       };
-      propagate-row-marked = w.10;
+      propagate_row_marked = w.propagate_row_marked;
     } in
-    let z = ready-trans y w.3.inv.2 in
-    let k = w.10.kept in
-    let e = row-infeasible (n q) (r (row d)) (A q) (B q) (before q) _ (Q d) w.3.inv.1 (heard d) (m q) w.4.taken w.20.given.1 in
-    let empty = left d ∙ kinded-infeasible-box (n q) (its d) (P (row d)) (broken _ (Q d) (heard d) w.20.given.1) in
+    let z = ready-trans y w.rows.invariant.2 in
+    let k = w.propagate_row_marked.auto in
+    let e = row-infeasible (n q) (r (row d)) (A q) (B q) (before q) _ (Q d) w.rows.invariant.1 (heard d) (m q) w.rows-test.true w.in-Infeasible.is in
+    let empty = left d ∙ kinded-infeasible-box (n q) (its d) (P (row d)) (broken _ (Q d) (heard d) w.in-Infeasible.is) in
     record {
-      answer = after_is (n q) (m q) (A q) w.26 (ap (λ t. t.moved) w.27) w.21 ∙ rw (empty-is (n q) (Q d) empty)
-          (sym (whole q ∙ pass-infeasible (budget q) (made q) (before q) (n q) (m q) (A q) (B q) w.0.taken q.passes.invariant.1 e));
-      box = valid-is (w.21 ∙ left d) (kinded-valid (its d) w.3.inv.2.box);
-      watched = watched-is w.21 w.22 w.23 w.24 w.25 w.10.ensures.1;
-      box_len = ap length w.21 ∙ k.1.1.0 ∙ z.box_len;
-      across_len = ap length w.22 ∙ k.1.1.1.1.1.1.1.0 ∙ z.across_len;
-      signs_len = ap length w.23 ∙ k.1.1.1.1.1.1.1.1.0 ∙ z.signs_len;
-      seen_len = ap length w.24 ∙ k.1.1.1.1.1.1.1.1.1.0 ∙ z.seen_len;
-      marks_len = ap length w.25 ∙ k.1.1.1.1.1.1.1.1.1.1.0 ∙ z.marks_len;
+      answer = after_is (n q) (m q) (A q) w.passes-is (ap (λ t. t.moved) w.tally-is) w.bounds-is ∙ rw (empty-is (n q) (Q d) empty)
+          (sym (whole q ∙ pass-infeasible (budget q) (made q) (before q) (n q) (m q) (A q) (B q) w.passes-test.true q.passes.invariant.1 e));
+      box = valid-is (w.bounds-is ∙ left d) (kinded-valid (its d) w.rows.invariant.2.box);
+      watched = watched-is w.bounds-is w.across-is w.signs-is w.seen-is w.marks-is w.propagate_row_marked.ensures.1;
+      box_len = ap length w.bounds-is ∙ k.bounds ∙ z.box_len;
+      across_len = ap length w.across-is ∙ k.across ∙ z.across_len;
+      signs_len = ap length w.signs-is ∙ k.signs ∙ z.signs_len;
+      seen_len = ap length w.seen-is ∙ k.seen ∙ z.seen_len;
+      marks_len = ap length w.marks-is ∙ k.marks ∙ z.marks_len;
     })
-    c.passes-test.branch
+    c.passes-test.branch-raw
 
-is-empty-requires-2 : tie.Need-is-empty-requires-2 invariant-rows decreases-rows invariant-passes decreases-passes
-is-empty-requires-2 c κs = let e = c.before in omega (arith, (s e.before).pre.0.some, (met e).box.len)
+is-empty-requires-2 : tie.Need-is_empty-requires-2 invariant-rows decreases-rows invariant-passes decreases-passes
+is-empty-requires-2 c κs = let e = c in omega (arith, (s e.before).requires.0.some, (met e).box.len)
 
 -- the second test tells which way it was
-tells : (c : tie.After-is-empty2 invariant-rows decreases-rows invariant-passes decreases-passes) → c.is-empty2.result ≡ is_empty (n c.before.before.before) c.before.before.passes-test.bounds
-tells c = let e = c.before.before in c.is-empty2.ensures _ (s e.before).pre.0.some (met e).box
+tells : (c : tie.After-is_empty-2 invariant-rows decreases-rows invariant-passes decreases-passes) → c.is_empty-2.result ≡ is_empty (n c.before.before) c.passes-test.bounds
+tells c = let e = c.before in c.is_empty-2.ensures _ (s e.before).requires.0.some (met e).box
 
-same-length-7 : tie.Need-same-length-7 invariant-rows decreases-rows invariant-passes decreases-passes
-same-length-7 c = (met c.before.before.before).box_len
+same-length-7 : tie.Need-shape_of-bounds-then-is_empty-2 invariant-rows decreases-rows invariant-passes decreases-passes
+same-length-7 c = (met c.before.before).box_len
 
-same-length-8 : tie.Need-same-length-8 invariant-rows decreases-rows invariant-passes decreases-passes
-same-length-8 c = (met c.before.before.before).across_len
+same-length-8 : tie.Need-shape_of-across-then-is_empty-2 invariant-rows decreases-rows invariant-passes decreases-passes
+same-length-8 c = (met c.before.before).across_len
 
-same-length-9 : tie.Need-same-length-9 invariant-rows decreases-rows invariant-passes decreases-passes
-same-length-9 c = (met c.before.before.before).signs_len
+same-length-9 : tie.Need-shape_of-signs-then-is_empty-2 invariant-rows decreases-rows invariant-passes decreases-passes
+same-length-9 c = (met c.before.before).signs_len
 
-same-length-10 : tie.Need-same-length-10 invariant-rows decreases-rows invariant-passes decreases-passes
-same-length-10 c = (met c.before.before.before).seen_len
+same-length-10 : tie.Need-shape_of-seen-then-is_empty-2 invariant-rows decreases-rows invariant-passes decreases-passes
+same-length-10 c = (met c.before.before).seen_len
 
-same-length-11 : tie.Need-same-length-11 invariant-rows decreases-rows invariant-passes decreases-passes
-same-length-11 c = (met c.before.before.before).marks_len
+same-length-11 : tie.Need-shape_of-marks-then-is_empty-2 invariant-rows decreases-rows invariant-passes decreases-passes
+same-length-11 c = (met c.before.before).marks_len
 
-returns-3 : tie.Need-returns-3 invariant-rows decreases-rows invariant-passes decreases-passes
+returns-3 : tie.Need-returns-then-is_empty-2 invariant-rows decreases-rows invariant-passes decreases-passes
 unfolding propagation_of
-returns-3 c = let k = met c.before.before.before in (rw (sym (tells c.before) ∙ c.if3.true) at k.answer, k.watched)
+returns-3 c = let k = met c.before.before in (rw (sym (tells c.before) ∙ c.if-is_empty-2.true) at k.answer, k.watched)
 
-last-look-requires : tie.Need-last-look-requires invariant-rows decreases-rows invariant-passes decreases-passes
+last-look-requires : tie.Need-last_look-requires invariant-rows decreases-rows invariant-passes decreases-passes
 last-look-requires c κs =
-    let e = c.before.before in
-    let q = e.before.before.before.before in
-    let k = met e.before.before.before in (
+    let e = c in
+    let q = e.before.before.before in
+    let k = met e.before.before in (
       model_at (s q).requires.0 k.box,
       (
-        valid-non_empty k.box (false→T (is_empty (n q) e.before.before.before.passes-test.bounds) (sym (tells e.before) ∙ e.if3.false)),
+        valid-non_empty k.box (false→T (is_empty (n q) e.passes-test.bounds) (sym (tells e.before) ∙ e.if-is_empty-2.false)),
         k.watched.clean,
         omega (arith, (s q).requires.1.1, k.marks_len),
       ),
     )
 
-same-length-12 : tie.Need-same-length-12 invariant-rows decreases-rows invariant-passes decreases-passes
-same-length-12 c = (met c.before.before.before.before.before.before).box_len
+same-length-12 : tie.Need-shape_of-bounds invariant-rows decreases-rows invariant-passes decreases-passes
+same-length-12 c = (met c.before.before.before).box_len
 
-same-length-13 : tie.Need-same-length-13 invariant-rows decreases-rows invariant-passes decreases-passes
-same-length-13 c = (met c.before.before.before.before.before.before).across_len
+same-length-13 : tie.Need-shape_of-across invariant-rows decreases-rows invariant-passes decreases-passes
+same-length-13 c = (met c.before.before.before).across_len
 
-same-length-14 : tie.Need-same-length-14 invariant-rows decreases-rows invariant-passes decreases-passes
-same-length-14 c = (met c.before.before.before.before.before.before).signs_len
+same-length-14 : tie.Need-shape_of-signs invariant-rows decreases-rows invariant-passes decreases-passes
+same-length-14 c = (met c.before.before.before).signs_len
 
-same-length-15 : tie.Need-same-length-15 invariant-rows decreases-rows invariant-passes decreases-passes
-same-length-15 c = (met c.before.before.before.before.before.before).seen_len
+same-length-15 : tie.Need-shape_of-seen invariant-rows decreases-rows invariant-passes decreases-passes
+same-length-15 c = (met c.before.before.before).seen_len
 
-same-length-16 : tie.Need-same-length-16 invariant-rows decreases-rows invariant-passes decreases-passes
-same-length-16 c = (met c.before.before.before.before.before.before).marks_len
+same-length-16 : tie.Need-shape_of-marks invariant-rows decreases-rows invariant-passes decreases-passes
+same-length-16 c = (met c.before.before.before).marks_len
 
-returns-4 : tie.Need-returns-4 invariant-rows decreases-rows invariant-passes decreases-passes
+returns-4 : tie.Need-returns invariant-rows decreases-rows invariant-passes decreases-passes
 returns-4 c =
-    let e = c.before.before.before in
-    let k = met e.before.before.before in
-    (c.last-look.ensures ∙ rw (sym (tells e.before) ∙ e.if3.false) at k.answer, k.watched)
+    let e = c.before in
+    let k = met e.before.before in
+    (c.last_look.ensures ∙ rw (sym (tells e.before) ∙ e.if-is_empty-2.false) at k.answer, k.watched)
 
-pub propagate-marked-spec : {M : Type 1} → statement M
-propagate-marked-spec =
+pub propagate_marked_spec : {M : Type 1} → statement M
+propagate_marked_spec =
     tie.close
     (tie.spec
     invariant-rows

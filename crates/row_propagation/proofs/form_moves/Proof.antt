@@ -16,22 +16,22 @@ use Rattle.row.proofs.ReachLaws.{moves-empty, moves-test, slack-fits, slack-read
 use Rattle.row_propagation.proofs.form_moves.Statement.{statement}
 use Rattle.row_propagation.proofs.form_moves.Tie as tie
 
-is-empty-requires : tie.Need-is-empty-requires
+is-empty-requires : tie.Need-is_empty-requires
 is-empty-requires c κs = search rules
 
-returns : tie.Need-returns
+returns : tie.Need-returns-then-is_empty
 returns c =
     let v = c.before.before.requires.0.coefs in
-    sym (moves-empty _ _ _ _ (sym (c.before.is-empty.ensures _ v.some v.box) ∙ c.if1.true))
+    sym (moves-empty _ _ _ _ (sym (c.before.is_empty.ensures _ v.some v.box) ∙ c.if-is_empty.true))
 
-reach-of-requires : tie.Need-reach-of-requires
+reach-of-requires : tie.Need-reach_of-r-requires
 reach-of-requires c κs = let s = c.before.before in (s.requires.0.coefs, sign-bits s.requires.1)
 
-cast-result : tie.Need-overflow-cast-result
+cast-result : tie.Need-overflow_cast-result
 cast-result c = wide_fits c.before.before.before.ranges.b
 
 -- what the sweep found of the row with its sign
-module _ (m : tie.After-reach-of) where
+module _ (m : tie.After-reach_of-r) where
   abbrev s : tie.Start
   s = m.before.before.before
 
@@ -45,26 +45,26 @@ module _ (m : tie.After-reach-of) where
   n = length s.args.coefs.now
 
   v : ValidRow n A s.args.b B
-  v = signed-row s.pre.1 s.pre.0
+  v = signed-row s.requires.1 s.requires.0
 
-  found-least : m.reach_of.result.least ≡ min_activity n A B
-  found-least = rw (sign-is s.pre.1) at m.reach_of.ensures.0
+  found-least : m.reach_of-r.result.least ≡ min_activity n A B
+  found-least = rw (sign-is s.requires.1) at m.reach_of-r.ensures.0
 
-  found-widest : m.reach_of.result.widest ≡ widest_term n A B
-  found-widest = rw (sign-is s.pre.1) at m.reach_of.ensures.1
+  found-widest : m.reach_of-r.result.widest ≡ widest_term n A B
+  found-widest = rw (sign-is s.requires.1) at m.reach_of-r.ensures.1
 
-sub-result : tie.Need-overflow-sub-result
+sub-result : tie.Need-overflow_sub-result
 sub-result c = let m = c.before.before in slack-fits (v m) (found-least m) (found-widest m)
 
-returns-2 : tie.Need-returns-2
+returns-2 : tie.Need-returns
 returns-2 c =
     let m = c.before.before.before.before in
     let w = v m in
-    let some = sym (m.before.before.is-empty.ensures _ w.coefs.some w.coefs.box) ∙ m.before.if1.false in
+    let some = sym (m.before.before.is_empty.ensures _ w.coefs.some w.coefs.box) ∙ m.before.if-is_empty.false in
     ap₂ lt_z (slack-read w (found-least m) (found-widest m)) (widest-read w (found-least m) (found-widest m))
     ∙ moves-test (n m) (A m) (s m).args.b (B m) some w.coefs.box.len
 
-pub form-moves-spec : {M : Type 1} → statement M
-form-moves-spec =
+pub form_moves_spec : {M : Type 1} → statement M
+form_moves_spec =
     tie.close
     (tie.spec is-empty-requires returns reach-of-requires cast-result sub-result returns-2)

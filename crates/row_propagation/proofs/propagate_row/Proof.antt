@@ -17,11 +17,11 @@ use Rattle.row.proofs.SignedLaws.{negated-rhs, rhs-fits, rhs-negated, rhs-read, 
 use Rattle.row_propagation.proofs.propagate_row.Statement.{statement}
 use Rattle.row_propagation.proofs.propagate_row.Tie as tie
 
-propagate-form-requires : tie.Need-propagate-form-requires
+propagate-form-requires : tie.Need-propagate_form-first-requires
 propagate-form-requires c κs = let v = c.before.requires in (rw (rhs-read v) v, inl refl)
 
 -- what the ≤ form leaves
-module _ (c : tie.After-propagate-form) where
+module _ (c : tie.After-propagate_form-first) where
   abbrev s : tie.Start
   s = c.before.before
 
@@ -35,69 +35,69 @@ module _ (c : tie.After-propagate-form) where
   n = length A
 
   abbrev P : List ℤ
-  P = c.propagate-form.new.1.1.1.0
+  P = c.propagate_form-first.new.bounds
 
-  told : propagated_row_of c.propagate-form.result P ≡ propagate_row n A s.args.b B
-  told = rw (rhs-read s.pre, signed-one A) at c.propagate-form.ensures
+  told : propagated_row_of c.propagate_form-first.result P ≡ propagate_row n A s.args.b B
+  told = rw (rhs-read s.requires, signed-one A) at c.propagate_form-first.ensures
 
   left-valid : ValidRow n A s.args.b P
-  left-valid = subst⁻¹ (ValidRow n A s.args.b) (first-box n A s.args.b B _ P told) (propagate-row-valid_row s.pre)
+  left-valid = subst⁻¹ (ValidRow n A s.args.b) (first-box n A s.args.b B _ P told) (propagate-row-valid_row s.requires)
 
-same_length : tie.Need-same-length
+same_length : tie.Need-shape_of-bounds-then-kind-ne1
 same_length c = search rules
 
-returns : tie.Need-returns
-returns c = let m = c.before.before in le-answer (n m) (A m) (s m).args.b (B m) _ (P m) (told m) (s m).args.kind c.if1.true
+returns : tie.Need-returns-then-kind-ne1
+returns c = let m = c.before.before in le-answer (n m) (A m) (s m).args.b (B m) _ (P m) (told m) (s m).args.kind c.if-kind-ne1.true
 
-enum_told : tie.Need-enum-told
+enum_told : tie.Need-enum_told-1
 enum_told c = search rules
 
-sub-propagate-form : tie.Need-overflow-sub-propagate-form
-sub-propagate-form c = rhs-fits (s c.before.before.before).pre
+sub-propagate-form : tie.Need-overflow_sub-b
+sub-propagate-form c = rhs-fits (s c.before.before.before).requires
 
-propagate-form-requires-2 : tie.Need-propagate-form-requires-2
+propagate-form-requires-2 : tie.Need-propagate_form-requires
 propagate-form-requires-2 c κs =
     let m = c.before.before.before.before in
     (rw (rhs-negated (s m).requires) (negated-rhs (left-valid m)), inr refl)
 
 -- and what the negated form leaves
-module _ (c : tie.After-propagate-form2) where
-  abbrev m : tie.After-propagate-form
+module _ (c : tie.After-propagate_form) where
+  abbrev m : tie.After-propagate_form-first
   m = c.before.before.before.before.before
 
   abbrev Q : List ℤ
-  Q = c.propagate-form2.new.1.1.1.0
+  Q = c.propagate_form.new.bounds
 
-  told₂ : propagated_row_of c.propagate-form2.result Q ≡ propagate_row (n m) (negated_coefs (A m)) (neg_ℤ (s m).args.b) (P m)
-  told₂ = rw (rhs-negated (s m).pre, signed-negated (A m)) at c.propagate-form2.ensures
+  told₂ : propagated_row_of c.propagate_form.result Q ≡ propagate_row (n m) (negated_coefs (A m)) (neg_ℤ (s m).args.b) (P m)
+  told₂ = rw (rhs-negated (s m).requires, signed-negated (A m)) at c.propagate_form.ensures
 
 both-requires : tie.Need-both-requires
 both-requires c κs =
     let t = c.before in
     let f = m t in
-    both-few (n f) (A f) (s f).args.b (B f) _ (P f) (told f) _ (Q t) (told₂ t) (s f).pre.coefs.few
+    both-few (n f) (A f) (s f).args.b (B f) _ (P f) (told f) _ (Q t) (told₂ t) (s f).requires.coefs.few
 
-same-length-2 : tie.Need-same-length-2
+same-length-2 : tie.Need-shape_of-bounds-in_default
 same-length-2 c = search rules
 
-returns-2 : tie.Need-returns-2
+returns-2 : tie.Need-returns-in_default
 returns-2 c =
     let t = c.before.before in
     let f = m t in
     let k = t.before.before in
     ap (λ r. propagated_row_of r (Q t)) c.both.ensures
-    ∙ both-answer (n f) (A f) (s f).args.b (B f) _ (P f) (told f) _ (Q t) (told₂ t) (s f).args.kind k.before.if1.false k.match.keys2
+    ∙ both-answer (n f) (A f) (s f).args.b (B f) _ (P f) (told f) _ (Q t) (told₂ t) (s f).args.kind k.before.if-kind-ne1.false k.in_default.in_default-own.keys2
 
-same-length-3 : tie.Need-same-length-3
+same-length-3 : tie.Need-shape_of-bounds
 same-length-3 c = search rules
 
-returns-3 : tie.Need-returns-3
+returns-3 : tie.Need-returns
 returns-3 c =
-    let f = c.before.before.before.before in
-    none-answer (n f) (A f) (s f).args.b (B f) _ (P f) (told f) (s f).args.kind c.before.before.if1.false c.enum_told.given.1
+    let f = c.before.before.before in
+    none-answer (n f) (A f) (s f).args.b (B f) _ (P f) (told f) (s f).args.kind c.before.if-kind-ne1.false c.in-Infeasible.is
 
-pub propagate-row-spec : {M : Type 1} → statement M
-propagate-row-spec =
+pub propagate_row_spec : {M : Type 1} → statement M
+propagate_row_spec =
     tie.close
     (tie.spec
     propagate-form-requires

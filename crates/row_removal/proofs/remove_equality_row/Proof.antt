@@ -35,7 +35,7 @@ module _ (s : tie.Start) where
   n = length A
 
   b-fits : SFits w32 b
-  b-fits = within-fits w32 tt (rhs-within s.pre.0.rhs)
+  b-fits = within-fits w32 tt (rhs-within s.requires.0.rhs)
 
   -- a sum L that the machine holds, compared with b
   is : {L : ℤ} {sum : ℤ} → SFits w64 sum → sum ≡ L → of_z w64 sum ≡ of_z w64 (to_z w32 (of_z w32 b)) → eq_z L b ≡ true
@@ -44,62 +44,62 @@ module _ (s : tie.Start) where
   isn't : {L : ℤ} {sum : ℤ} → sum ≡ L → (of_z w64 sum ≡ of_z w64 (to_z w32 (of_z w32 b)) → ⊥) → eq_z L b ≡ false
   isn't {L} {sum} e t = eq_z-no L b (λ g. t (ap (of_z w64) (e ∙ g ∙ sym (to_z-of_z {w = w32} b-fits))))
 
-cast-rhs : tie.Need-overflow-cast-rhs
+cast-rhs : tie.Need-overflow_cast-rhs
 cast-rhs c = wide_fits (b-fits c.before)
 
-minimum-activity-requires : tie.Need-minimum-activity-requires
+minimum-activity-requires : tie.Need-minimum_activity-requires
 minimum-activity-requires c κs = search rules
 
-same_length : tie.Need-same-length
+same_length : tie.Need-shape_of-coefs-then-minimum_activity-rhs
 same_length c = search rules
 
-returns : tie.Need-returns
+returns : tie.Need-returns-then-minimum_activity-rhs
 unfolding remove_row_of removal_outcome is_equality
 returns c =
     let m = c.before in
-    let s = m.before.before.before in
-    let e : eq_z (min_activity (n s) (A s) (B s)) (b s) ≡ false = isn't s m.minimum-activity.ensures c.if1.true in
+    let s = m.before.before in
+    let e : eq_z (min_activity (n s) (A s) (B s)) (b s) ≡ false = isn't s m.minimum_activity.ensures c.if-minimum_activity-rhs.true in
     rw (s.requires.1.1, s.requires.1.0, e) (refl, refl)
 
-maximum-activity-requires : tie.Need-maximum-activity-requires
+maximum-activity-requires : tie.Need-maximum_activity-requires
 maximum-activity-requires c κs = search rules
 
-low : (c : tie.Else1) → let s = c.before.before.before.before in eq_z (min_activity (n s) (A s) (B s)) (b s) ≡ true
+low : (c : tie.Else-minimum_activity-rhs) → let s = c.before.before.before in eq_z (min_activity (n s) (A s) (B s)) (b s) ≡ true
 low c =
     let m = c.before in
-    is m.before.before.before (record { sfits = m.minimum-activity.type-inv }) m.minimum-activity.ensures c.if1.false
+    is m.before.before (record { sfits = m.minimum_activity.type_inv }) m.minimum_activity.ensures c.if-minimum_activity-rhs.false
 
-same-length-2 : tie.Need-same-length-2
+same-length-2 : tie.Need-shape_of-coefs-then-maximum_activity-rhs
 same-length-2 c = search rules
 
-returns-2 : tie.Need-returns-2
+returns-2 : tie.Need-returns-then-maximum_activity-rhs
 unfolding remove_row_of removal_outcome is_equality
 returns-2 c =
     let m = c.before in
-    let l = m.before.before in
-    let s = l.before.before.before.before in
-    let e : eq_z (max_activity (n s) (A s) (B s)) (b s) ≡ false = isn't s m.maximum-activity.ensures c.if2.true in
+    let l = m.before in
+    let s = l.before.before.before in
+    let e : eq_z (max_activity (n s) (A s) (B s)) (b s) ≡ false = isn't s m.maximum_activity.ensures c.if-maximum_activity-rhs.true in
     rw (s.requires.1.1, s.requires.1.0, low l, e) (refl, refl)
 
-clear-row-requires : tie.Need-clear-row-requires
+clear-row-requires : tie.Need-clear_row-requires
 clear-row-requires c κs = search rules
 
-same-length-3 : tie.Need-same-length-3
+same-length-3 : tie.Need-shape_of-coefs
 same-length-3 c = search rules
 
-returns-3 : tie.Need-returns-3
+returns-3 : tie.Need-returns
 unfolding remove_row_of removal_outcome is_equality
 returns-3 c =
     let k = c.before in
     let h = k.before.before.before in
     let m = h.before in
-    let l = m.before.before in
-    let s = l.before.before.before.before in
-    let e : eq_z (max_activity (n s) (A s) (B s)) (b s) ≡ true = is s (record { sfits = m.maximum-activity.type-inv }) m.maximum-activity.ensures h.if2.false in
-    rw (s.requires.1.1, s.requires.1.0, low l, e, k.clear-row.ensures.1.0, k.clear-row.ensures.1.1) (refl, refl)
+    let l = m.before in
+    let s = l.before.before.before in
+    let e : eq_z (max_activity (n s) (A s) (B s)) (b s) ≡ true = is s (record { sfits = m.maximum_activity.type_inv }) m.maximum_activity.ensures h.if-maximum_activity-rhs.false in
+    rw (s.requires.1.1, s.requires.1.0, low l, e, k.clear_row.ensures.1.0, k.clear_row.ensures.1.1) (refl, refl)
 
-pub remove-equality-row-spec : {M : Type 1} → statement M
-remove-equality-row-spec =
+pub remove_equality_row_spec : {M : Type 1} → statement M
+remove_equality_row_spec =
     tie.close
     (tie.spec
     cast-rhs

@@ -26,39 +26,39 @@ use Rattle.row.proofs.RowLoops.{rhs-within}
 use Rattle.row_removal.proofs.remove_redundant_row.Statement.{statement}
 use Rattle.row_removal.proofs.remove_redundant_row.Tie as tie
 
-is-empty-requires : tie.Need-is-empty-requires
+is-empty-requires : tie.Need-is_empty-requires
 is-empty-requires c κs = search rules
 
-returns : tie.Need-returns
+returns : tie.Need-returns-then-is_empty
 unfolding removal_outcome
 returns c =
     let s = c.before.before in
-    let e = sym (c.before.is-empty.ensures _ s.requires.coefs.some s.requires.coefs.box) ∙ c.if1.true in
+    let e = sym (c.before.is_empty.ensures _ s.requires.coefs.some s.requires.coefs.box) ∙ c.if-is_empty.true in
     rw (remove-kinded-empty _ (row_with _ _ s.args.kind.now) _ e) (refl, refl)
 
 -- the box is not empty
-some : (c : tie.Else1) → let s = c.before.before in is_empty (length s.args.coefs.now) s.args.bounds.now ≡ false
-some c = let s = c.before.before in sym (c.before.is-empty.ensures _ s.requires.coefs.some s.requires.coefs.box) ∙ c.if1.false
+some : (c : tie.Else-is_empty) → let s = c.before.before in is_empty (length s.args.coefs.now) s.args.bounds.now ≡ false
+some c = let s = c.before.before in sym (c.before.is_empty.ensures _ s.requires.coefs.some s.requires.coefs.box) ∙ c.if-is_empty.false
 
-remove-equality-row-requires : tie.Need-remove-equality-row-requires
+remove-equality-row-requires : tie.Need-remove_equality_row-requires
 remove-equality-row-requires c κs =
     let t = c.before.before.before in
     let e = t.before.before in
-    (e.before.before.requires, (some e, t.if2.true))
+    (e.before.before.requires, (some e, t.if-kind-eq1.true))
 
-same_length : tie.Need-same-length
+same_length : tie.Need-shape_of-coefs-then-kind-eq1
 same_length c = search rules
 
-returns-2 : tie.Need-returns-2
+returns-2 : tie.Need-returns-then-kind-eq1
 returns-2 c = search rules
 
-maximum-activity-requires : tie.Need-maximum-activity-requires
+maximum-activity-requires : tie.Need-maximum_activity-most-requires
 maximum-activity-requires c κs = search rules
 
 -- a ≤ row in a box that is not empty, with its greatest activity
-module _ (c : tie.After-maximum-activity) where
+module _ (c : tie.After-maximum_activity-most) where
   abbrev s : tie.Start
-  s = c.before.before.before.before.before.before
+  s = c.before.before.before.before.before
 
   abbrev A : List ℤ
   A = s.args.coefs.now
@@ -73,49 +73,49 @@ module _ (c : tie.After-maximum-activity) where
   n = length A
 
   le : eqb s.args.kind.now 1 ≡ false
-  le = le-kind s.args.kind.now c.before.before.if2.false
+  le = le-kind s.args.kind.now c.before.if-kind-eq1.false
 
   nonempty : is_empty n B ≡ false
-  nonempty = some c.before.before.before.before
+  nonempty = some c.before.before.before
 
   b-fits : SFits w32 b
-  b-fits = within-fits w32 tt (rhs-within s.pre.rhs)
+  b-fits = within-fits w32 tt (rhs-within s.requires.rhs)
 
   rhs-is : to_z w64 (of_z w64 (to_z w32 (of_z w32 b))) ≡ b
   rhs-is = read_wide b-fits
 
-  most-is : to_z w64 (of_z w64 c.maximum-activity.result) ≡ max_activity n A B
-  most-is = to_z-of_z {w = w64} (record { sfits = c.maximum-activity.type-inv }) ∙ c.maximum-activity.ensures
+  most-is : to_z w64 (of_z w64 c.maximum_activity-most.result) ≡ max_activity n A B
+  most-is = to_z-of_z {w = w64} (record { sfits = c.maximum_activity-most.type_inv }) ∙ c.maximum_activity-most.ensures
 
-cast-if3 : tie.Need-overflow-cast-if3
+cast-if3 : tie.Need-overflow_cast-b
 cast-if3 c = wide_fits (b-fits c.before)
 
-same-length-2 : tie.Need-same-length-2
+same-length-2 : tie.Need-shape_of-coefs-then-b-most
 same-length-2 c = search rules
 
-returns-3 : tie.Need-returns-3
+returns-3 : tie.Need-returns-then-b-most
 unfolding remove_row_of remove_redundant_row removal_outcome is_equality
 returns-3 c =
     let m = c.before.before in
-    rw (le m, nonempty m, le-isn't (lt-read (rhs-is m) (most-is m) c.if3.true)) (refl, refl)
+    rw (le m, nonempty m, le-isn't (lt-read (rhs-is m) (most-is m) c.if-b-most.true)) (refl, refl)
 
-clear-row-requires : tie.Need-clear-row-requires
+clear-row-requires : tie.Need-clear_row-requires
 clear-row-requires c κs = search rules
 
-same-length-3 : tie.Need-same-length-3
+same-length-3 : tie.Need-shape_of-coefs
 same-length-3 c = search rules
 
-returns-4 : tie.Need-returns-4
+returns-4 : tie.Need-returns
 unfolding remove_row_of remove_redundant_row is_equality
 returns-4 c =
     let k = c.before in
     let h = k.before.before.before in
     let m = h.before.before in
-    let e : le_z (max_activity (n m) (A m) (B m)) (b m) ≡ true = le_is (ge-read (rhs-is m) (most-is m) h.if3.false) in
-    rw (le m, nonempty m, e, k.clear-row.ensures.1.0, k.clear-row.ensures.1.1) (k.clear-row.ensures.0, refl)
+    let e : le_z (max_activity (n m) (A m) (B m)) (b m) ≡ true = le_is (ge-read (rhs-is m) (most-is m) h.if-b-most.false) in
+    rw (le m, nonempty m, e, k.clear_row.ensures.1.0, k.clear_row.ensures.1.1) (k.clear_row.ensures.0, refl)
 
-pub remove-redundant-row-spec : {M : Type 1} → statement M
-remove-redundant-row-spec =
+pub remove_redundant_row_spec : {M : Type 1} → statement M
+remove_redundant_row_spec =
     tie.close
     (tie.spec
     is-empty-requires

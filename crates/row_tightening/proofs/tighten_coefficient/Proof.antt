@@ -32,27 +32,27 @@ use Rattle.row.proofs.RowLoops.{coefs-small, max-activity-small, rhs-within}
 use Rattle.row_tightening.proofs.tighten_coefficient.Statement.{statement}
 use Rattle.row_tightening.proofs.tighten_coefficient.Tie as tie
 
-is-empty-requires : tie.Need-is-empty-requires
+is-empty-requires : tie.Need-is_empty-requires
 is-empty-requires c κs = search rules
 
-returns : tie.Need-returns
+returns : tie.Need-returns-then-is_empty
 unfolding tightening_outcome
 returns c =
     let s = c.before.before in
-    let e = sym (c.before.is-empty.ensures _ s.requires.0.coefs.some s.requires.0.coefs.box) ∙ c.if1.true in
+    let e = sym (c.before.is_empty.ensures _ s.requires.0.coefs.some s.requires.0.coefs.box) ∙ c.if-is_empty.true in
     rw (tighten-kinded-empty _ (row_with _ _ s.args.kind) _ s.args.k e) (refl, refl)
 
-returns-2 : tie.Need-returns-2
+returns-2 : tie.Need-returns-then-kind-eq1
 unfolding tighten_row_of tightening_outcome is_equality
 returns-2 c =
     let s = c.before.before.before in
-    let e = sym (c.before.before.is-empty.ensures _ s.requires.0.coefs.some s.requires.0.coefs.box) ∙ c.before.if1.false in
-    rw (c.if2.true, e) (refl, refl)
+    let e = sym (c.before.before.is_empty.ensures _ s.requires.0.coefs.some s.requires.0.coefs.box) ∙ c.before.if-is_empty.false in
+    rw (c.if-kind-eq1.true, e) (refl, refl)
 
-mul-if3 : tie.Need-overflow-mul-if3
+mul-if3 : tie.Need-offset_bounds-coefs-k
 mul-if3 c = search rules
 
-slice-copy-out-if3 : tie.Need-slice-copy-out-if3
+slice-copy-out-if3 : tie.Need-slice_copy_out-t-13
 slice-copy-out-if3 c = search rules
 
 -- a coefficient of 0 stays: no b lies between L and L - 0
@@ -63,25 +63,25 @@ stays-zero A k L b = go (lt-or-ge b L)
     go (inl h) = stays-loose-neg A k (pos 0) L b (≤ℤ_refl (pos 0)) (simp zify (omega zarith))
     go (inr h) = stays-redundant A k (pos 0) L b h
 
-returns-3 : tie.Need-returns-3
+returns-3 : tie.Need-returns-then-coefs-k-eq0
 unfolding tighten_row_of tighten_coefficient tightening_outcome is_equality
 returns-3 c =
     let e = c.before.before in
     let s = e.before.before.before in
     let A = s.args.coefs.now in
-    let f : SFits w32 (at A s.args.k) = record { sfits = c.before.if32.given } in
-    let z = eq-read w32 f (sfits_lit {z = pos 0} tt) c.if3.true in
-    let n = sym (e.before.before.is-empty.ensures _ s.requires.0.coefs.some s.requires.0.coefs.box) ∙ e.before.if1.false in
-    rw (le-kind s.args.kind e.if2.false, n, z, stays-zero A s.args.k (max_activity (length A) A s.args.bounds.now) s.args.b.now) (refl, refl)
+    let f : SFits w32 (at A s.args.k) = record { sfits = c.before.t13-1.given } in
+    let z = eq-read w32 f (sfits_lit {z = pos 0} tt) c.if-coefs-k-eq0.true in
+    let n = sym (e.before.before.is_empty.ensures _ s.requires.0.coefs.some s.requires.0.coefs.box) ∙ e.before.if-is_empty.false in
+    rw (le-kind s.args.kind e.if-kind-eq1.false, n, z, stays-zero A s.args.k (max_activity (length A) A s.args.bounds.now) s.args.b.now) (refl, refl)
 
-maximum-activity-requires : tie.Need-maximum-activity-requires
+maximum-activity-requires : tie.Need-maximum_activity-most-requires
 maximum-activity-requires c κs = search rules
 
 -- the row in a box that is not empty, its greatest activity L and the coefficient a of x_k; most, rhs and coef are L, b and a as the
 -- machine has them
-module _ (c : tie.After-rhs) where
+module _ (c : tie.After-rhs-1) where
   abbrev s : tie.Start
-  s = c.before.before.before.before.before.before.before.before
+  s = c.before.before.before.before.before.before.before
 
   abbrev A : List ℤ
   A = s.args.coefs.now
@@ -102,7 +102,7 @@ module _ (c : tie.After-rhs) where
   a = at A k
 
   abbrev most : ℤ
-  most = to_z w64 (of_z w64 c.before.maximum-activity.result)
+  most = to_z w64 (of_z w64 c.before.maximum_activity-most.result)
 
   abbrev rhs : ℤ
   rhs = to_z w64 (of_z w64 (to_z w32 (of_z w32 b)))
@@ -112,23 +112,23 @@ module _ (c : tie.After-rhs) where
 
   some : is_empty (length A) B ≡ false
   some =
-      sym (c.before.before.before.before.before.before.before.is-empty.ensures _ s.pre.0.coefs.some s.pre.0.coefs.box)
-      ∙ c.before.before.before.before.before.before.if1.false
+      sym (c.before.before.before.before.before.before.is_empty.ensures _ s.requires.0.coefs.some s.requires.0.coefs.box)
+      ∙ c.before.before.before.before.before.if-is_empty.false
 
   le : eqb s.args.kind 1 ≡ false
-  le = le-kind s.args.kind c.before.before.before.before.before.if2.false
+  le = le-kind s.args.kind c.before.before.before.before.if-kind-eq1.false
 
   L-small : Within 5_000_000_000_000 L
-  L-small = max-activity-small s.pre.0.coefs
+  L-small = max-activity-small s.requires.0.coefs
 
   a_small : Within 1_000_000 a
-  a_small = coefs-small s.pre.0.coefs k
+  a_small = coefs-small s.requires.0.coefs k
 
   b-small : Within 1_000_000_000 b
-  b-small = rhs-within s.pre.0.rhs
+  b-small = rhs-within s.requires.0.rhs
 
   most-is : most ≡ L
-  most-is = to_z-of_z {w = w64} (record { sfits = c.before.maximum-activity.type-inv }) ∙ c.before.maximum-activity.ensures
+  most-is = to_z-of_z {w = w64} (record { sfits = c.before.maximum_activity-most.type_inv }) ∙ c.before.maximum_activity-most.ensures
 
   rhs-is : rhs ≡ b
   rhs-is = read_wide (within-fits w32 tt b-small)
@@ -148,99 +148,99 @@ module _ (c : tie.After-rhs) where
   under-b : rhs -ℤ most ≡ b -ℤ L
   under-b = ap₂ ◌-ℤ◌ rhs-is most-is
 
-cast-rhs : tie.Need-overflow-cast-rhs
+cast-rhs : tie.Need-overflow_cast-rhs
 cast-rhs c = wide_fits (within-fits w32 tt (b-small c))
 
-same_length : tie.Need-same-length
+same_length : tie.Need-shape_of-coefs-then-most-rhs
 same_length c = search rules
 
-returns-4 : tie.Need-returns-4
+returns-4 : tie.Need-returns-then-most-rhs
 unfolding tighten_row_of tighten_coefficient tightening_outcome is_equality
 returns-4 c =
     let r = c.before in
-    rw (le r, some r, stays-redundant (A r) (k r) _ _ _ (le_read (most-is r) (rhs-is r) c.if4.true)) (refl, refl)
+    rw (le r, some r, stays-redundant (A r) (k r) _ _ _ (le_read (most-is r) (rhs-is r) c.if-most-rhs.true)) (refl, refl)
 
-mul-a : tie.Need-overflow-mul-a
+mul-a : tie.Need-offset_bounds-coefs-k-2
 mul-a c = search rules
 
-slice-copy-out-a : tie.Need-slice-copy-out-a
+slice-copy-out-a : tie.Need-slice_copy_out-a
 slice-copy-out-a c = search rules
 
-cast-a : tie.Need-overflow-cast-a
+cast-a : tie.Need-overflow_cast-a
 cast-a c = wide_fits (within-fits w32 tt (a_small c.before.before))
 
-broken : (c : tie.Else4) → b c.before <ℤ L c.before
-broken c = gt-read (most-is c.before) (rhs-is c.before) c.if4.false
+broken : (c : tie.Else-most-rhs) → b c.before <ℤ L c.before
+broken c = gt-read (most-is c.before) (rhs-is c.before) c.if-most-rhs.false
 
 -- ---- a above 0
 
-positive : (c : tie.Then5) → pos 0 <ℤ a c.before.before.before
-positive c = lt-read refl (coef-is c.before.before.before) c.if5.true
+positive : (c : tie.Then-a-gt0) → pos 0 <ℤ a c.before.before.before
+positive c = lt-read refl (coef-is c.before.before.before) c.if-a-gt0.true
 
-sub-if6 : tie.Need-overflow-sub-if6
+sub-if6 : tie.Need-overflow_sub-most
 sub-if6 c = let r = c.before.before.before in fits_read (less-a r) (within-fits w64 tt (within-sub (L-small r) (a_small r)))
 
-same-length-2 : tie.Need-same-length-2
+same-length-2 : tie.Need-shape_of-coefs-then-rhs-most
 same-length-2 c = search rules
 
-returns-5 : tie.Need-returns-5
+returns-5 : tie.Need-returns-then-rhs-most
 unfolding tighten_row_of tighten_coefficient tightening_outcome is_equality
 returns-5 c =
     let r = c.before.before.before.before in
-    let h = le_read (rhs-is r) (read w64 (sub-if6 c.before) (less-a r)) c.if6.true in
+    let h = le_read (rhs-is r) (read w64 (sub-if6 c.before) (less-a r)) c.if-rhs-most.true in
     rw (le r, some r, stays-loose-pos (A r) (k r) _ _ _ (positive c.before) h) (refl, refl)
 
-sub-if7 : tie.Need-overflow-sub-if7
+sub-if7 : tie.Need-overflow_sub-most-then-a-gt0
 sub-if7 c = sub-if6 c.before
 
-module _ (c : tie.Else6) where
-  abbrev row : tie.After-rhs
+module _ (c : tie.Else-rhs-most) where
+  abbrev row : tie.After-rhs-1
   row = c.before.before.before.before
 
   needed : (L row -ℤ a row) <ℤ b row
-  needed = gt-read (rhs-is row) (read w64 (sub-if6 c.before) (less-a row)) c.if6.false
+  needed = gt-read (rhs-is row) (read w64 (sub-if6 c.before) (less-a row)) c.if-rhs-most.false
 
-same-length-3 : tie.Need-same-length-3
+same-length-3 : tie.Need-shape_of-coefs-then-most-a-lt-MIN_RHS
 same-length-3 c = search rules
 
-returns-6 : tie.Need-returns-6
+returns-6 : tie.Need-returns-then-most-a-lt-MIN_RHS
 unfolding tighten_row_of tighten_coefficient tightening_outcome is_equality
 returns-6 c =
     let e = c.before in
     let r = row e in
-    let h : (L r -ℤ a r) <ℤ min_rhs = lt-read (read w64 (sub-if7 e) (less-a r)) refl c.if7.true in
+    let h : (L r -ℤ a r) <ℤ min_rhs = lt-read (read w64 (sub-if7 e) (less-a r)) refl c.if-most-a-lt-MIN_RHS.true in
     rw (le r, some r, stays-limit (A r) (k r) _ _ _ (positive e.before) (broken e.before.before.before) (needed e) h) (refl, refl)
 
-in-range : (c : tie.Else7) → min_rhs ≤ℤ (L (row c.before) -ℤ a (row c.before))
-in-range c = ge-read (read w64 (sub-if7 c.before) (less-a (row c.before))) refl c.if7.false
+in-range : (c : tie.Else-most-a-lt-MIN_RHS) → min_rhs ≤ℤ (L (row c.before) -ℤ a (row c.before))
+in-range c = ge-read (read w64 (sub-if7 c.before) (less-a (row c.before))) refl c.if-most-a-lt-MIN_RHS.false
 
-sub-coefs : tie.Need-overflow-sub-coefs
+sub-coefs : tie.Need-overflow_sub-coefs
 sub-coefs c = let r = row c.before in fits_read (over-b r) (within-fits w64 tt (within-sub (L-small r) (b-small r)))
 
-cast-coefs : tie.Need-overflow-cast-coefs
+cast-coefs : tie.Need-overflow_cast-coefs
 cast-coefs c =
     let e = c.before in
     let r = row e in
     fits_read (read w64 (sub-coefs c) (over-b r)) (within-fits w32 tt (new-coef-pos _ _ _ (a_small r) (broken e.before.before.before) (needed e)))
 
-mul-b : tie.Need-overflow-mul-b
+mul-b : tie.Need-offset_bounds-coefs-k-then-a-gt0
 mul-b c = search rules
 
-slice-set-from-b : tie.Need-slice-set-from-b
+slice-set-from-b : tie.Need-bounds-coefs-k
 slice-set-from-b c = search rules
 
-sub-b : tie.Need-overflow-sub-b
+sub-b : tie.Need-overflow_sub-b
 sub-b c = sub-if7 c.before
 
-cast-b : tie.Need-overflow-cast-b
+cast-b : tie.Need-overflow_cast-b
 cast-b c =
     let r = row c.before in
     fits_read (read w64 (sub-b c) (less-a r)) (within-fits w32 tt (new-rhs (b-small r) (in-range c) (needed c.before)))
 
-same-length-4 : tie.Need-same-length-4
+same-length-4 : tie.Need-shape_of-coefs-then-a-gt0
 same-length-4 c = search rules
 
-returns-7 : tie.Need-returns-7
+returns-7 : tie.Need-returns-then-a-gt0
 unfolding tighten_row_of tighten_coefficient tightening_outcome is_equality
 returns-7 c =
     let e = c.before in
@@ -251,47 +251,47 @@ returns-7 c =
 
 -- ---- a at most 0
 
-not-positive : (c : tie.Else5) → a c.before.before.before ≤ℤ pos 0
-not-positive c = ge-read refl (coef-is c.before.before.before) c.if5.false
+not-positive : (c : tie.Else-a-gt0) → a c.before.before.before ≤ℤ pos 0
+not-positive c = ge-read refl (coef-is c.before.before.before) c.if-a-gt0.false
 
-add-if8 : tie.Need-overflow-add-if8
+add-if8 : tie.Need-overflow_add-most
 add-if8 c = let r = c.before.before.before in fits_read (plus-a r) (within-fits w64 tt (within-add (L-small r) (a_small r)))
 
-same-length-5 : tie.Need-same-length-5
+same-length-5 : tie.Need-shape_of-coefs-then-rhs-most-2
 same-length-5 c = search rules
 
-returns-8 : tie.Need-returns-8
+returns-8 : tie.Need-returns-then-rhs-most-2
 unfolding tighten_row_of tighten_coefficient tightening_outcome is_equality
 returns-8 c =
     let r = c.before.before.before.before in
-    let h = le_read (rhs-is r) (read w64 (add-if8 c.before) (plus-a r)) c.if8.true in
+    let h = le_read (rhs-is r) (read w64 (add-if8 c.before) (plus-a r)) c.if-rhs-most-2.true in
     rw (le r, some r, stays-loose-neg (A r) (k r) _ _ _ (not-positive c.before) h) (refl, refl)
 
-module _ (c : tie.Else8) where
-  abbrev row₂ : tie.After-rhs
+module _ (c : tie.Else-rhs-most-2) where
+  abbrev row₂ : tie.After-rhs-1
   row₂ = c.before.before.before.before
 
   needed₂ : (L row₂ +ℤ a row₂) <ℤ b row₂
-  needed₂ = gt-read (rhs-is row₂) (read w64 (add-if8 c.before) (plus-a row₂)) c.if8.false
+  needed₂ = gt-read (rhs-is row₂) (read w64 (add-if8 c.before) (plus-a row₂)) c.if-rhs-most-2.false
 
-sub-coefs-2 : tie.Need-overflow-sub-coefs-2
+sub-coefs-2 : tie.Need-overflow_sub-coefs-2
 sub-coefs-2 c = let r = row₂ c in fits_read (under-b r) (within-fits w64 tt (within-sub (b-small r) (L-small r)))
 
-cast-coefs-2 : tie.Need-overflow-cast-coefs-2
+cast-coefs-2 : tie.Need-overflow_cast-coefs-2
 cast-coefs-2 c =
     let r = row₂ c in
     fits_read (read w64 (sub-coefs-2 c) (under-b r)) (within-fits w32 tt (new-coef-neg _ _ _ (a_small r) (broken c.before.before.before) (needed₂ c)))
 
-mul-t11 : tie.Need-overflow-mul-t11
+mul-t11 : tie.Need-offset_bounds-coefs-k-3
 mul-t11 c = search rules
 
-slice-set-from-coefs : tie.Need-slice-set-from-coefs
+slice-set-from-coefs : tie.Need-bounds-coefs-k-2
 slice-set-from-coefs c = search rules
 
-same-length-6 : tie.Need-same-length-6
+same-length-6 : tie.Need-shape_of-coefs
 same-length-6 c = search rules
 
-returns-9 : tie.Need-returns-9
+returns-9 : tie.Need-returns
 unfolding tighten_row_of tighten_coefficient tightening_outcome is_equality
 returns-9 c =
     let r = row₂ c in
@@ -299,8 +299,8 @@ returns-9 c =
     let new-a = read w32 (cast-coefs-2 c) (read w64 (sub-coefs-2 c) (under-b r)) in
     rw (le r, some r, new) (refl, ap (λ (z : ℤ). row_with (set (A r) (k r) z) (b r) (s r).args.kind) new-a)
 
-pub tighten-coefficient-spec : {M : Type 1} → statement M
-tighten-coefficient-spec =
+pub tighten_coefficient_spec : {M : Type 1} → statement M
+tighten_coefficient_spec =
     tie.close
     (tie.spec
     is-empty-requires

@@ -8,41 +8,41 @@ use borrow.Author.Rules.{rules}
 use Rattle.sparse_conversion.proofs.convert_first.Statement.{statement}
 use Rattle.sparse_conversion.proofs.convert_first.Tie as tie
 
-read-first-requires : tie.Need-read-first-requires
+read-first-requires : tie.Need-read_first-requires
 read-first-requires c κs = search rules
 
 write-requires : tie.Need-write-requires
 write-requires c κs = search rules
 
-same_length : tie.Need-same-length
+same_length : tie.Need-shape_of-bounds
 same_length c = search rules
 
-same-length-2 : tie.Need-same-length-2
+same-length-2 : tie.Need-shape_of-coefs
 same-length-2 c = search rules
 
-same-length-3 : tie.Need-same-length-3
+same-length-3 : tie.Need-shape_of-rhs
 same-length-3 c = search rules
 
-same-length-4 : tie.Need-same-length-4
+same-length-4 : tie.Need-shape_of-to
 same-length-4 c = search rules
 
 -- what is read is the book's model
-same : (w : tie.After-read-first)
-    → let a = w.before.before.before.before.before.before.before.args in
-    let r = w.read_first.new.1.1.1 in
-    model_of a.n a.m r.0 (rows_of r.1.0 r.1.1.0 a.kinds.now) ≡ model_in a.n a.m a.from.now
+same : (w : tie.After-read_first)
+    → let a = w.args in
+    let r = w.read_first.new in
+    model_of a.n a.m r.bounds (rows_of r.coefs r.rhs a.kinds.now) ≡ model_in a.n a.m a.from.now
 unfolding model_in
-same w = let e = w.read_first.ensures in rw (e.0, e.1.0, e.1.1, w.before.before.before.before.before.before.before.requires.1.1)
+same w = let e = w.read_first.ensures in rw (e.0, e.1.0, e.1.1, w.requires.1.1)
 
 returns : tie.Need-returns
 returns c =
-    let w = c.before.before.before.before.before.before.before.before.before.before in
-    let cs = w.before.before.before.before.before.before.before.args.to.now in
-    let e = c.before.before.write.ensures in
+    let w = c.before.before.before.before.before.before.before in
+    let cs = w.args.to.now in
+    let e = c.write.ensures in
     (e.0 ∙ ap (λ (M : Model). sparse_write_call M cs) (same w), e.1.0 ∙ ap (λ (M : Model). sparse_written M cs) (same w))
 
-pub convert-first-spec : {M : Type 1} → statement M
-convert-first-spec =
+pub convert_first_spec : {M : Type 1} → statement M
+convert_first_spec =
     tie.close
     (tie.spec
     read-first-requires

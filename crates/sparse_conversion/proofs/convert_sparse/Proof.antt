@@ -8,44 +8,44 @@ use borrow.Author.Rules.{rules}
 use Rattle.sparse_conversion.proofs.convert_sparse.Statement.{statement}
 use Rattle.sparse_conversion.proofs.convert_sparse.Tie as tie
 
-read-numbers-requires : tie.Need-read-numbers-requires
+read-numbers-requires : tie.Need-read_numbers-requires
 read-numbers-requires c κs = search rules
 
 write-requires : tie.Need-write-requires
 write-requires c κs = search rules
 
-same_length : tie.Need-same-length
+same_length : tie.Need-shape_of-bounds
 same_length c = search rules
 
-same-length-2 : tie.Need-same-length-2
+same-length-2 : tie.Need-shape_of-coefs
 same-length-2 c = search rules
 
-same-length-3 : tie.Need-same-length-3
+same-length-3 : tie.Need-shape_of-rhs
 same-length-3 c = search rules
 
-same-length-4 : tie.Need-same-length-4
+same-length-4 : tie.Need-shape_of-kinds
 same-length-4 c = search rules
 
-same-length-5 : tie.Need-same-length-5
+same-length-5 : tie.Need-shape_of-to
 same-length-5 c = search rules
 
 -- what is read is the book's model
-same : (w : tie.After-read-numbers)
-    → let a = w.before.before.before.before.before.before.before.before.args in
-    let r = w.read-numbers.new.1.1.1 in
-    model_of a.n a.m r.0 (rows_of r.1.0 r.1.1.0 r.1.1.1.0) ≡ sparse_model_in a.n a.m a.from.now
+same : (w : tie.After-read_numbers)
+    → let a = w.args in
+    let r = w.read_numbers.new in
+    model_of a.n a.m r.bounds (rows_of r.coefs r.rhs r.kinds) ≡ sparse_model_in a.n a.m a.from.now
 unfolding sparse_model_in
-same w = let e = w.read-numbers.ensures in rw (e.0, e.1.0, e.1.1.0, e.1.1.1)
+same w = let e = w.read_numbers.ensures in rw (e.0, e.1.0, e.1.1.0, e.1.1.1)
 
 returns : tie.Need-returns
 returns c =
-    let w = c.before.before.before.before.before.before.before.before.before.before.before.before.before in
-    let cs = w.before.before.before.before.before.before.before.before.args.to.now in
-    let e = c.before.before.write.ensures in
+    let w = c.before.before.before.before.before.before.before.before.before in
+    let cs = w.args.to.now in
+    let e = c.write.ensures in
     (e.0 ∙ ap (λ (M : Model). write_call M cs) (same w), e.1.0 ∙ ap (λ (M : Model). book_written M cs) (same w))
 
-pub convert-sparse-spec : {M : Type 1} → statement M
-convert-sparse-spec =
+pub convert_sparse_spec : {M : Type 1} → statement M
+convert_sparse_spec =
     tie.close
     (tie.spec
     read-numbers-requires

@@ -9,34 +9,34 @@ use borrow.Author.Rules.{rules}
 use Rattle.sparse_conversion.proofs.read_first.Statement.{statement}
 use Rattle.sparse_conversion.proofs.read_first.Tie as tie
 
-read-integers-requires : tie.Need-read-integers-requires
+read-integers-requires : tie.Need-read_integers-requires
 read-integers-requires c κs = search rules
 
-read-coefs-requires : tie.Need-read-coefs-requires
+read-coefs-requires : tie.Need-read_coefs-requires
 read-coefs-requires c κs = search rules
 
-mul-read-integers : tie.Need-overflow-mul-read-integers
+mul-read-integers : tie.Need-overflow_mul-n
 mul-read-integers c = search rules
 
-mul-read-integers-2 : tie.Need-overflow-mul-read-integers-2
+mul-read-integers-2 : tie.Need-overflow_mul-n-2
 mul-read-integers-2 c = search rules
 
-add-read-integers : tie.Need-overflow-add-read-integers
+add-read-integers : tie.Need-overflow_add-n
 add-read-integers c = search rules
 
-read-integers-requires-2 : tie.Need-read-integers-requires-2
+read-integers-requires-2 : tie.Need-read_integers-requires-2
 unfolding row_place
 read-integers-requires-2 c κs = λ i h.
     let s = c.before.before.before.before.before.before.before.before in
     omega (arith, s.requires.0.body, s.requires.1.2, row_within s.args.n s.args.m i (omega (arith, s.requires.1.2)))
 
-same_length : tie.Need-same-length
+same_length : tie.Need-shape_of-bounds
 same_length c = search rules
 
-same-length-2 : tie.Need-same-length-2
+same-length-2 : tie.Need-shape_of-coefs
 same-length-2 c = search rules
 
-same-length-3 : tie.Need-same-length-3
+same-length-3 : tie.Need-shape_of-rhs
 same-length-3 c = search rules
 
 returns : tie.Need-returns
@@ -47,12 +47,12 @@ returns c =
     let s = b.before.before.before in
     let n = s.args.n in
     let bs = s.args.book.now in (
-      b.read-integers.ensures ∙ ap (λ (w : ℕ). integers_at 0 4 w bs) s.requires.1.0,
-      (f.read-coefs.ensures, c.before.read-integers2.ensures ∙ ap (λ (k : ℕ). integers_at (8 * n) (4 + 4 * n) k bs) s.requires.1.2),
+      b.read_integers.ensures ∙ ap (λ (w : ℕ). integers_at 0 4 w bs) s.requires.1.0,
+      (f.read_coefs.ensures, c.read_integers-2.ensures ∙ ap (λ (k : ℕ). integers_at (8 * n) (4 + 4 * n) k bs) s.requires.1.2),
     )
 
-pub read-first-spec : {M : Type 1} → statement M
-read-first-spec =
+pub read_first_spec : {M : Type 1} → statement M
+read_first_spec =
     tie.close
     (tie.spec
     read-integers-requires

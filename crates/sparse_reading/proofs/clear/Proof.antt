@@ -10,47 +10,47 @@ use native.Mathlib.Omega.{arith}
 use Rattle.sparse_reading.proofs.clear.Statement.{statement}
 use Rattle.sparse_reading.proofs.clear.Tie as tie
 
-abbrev invariant-loop : tie.invariant-loop
+abbrev invariant-loop : tie.invariant-loop-j
 invariant-loop row₀ j₀ row j = (j ≤ length row₀) × (length row ≡ length row₀) × (take j row ≡ replicate j (pos 0))
 
-abbrev decreases-loop : tie.decreases-loop
+abbrev decreases-loop : tie.decreases-loop-j
 decreases-loop row₀ j₀ row j = length row₀ - j
 
-loop-holds : tie.Need-loop-init invariant-loop decreases-loop
+loop-holds : tie.Need-loop-j-init invariant-loop decreases-loop
 loop-holds c = (omega arith, refl, refl)
 
-mul-row : tie.Need-overflow-mul-row invariant-loop decreases-loop
+mul-row : tie.Need-offset_bounds-row-j invariant-loop decreases-loop
 mul-row c = omega arith
 
-slice-set-of-row : tie.Need-slice-set-of-row invariant-loop decreases-loop
+slice-set-of-row : tie.Need-slice_set_of-row invariant-loop decreases-loop
 slice-set-of-row c = omega arith
 
-add-j : tie.Need-overflow-add-j invariant-loop decreases-loop
+add-j : tie.Need-overflow_add-j invariant-loop decreases-loop
 add-j c = omega arith
 
-loop-less : tie.Need-loop-smaller invariant-loop decreases-loop
+loop-less : tie.Need-loop-j-smaller invariant-loop decreases-loop
 loop-less c = omega arith
 
-loop-again : tie.Need-loop-preserved invariant-loop decreases-loop
+loop-again : tie.Need-loop-j-preserved invariant-loop decreases-loop
 loop-again c =
-    let xs = c.before.loop.row in
-    let j = c.before.loop.j in
+    let xs = c.loop-j.row in
+    let j = c.loop-j.j in
     let z : ℤ = pos 0 in (
       omega arith,
-      length-set xs j z ∙ c.before.loop.invariant.1,
+      length-set xs j z ∙ c.loop-j.invariant.1,
       ap (λ (k : ℕ). take k (set xs j z)) (add-one j) ∙ take-suc-set xs j z (omega arith)
-          ∙ ap (λ (ys : List ℤ). ys ++ (z ∷ [])) c.before.loop.invariant.2 ∙ replicate-append-replicate j 1 z,
+          ∙ ap (λ (ys : List ℤ). ys ++ (z ∷ [])) c.loop-j.invariant.2 ∙ replicate-append-replicate j 1 z,
     )
 
-same_length : tie.Need-same-length invariant-loop decreases-loop
+same_length : tie.Need-shape_of-row invariant-loop decreases-loop
 same_length c = omega arith
 
 returns : tie.Need-returns invariant-loop decreases-loop
 returns c =
-    let xs = c.before.loop.row in
-    let j = c.before.loop.j in
-    let end : j ≡ length c.before.before.args.row.now = omega arith in
-    sym (take_all j xs (omega arith)) ∙ c.before.loop.invariant.2 ∙ ap (λ (k : ℕ). replicate k (pos 0)) end
+    let xs = c.loop-j.row in
+    let j = c.loop-j.j in
+    let end : j ≡ length c.args.row.now = omega arith in
+    sym (take_all j xs (omega arith)) ∙ c.loop-j.invariant.2 ∙ ap (λ (k : ℕ). replicate k (pos 0)) end
 
 pub clear_spec : {M : Type 1} → statement M
 clear_spec =

@@ -11,42 +11,42 @@ use borrow.Author.Rules.{rules}
 use Rattle.sparse_reading.proofs.layout_fault.Statement.{statement}
 use Rattle.sparse_reading.proofs.layout_fault.Tie as tie
 
-head-fault-requires : tie.Need-head-fault-requires
+head-fault-requires : tie.Need-head_fault-head-requires
 head-fault-requires c κs = search rules
 
-returns : tie.Need-returns
+returns : tie.Need-returns-then-head-ne0
 unfolding sparse_layout_checks
-returns c = stops _ _ c.before.head-fault.ensures c.if1.true
+returns c = stops _ _ c.head_fault-head.ensures c.if-head-ne0.true
 
 -- checks 1 to 4 are passed
-headed : (c : tie.Else1) → SparseHead c.before.before.before.args.book.now
-headed c = (sparse-head-test _).0 (sym c.before.head-fault.ensures ∙ c.if1.false)
+headed : (c : tie.Else-head-ne0) → SparseHead c.args.book.now
+headed c = (sparse-head-test _).0 (sym c.head_fault-head.ensures ∙ c.if-head-ne0.false)
 
 -- so the book holds its rows
-holds : (c : tie.Else1) → let bs = c.before.before.before.args.book.now in HoldsRows (variables (trailer_of bs)) (rows (trailer_of bs)) bs
+holds : (c : tie.Else-head-ne0) → let bs = c.args.book.now in HoldsRows (variables (trailer_of bs)) (rows (trailer_of bs)) bs
 holds c =
-    let bs = c.before.before.before.args.book.now in
-    head_rows bs (record { below = λ i. omega (arith, c.before.before.shared-slice-known.given i) }) (headed c)
+    let bs = c.args.book.now in
+    head_rows bs (record { below = λ i. omega (arith, c.shared_slice_known-1.given i) }) (headed c)
 
-trailer-u16-requires : tie.Need-trailer-u16-requires
+trailer-u16-requires : tie.Need-trailer_u16-n-requires
 trailer-u16-requires c κs = omega (arith, (headed c).long)
 
-trailer-u16-requires-2 : tie.Need-trailer-u16-requires-2
+trailer-u16-requires-2 : tie.Need-trailer_u16-m-requires
 trailer-u16-requires-2 c κs = omega (arith, (headed c.before).long)
 
-entries-fault-requires : tie.Need-entries-fault-requires
-entries-fault-requires c κs = rw (c.before.trailer-u16.ensures, c.trailer-u162.ensures) (holds c.before.before)
+entries-fault-requires : tie.Need-entries_fault-requires
+entries-fault-requires c κs = rw (c.trailer_u16-n.ensures, c.trailer_u16-m.ensures) (holds c.before.before)
 
-returns-2 : tie.Need-returns-2
+returns-2 : tie.Need-returns
 unfolding sparse_layout_checks
 returns-2 c =
     let d = c.before.before.before in
-    let bs = d.before.before.before.args.book.now in
-    goes (sparse_head_checks bs) _ (sparse-head-numbered bs) d.before.head-fault.ensures d.if1.false
-    (rw (← c.before.before.trailer-u16.ensures, ← c.before.trailer-u162.ensures) c.entries-fault.ensures)
+    let bs = d.args.book.now in
+    goes (sparse_head_checks bs) _ (sparse-head-numbered bs) d.head_fault-head.ensures d.if-head-ne0.false
+    (rw (← c.trailer_u16-n.ensures, ← c.trailer_u16-m.ensures) c.entries_fault.ensures)
 
-pub layout-fault-spec : {M : Type 1} → statement M
-layout-fault-spec =
+pub layout_fault_spec : {M : Type 1} → statement M
+layout_fault_spec =
     tie.close
     (tie.spec
     head-fault-requires

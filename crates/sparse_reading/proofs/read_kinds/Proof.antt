@@ -14,65 +14,65 @@ use Rattle.sparse_layout.proofs.SparseTripLaws.{start_first}
 use Rattle.sparse_reading.proofs.read_kinds.Statement.{statement}
 use Rattle.sparse_reading.proofs.read_kinds.Tie as tie
 
-abbrev invariant-loop : tie.invariant-loop
+abbrev invariant-loop : tie.invariant-loop-i
 invariant-loop n book kinds₀ p₀ i₀ kinds p i =
     (i ≤ length kinds₀) × (p ≡ row_start n book i) × (length kinds ≡ length kinds₀) × (kinds ≡ overwrite 0 (sparse_kinds_of n i book) kinds₀)
 
-abbrev decreases-loop : tie.decreases-loop
+abbrev decreases-loop : tie.decreases-loop-i
 decreases-loop n book kinds₀ p₀ i₀ kinds p i = length kinds₀ - i
 
-mul-p : tie.Need-overflow-mul-p invariant-loop decreases-loop
+mul-p : tie.Need-overflow_mul-p invariant-loop decreases-loop
 mul-p c = omega arith
 
-loop-holds : tie.Need-loop-init invariant-loop decreases-loop
+loop-holds : tie.Need-loop-i-init invariant-loop decreases-loop
 unfolding sparse_kinds_of
 loop-holds c = (omega arith, sym (start_first _ _), refl, overwrite-start 0 _ _)
 
 -- row i lies within the book
-inside : (c : tie.In-loop invariant-loop decreases-loop)
-    → let a = c.before.before.before.before.args in
-    let p = c.before.loop.p in
+inside : (c : tie.In-loop-i invariant-loop decreases-loop)
+    → let a = c.args in
+    let p = c.loop-i.p in
     p + (7 + 6 * count_at p a.book.now) ≤ length a.book.now
 inside c =
     let s = c.before.before.before.before in
-    walk_inside s.requires c.before.loop.p c.before.loop.i c.before.loop.invariant.1 (omega arith)
+    walk_inside s.requires c.loop-i.p c.loop-i.i c.loop-i.invariant.1 (omega arith)
 
-add-kind : tie.Need-overflow-add-kind invariant-loop decreases-loop
+add-kind : tie.Need-overflow_add-kind invariant-loop decreases-loop
 add-kind c = omega (arith, inside c)
 
-shared-slice-read-kind : tie.Need-shared-slice-read-kind invariant-loop decreases-loop
+shared-slice-read-kind : tie.Need-bounds-book-p invariant-loop decreases-loop
 shared-slice-read-kind c = omega (arith, inside c.before)
 
-slice-write-kinds : tie.Need-slice-write-kinds invariant-loop decreases-loop
+slice-write-kinds : tie.Need-bounds-kinds-i invariant-loop decreases-loop
 slice-write-kinds c = omega arith
 
-row-count-requires : tie.Need-row-count-requires invariant-loop decreases-loop
+row-count-requires : tie.Need-row_count-requires invariant-loop decreases-loop
 row-count-requires c κs = omega (arith, inside c.before)
 
-cast-p : tie.Need-overflow-cast-p invariant-loop decreases-loop
+cast-p : tie.Need-overflow_cast-p invariant-loop decreases-loop
 cast-p c = omega arith
 
-mul-p-2 : tie.Need-overflow-mul-p-2 invariant-loop decreases-loop
+mul-p-2 : tie.Need-overflow_mul-p-in-loop-i invariant-loop decreases-loop
 mul-p-2 c = omega arith
 
-add-p : tie.Need-overflow-add-p invariant-loop decreases-loop
+add-p : tie.Need-overflow_add-p invariant-loop decreases-loop
 add-p c = omega arith
 
-add-p-2 : tie.Need-overflow-add-p-2 invariant-loop decreases-loop
+add-p-2 : tie.Need-overflow_add-p-in-loop-i invariant-loop decreases-loop
 add-p-2 c = omega (arith, inside c.before.before, c.row_count.ensures)
 
-add-i : tie.Need-overflow-add-i invariant-loop decreases-loop
+add-i : tie.Need-overflow_add-i invariant-loop decreases-loop
 add-i c = omega arith
 
-loop-less : tie.Need-loop-smaller invariant-loop decreases-loop
+loop-less : tie.Need-loop-i-smaller invariant-loop decreases-loop
 loop-less c = omega arith
 
-loop-again : tie.Need-loop-preserved invariant-loop decreases-loop
+loop-again : tie.Need-loop-i-preserved invariant-loop decreases-loop
 unfolding sparse_kinds_of kind_at
 loop-again c =
     let d = c.before.before in
-    let at-loop = d.before.loop in
-    let a = d.before.before.before.before.args in
+    let at-loop = d.loop-i in
+    let a = d.args in
     let bs = a.book.now in
     let i = at-loop.i in
     let p = at-loop.p in
@@ -87,18 +87,18 @@ loop-again c =
           ∙ overwrite-turn 0 i i f a.kinds.now (omega (arith, length-list_of i g)) (omega arith),
     )
 
-same_length : tie.Need-same-length invariant-loop decreases-loop
+same_length : tie.Need-shape_of-kinds invariant-loop decreases-loop
 same_length c = omega arith
 
 returns : tie.Need-returns invariant-loop decreases-loop
 returns c =
-    let a = c.before.before.before.before.args in
+    let a = c.args in
     let m = length a.kinds.now in
-    let end : c.before.loop.i ≡ m = omega arith in
-    rw end at c.before.loop.invariant.3 ∙ overwrite-all (sparse_kinds_of a.n m a.book.now) a.kinds.now (length-sparse_kinds a.n m a.book.now)
+    let end : c.loop-i.i ≡ m = omega arith in
+    rw end at c.loop-i.invariant.3 ∙ overwrite-all (sparse_kinds_of a.n m a.book.now) a.kinds.now (length-sparse_kinds a.n m a.book.now)
 
-pub read-kinds-spec : {M : Type 1} → statement M
-read-kinds-spec =
+pub read_kinds_spec : {M : Type 1} → statement M
+read_kinds_spec =
     tie.close
     (tie.spec
     invariant-loop

@@ -15,10 +15,10 @@ use borrow.Author.Rules.{rules}
 use Rattle.sparse_writing.proofs.sparse_length.Statement.{statement}
 use Rattle.sparse_writing.proofs.sparse_length.Tie as tie
 
-mul-result : tie.Need-overflow-mul-result
+mul-result : tie.Need-overflow_mul-result
 mul-result c = search rules
 
-mul-result-2 : tie.Need-overflow-mul-result-2
+mul-result-2 : tie.Need-overflow_mul-result-2
 mul-result-2 c = search rules
 
 nonzeros-requires : tie.Need-nonzeros-requires
@@ -27,31 +27,31 @@ nonzeros-requires c κs = search rules
 -- there are no more of them than coefficients
 few : (c : tie.After-nonzeros) → c.nonzeros.result ≤ 15_360
 few c =
-    let a = c.before.args in
-    let l : a.m * a.n ≤ 120 * 128 = mul-le-mul c.before.requires.1 c.before.requires.0 in
+    let a = c.args in
+    let l : a.m * a.n ≤ 120 * 128 = mul-le-mul c.requires.1 c.requires.0 in
     omega (arith, c.nonzeros.ensures, nonzeros-le (length a.coefs.now) (at a.coefs.now))
 
-mul-result-3 : tie.Need-overflow-mul-result-3
+mul-result-3 : tie.Need-overflow_mul-result-3
 mul-result-3 c = omega (arith, few c)
 
-add-result : tie.Need-overflow-add-result
+add-result : tie.Need-overflow_add-result
 add-result c = omega (arith, few c)
 
-add-result-2 : tie.Need-overflow-add-result-2
+add-result-2 : tie.Need-overflow_add-result-2
 add-result-2 c = omega (arith, few c)
 
-add-result-3 : tie.Need-overflow-add-result-3
+add-result-3 : tie.Need-overflow_add-result-3
 add-result-3 c = omega (arith, few c)
 
 returns : tie.Need-returns
 returns c =
-    let a = c.before.args in
+    let a = c.args in
     let C = a.coefs.now in
-    let e : c.nonzeros.result ≡ nonzeros (a.m * a.n) (at C) = c.nonzeros.ensures ∙ ap (λ (k : ℕ). nonzeros k (at C)) c.before.requires.2 in
+    let e : c.nonzeros.result ≡ nonzeros (a.m * a.n) (at C) = c.nonzeros.ensures ∙ ap (λ (k : ℕ). nonzeros k (at C)) c.requires.2 in
     rw e (sym (length-flat (model_of a.n a.m [] (rows_of C [] []))))
 
-pub sparse-length-spec : {M : Type 1} → statement M
-sparse-length-spec =
+pub sparse_length_spec : {M : Type 1} → statement M
+sparse_length_spec =
     tie.close
     (tie.spec
     mul-result

@@ -19,39 +19,39 @@ use borrow.Author.Rules.{rules}
 use Rattle.sparse_writing.proofs.write_entry.Statement.{statement}
 use Rattle.sparse_writing.proofs.write_entry.Tie as tie
 
-returns : tie.Need-returns
+returns : tie.Need-returns-then-x-eq0
 returns c =
     let s = c.before.before in
-    let z : s.args.x ≡ pos 0 = sym (to_z-of_z s.ranges.x) ∙ ap (to_z w32) c.if1.true in
+    let z : s.args.x ≡ pos 0 = sym (to_z-of_z s.ranges.x) ∙ ap (to_z w32) c.if-x-eq0.true in
     let e = no-entry s.args.x s.args.column z in
     rw e (omega arith, sym (overwrite-none s.args.place s.args.book.now))
 
 -- the coefficient is not 0, so it has an entry
-entry-there : (c : tie.Else1) → let a = c.before.before.args in entry_of a.column a.x ≡ bytes_of 2 a.column ++ integer_bytes a.x
-entry-there c = an-entry _ _ (λ z. c.if1.false (ap (of_z w32) z))
+entry-there : (c : tie.Else-x-eq0) → let a = c.args in entry_of a.column a.x ≡ bytes_of 2 a.column ++ integer_bytes a.x
+entry-there c = an-entry _ _ (λ z. c.if-x-eq0.false (ap (of_z w32) z))
 
-six : (c : tie.Else1) → let a = c.before.before.args in length (entry_of a.column a.x) ≡ 6
+six : (c : tie.Else-x-eq0) → let a = c.args in length (entry_of a.column a.x) ≡ 6
 six c = ap length (entry-there c) ∙ entry_length _ _
 
-cast-write-u16 : tie.Need-overflow-cast-write-u16
+cast-write-u16 : tie.Need-overflow_cast-column
 cast-write-u16 c = search rules
 
-write-u16-requires : tie.Need-write-u16-requires
+write-u16-requires : tie.Need-write_u16-requires
 write-u16-requires c κs = omega (arith, six c.before)
 
-add-write-i32 : tie.Need-overflow-add-write-i32
+add-write-i32 : tie.Need-overflow_add-place
 add-write-i32 c = search rules
 
-write-i32-requires : tie.Need-write-i32-requires
-write-i32-requires c κs = omega (arith, six c.before.before.before.before.before, c.before.before.before.write-u16.auto.0)
+write-i32-requires : tie.Need-write_i32-requires
+write-i32-requires c κs = omega (arith, six c.before.before.before.before.before, c.write_u16.auto.bytes)
 
-add-result : tie.Need-overflow-add-result
+add-result : tie.Need-overflow_add-result
 add-result c = search rules
 
-same_length : tie.Need-same-length
+same_length : tie.Need-shape_of-book
 same_length c = search rules
 
-returns-2 : tie.Need-returns-2
+returns-2 : tie.Need-returns
 returns-2 c =
     let d = c.before.before.before.before.before.before in
     let s = d.before.before.before.before in
@@ -59,14 +59,14 @@ returns-2 c =
     let b = bytes_of 2 a.column in
     let x = integer_bytes a.x in (
       omega (arith, six d.before.before),
-      c.before.before.write-i32.ensures
-          ∙ ap₂ (λ (z : ℤ) (ys : List ℕ). overwrite (a.place + 2) (integer_bytes z) ys) (to_z-of_z s.ranges.x) d.write-u16.ensures
+      c.write_i32.ensures
+          ∙ ap₂ (λ (z : ℤ) (ys : List ℕ). overwrite (a.place + 2) (integer_bytes z) ys) (to_z-of_z s.ranges.x) d.write_u16.ensures
           ∙ overwrite-next a.place (a.place + 2) b x a.book.now (omega (arith, length-bytes_of 2 a.column)) (omega (arith, length-integer_bytes a.x, six d.before.before))
           ∙ ap (λ (ys : List ℕ). overwrite a.place ys a.book.now) (sym (entry-there d.before.before)),
     )
 
-pub write-entry-spec : {M : Type 1} → statement M
-write-entry-spec =
+pub write_entry_spec : {M : Type 1} → statement M
+write_entry_spec =
     tie.close
     (tie.spec
     returns

@@ -22,29 +22,29 @@ use Rattle.row.proofs.SignedLaws.{sign-bits, sign-is, signed-row}
 use Rattle.sweep.proofs.propagate_form_by.Statement.{statement}
 use Rattle.sweep.proofs.propagate_form_by.Tie as tie
 
-is-empty-requires : tie.Need-is-empty-requires
+is-empty-requires : tie.Need-is_empty-requires
 is-empty-requires c κs = search rules
 
-same_length : tie.Need-same-length
+same_length : tie.Need-shape_of-bounds-then-is_empty
 same_length c = search rules
 
-returns : tie.Need-returns
+returns : tie.Need-returns-then-is_empty
 unfolding propagated_row_of
 returns c =
-    let s = c.before.before.before.before in
+    let s = c.before.before.before in
     let v = s.requires.0.coefs in
-    sym (on-empty _ _ _ _ (sym (c.before.is-empty.ensures _ v.some v.box) ∙ c.if1.true))
+    sym (on-empty _ _ _ _ (sym (c.is_empty.ensures _ v.some v.box) ∙ c.if-is_empty.true))
 
-cast-rhs : tie.Need-overflow-cast-rhs
-cast-rhs c = wide_fits c.before.before.before.before.ranges.b
+cast-rhs : tie.Need-overflow_cast-rhs
+cast-rhs c = wide_fits c.ranges.b
 
-reach-by-requires : tie.Need-reach-by-requires
-reach-by-requires c κs = let s = c.before.before.before.before.before in (s.requires.0.coefs, (s.requires.1.0, sign-bits s.requires.1.1))
+reach-by-requires : tie.Need-reach_by-r-requires
+reach-by-requires c κs = let s = c.before.before.before in (s.requires.0.coefs, (s.requires.1.0, sign-bits s.requires.1.1))
 
 -- the row with its sign in a box that is not empty, with its least activity
-module _ (c : tie.After-reach-by) where
+module _ (c : tie.After-reach_by-r) where
   abbrev s : tie.Start
-  s = c.before.before.before.before.before.before
+  s = c.before.before.before.before
 
   abbrev C : List ℤ
   C = s.args.coefs.now
@@ -59,83 +59,83 @@ module _ (c : tie.After-reach-by) where
   n = length C
 
   v : ValidRow n A s.args.b B
-  v = signed-row s.pre.1.1 s.pre.0
+  v = signed-row s.requires.1.1 s.requires.0
 
   some : is_empty n B ≡ false
-  some = sym (c.before.before.before.is-empty.ensures _ v.coefs.some v.coefs.box) ∙ c.before.before.if1.false
+  some = sym (c.is_empty.ensures _ v.coefs.some v.coefs.box) ∙ c.if-is_empty.false
 
   rhs-is : to_z w64 (of_z w64 (to_z w32 (of_z w32 s.args.b))) ≡ s.args.b
-  rhs-is = read_wide s.fits.b
+  rhs-is = read_wide s.ranges.b
 
-  found-least : c.reach-by.result.least ≡ min_activity n A B
-  found-least = rw (sign-is s.pre.1.1) at c.reach-by.ensures.0
+  found-least : c.reach_by-r.result.least ≡ min_activity n A B
+  found-least = rw (sign-is s.requires.1.1) at c.reach_by-r.ensures.0
 
-  found-widest : c.reach-by.result.widest ≡ widest_term n A B
-  found-widest = rw (sign-is s.pre.1.1) at c.reach-by.ensures.1
+  found-widest : c.reach_by-r.result.widest ≡ widest_term n A B
+  found-widest = rw (sign-is s.requires.1.1) at c.reach_by-r.ensures.1
 
-  least-is : to_z w64 (of_z w64 c.reach-by.result.least) ≡ min_activity n A B
+  least-is : to_z w64 (of_z w64 c.reach_by-r.result.least) ≡ min_activity n A B
   least-is = least-read v found-least found-widest
 
   room-is : to_z w64 (of_z w64 (slack v found-least found-widest)) ≡ s.args.b -ℤ min_activity n A B
   room-is = slack-read v found-least found-widest
 
-  widest-is : to_z w64 (of_z w64 c.reach-by.result.widest) ≡ widest_term n A B
+  widest-is : to_z w64 (of_z w64 c.reach_by-r.result.widest) ≡ widest_term n A B
   widest-is = widest-read v found-least found-widest
 
-sub-if2 : tie.Need-overflow-sub-if2
+sub-if2 : tie.Need-overflow_sub-rhs
 sub-if2 c =
     let m = c.before in
     slack-fits (v m) (found-least m) (found-widest m)
 
-same-length-2 : tie.Need-same-length-2
+same-length-2 : tie.Need-shape_of-bounds-then-r-rhs
 same-length-2 c = search rules
 
-returns-2 : tie.Need-returns-2
+returns-2 : tie.Need-returns-then-r-rhs
 unfolding propagated_row_of
 returns-2 c =
     let m = c.before.before.before.before in
-    sym (staying (n m) (A m) (s m).args.b (B m) (some m) (v m).coefs.box.len (le_read (widest-is m) (room-is m) c.if2.true))
+    sym (staying (n m) (A m) (s m).args.b (B m) (some m) (v m).coefs.box.len (le_read (widest-is m) (room-is m) c.if-r-rhs.true))
 
-make-empty-requires : tie.Need-make-empty-requires
+make-empty-requires : tie.Need-make_empty-requires
 make-empty-requires c κs = search rules
 
-same-length-3 : tie.Need-same-length-3
+same-length-3 : tie.Need-shape_of-bounds-then-rhs-least
 same-length-3 c = search rules
 
 -- where something moves
-abbrev found : tie.Else2 → tie.After-reach-by
+abbrev found : tie.Else-r-rhs → tie.After-reach_by-r
 found e = e.before.before.before.before
 
-returns-3 : tie.Need-returns-3
+returns-3 : tie.Need-returns-then-rhs-least
 unfolding propagated_row_of
 returns-3 c =
     let t = c.before.before.before in
     let m = found t.before in
-    let h = lt-read (rhs-is m) (least-is m) t.if3.true in
-    rw (c.before.make-empty.ensures _ (v m).coefs.box.len) (sym (unmet (n m) (A m) (s m).args.b (B m) (some m) h))
+    let h = lt-read (rhs-is m) (least-is m) t.if-rhs-least.true in
+    rw (c.make_empty.ensures _ (v m).coefs.box.len) (sym (unmet (n m) (A m) (s m).args.b (B m) (some m) h))
 
-met : (c : tie.Else3) → let m = found c.before in min_activity (n m) (A m) (B m) ≤ℤ (s m).args.b
-met c = let m = found c.before in ge-read (rhs-is m) (least-is m) c.if3.false
+met : (c : tie.Else-rhs-least) → let m = found c.before in min_activity (n m) (A m) (B m) ≤ℤ (s m).args.b
+met c = let m = found c.before in ge-read (rhs-is m) (least-is m) c.if-rhs-least.false
 
-tighten-bounds-by-requires : tie.Need-tighten-bounds-by-requires
+tighten-bounds-by-requires : tie.Need-tighten_bounds_by-requires
 tighten-bounds-by-requires c κs =
     let m = found c.before.before in
-    (rw (rhs-is m, least-is m) (implies-box (s m).pre.0 (min-activity-small (v m).coefs) (met c.before)), ((s m).pre.1.0, sign-bits (s m).pre.1.1))
+    (rw (rhs-is m, least-is m) (implies-box (s m).requires.0 (min-activity-small (v m).coefs) (met c.before)), ((s m).requires.1.0, sign-bits (s m).requires.1.1))
 
-same-length-4 : tie.Need-same-length-4
+same-length-4 : tie.Need-shape_of-bounds
 same-length-4 c = search rules
 
-returns-4 : tie.Need-returns-4
+returns-4 : tie.Need-returns
 unfolding propagated_row_of
 returns-4 c =
     let t = c.before in
     let e = t.before.before in
     let m = found e.before in
-    let told = rw (rhs-is m, least-is m, sign-is (s m).pre.1.1) at t.tighten-bounds-by.ensures in
-    rw (told.0, told.1) (sym (moving (n m) (A m) (s m).args.b (B m) (some m) (met e) (gt-read (widest-is m) (room-is m) e.before.if2.false)))
+    let told = rw (rhs-is m, least-is m, sign-is (s m).requires.1.1) at t.tighten_bounds_by.ensures in
+    rw (told.0, told.1) (sym (moving (n m) (A m) (s m).args.b (B m) (some m) (met e) (gt-read (widest-is m) (room-is m) e.if-r-rhs.false)))
 
-pub propagate-form-by-spec : {M : Type 1} → statement M
-propagate-form-by-spec =
+pub propagate_form_by_spec : {M : Type 1} → statement M
+propagate_form_by_spec =
     tie.close
     (tie.spec
     is-empty-requires

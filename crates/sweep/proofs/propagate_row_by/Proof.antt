@@ -17,11 +17,11 @@ use Rattle.row.proofs.SignedLaws.{negated-rhs, rhs-fits, rhs-negated, rhs-read, 
 use Rattle.sweep.proofs.propagate_row_by.Statement.{statement}
 use Rattle.sweep.proofs.propagate_row_by.Tie as tie
 
-propagate-form-by-requires : tie.Need-propagate-form-by-requires
-propagate-form-by-requires c κs = let v = c.before.before.requires in (rw (rhs-read v.0) v.0, (v.1, inl refl))
+propagate-form-by-requires : tie.Need-propagate_form_by-first-requires
+propagate-form-by-requires c κs = let v = c.requires in (rw (rhs-read v.0) v.0, (v.1, inl refl))
 
 -- what the ≤ form leaves
-module _ (c : tie.After-propagate-form-by) where
+module _ (c : tie.After-propagate_form_by-first) where
   abbrev s : tie.Start
   s = c.before.before.before
 
@@ -35,69 +35,69 @@ module _ (c : tie.After-propagate-form-by) where
   n = length A
 
   abbrev P : List ℤ
-  P = c.propagate-form-by.new.1.1.1.1.0
+  P = c.propagate_form_by-first.new.bounds
 
-  told : propagated_row_of c.propagate-form-by.result P ≡ propagate_row n A s.args.b B
-  told = rw (rhs-read s.pre.0, signed-one A) at c.propagate-form-by.ensures
+  told : propagated_row_of c.propagate_form_by-first.result P ≡ propagate_row n A s.args.b B
+  told = rw (rhs-read s.requires.0, signed-one A) at c.propagate_form_by-first.ensures
 
   left-valid : ValidRow n A s.args.b P
-  left-valid = subst⁻¹ (ValidRow n A s.args.b) (first-box n A s.args.b B _ P told) (propagate-row-valid_row s.pre.0)
+  left-valid = subst⁻¹ (ValidRow n A s.args.b) (first-box n A s.args.b B _ P told) (propagate-row-valid_row s.requires.0)
 
-same_length : tie.Need-same-length
+same_length : tie.Need-shape_of-bounds-then-kind-ne1
 same_length c = search rules
 
-returns : tie.Need-returns
-returns c = let m = c.before.before in le-answer (n m) (A m) (s m).args.b (B m) _ (P m) (told m) (s m).args.kind c.if1.true
+returns : tie.Need-returns-then-kind-ne1
+returns c = let m = c.before.before in le-answer (n m) (A m) (s m).args.b (B m) _ (P m) (told m) (s m).args.kind c.if-kind-ne1.true
 
-enum_told : tie.Need-enum-told
+enum_told : tie.Need-enum_told-1
 enum_told c = search rules
 
-sub-propagate-form-by : tie.Need-overflow-sub-propagate-form-by
-sub-propagate-form-by c = rhs-fits (s c.before.before.before).pre.0
+sub-propagate-form-by : tie.Need-overflow_sub-b
+sub-propagate-form-by c = rhs-fits (s c.before.before.before).requires.0
 
-propagate-form-by-requires-2 : tie.Need-propagate-form-by-requires-2
+propagate-form-by-requires-2 : tie.Need-propagate_form_by-requires
 propagate-form-by-requires-2 c κs =
     let m = c.before.before.before.before in
     (rw (rhs-negated (s m).requires.0) (negated-rhs (left-valid m)), ((s m).requires.1, inr refl))
 
 -- and what the negated form leaves
-module _ (c : tie.After-propagate-form-by2) where
-  abbrev m : tie.After-propagate-form-by
+module _ (c : tie.After-propagate_form_by) where
+  abbrev m : tie.After-propagate_form_by-first
   m = c.before.before.before.before.before
 
   abbrev Q : List ℤ
-  Q = c.propagate-form-by2.new.1.1.1.1.0
+  Q = c.propagate_form_by.new.bounds
 
-  told₂ : propagated_row_of c.propagate-form-by2.result Q ≡ propagate_row (n m) (negated_coefs (A m)) (neg_ℤ (s m).args.b) (P m)
-  told₂ = rw (rhs-negated (s m).pre.0, signed-negated (A m)) at c.propagate-form-by2.ensures
+  told₂ : propagated_row_of c.propagate_form_by.result Q ≡ propagate_row (n m) (negated_coefs (A m)) (neg_ℤ (s m).args.b) (P m)
+  told₂ = rw (rhs-negated (s m).requires.0, signed-negated (A m)) at c.propagate_form_by.ensures
 
 both-requires : tie.Need-both-requires
 both-requires c κs =
     let t = c.before in
     let f = m t in
-    both-few (n f) (A f) (s f).args.b (B f) _ (P f) (told f) _ (Q t) (told₂ t) (s f).pre.0.coefs.few
+    both-few (n f) (A f) (s f).args.b (B f) _ (P f) (told f) _ (Q t) (told₂ t) (s f).requires.0.coefs.few
 
-same-length-2 : tie.Need-same-length-2
+same-length-2 : tie.Need-shape_of-bounds-in_default
 same-length-2 c = search rules
 
-returns-2 : tie.Need-returns-2
+returns-2 : tie.Need-returns-in_default
 returns-2 c =
     let t = c.before.before in
     let f = m t in
     let k = t.before.before in
     ap (λ r. propagated_row_of r (Q t)) c.both.ensures
-    ∙ both-answer (n f) (A f) (s f).args.b (B f) _ (P f) (told f) _ (Q t) (told₂ t) (s f).args.kind k.before.if1.false k.match.keys2
+    ∙ both-answer (n f) (A f) (s f).args.b (B f) _ (P f) (told f) _ (Q t) (told₂ t) (s f).args.kind k.if-kind-ne1.false k.in_default.in_default-own.keys2
 
-same-length-3 : tie.Need-same-length-3
+same-length-3 : tie.Need-shape_of-bounds
 same-length-3 c = search rules
 
-returns-3 : tie.Need-returns-3
+returns-3 : tie.Need-returns
 returns-3 c =
-    let f = c.before.before.before.before in
-    none-answer (n f) (A f) (s f).args.b (B f) _ (P f) (told f) (s f).args.kind c.before.before.if1.false c.enum_told.given.1
+    let f = c.before.before.before in
+    none-answer (n f) (A f) (s f).args.b (B f) _ (P f) (told f) (s f).args.kind c.if-kind-ne1.false c.in-Infeasible.is
 
-pub propagate-row-by-spec : {M : Type 1} → statement M
-propagate-row-by-spec =
+pub propagate_row_by_spec : {M : Type 1} → statement M
+propagate_row_by_spec =
     tie.close
     (tie.spec
     propagate-form-by-requires

@@ -25,27 +25,27 @@ use Rattle.sweep.proofs.StepLaws.{signed_steps, step_sum, step-widest}
 use Rattle.sweep.proofs.reach_by.Statement.{statement}
 use Rattle.sweep.proofs.reach_by.Tie as tie
 
-abbrev invariant-loop : tie.invariant-loop
+abbrev invariant-loop : tie.invariant-loop-j
 invariant-loop coefs steps sign bounds least₀ widest₀ j₀ least widest j =
     (j ≤ length coefs)
     × (to_z w64 least ≡ total j (min_term_at (signed (to_z w32 sign) coefs) bounds))
     × (to_z w64 widest ≡ greatest j (width_at (signed (to_z w32 sign) coefs) bounds))
 
-abbrev decreases-loop : tie.decreases-loop
+abbrev decreases-loop : tie.decreases-loop-j
 decreases-loop coefs steps sign bounds least₀ widest₀ j₀ least widest j = length coefs - j
 
-loop-holds : tie.Need-loop-init invariant-loop decreases-loop
+loop-holds : tie.Need-loop-j-init invariant-loop decreases-loop
 unfolding total greatest
 loop-holds c = (omega arith, refl, refl)
 
-mul-a : tie.Need-overflow-mul-a invariant-loop decreases-loop
+mul-a : tie.Need-offset_bounds-coefs-j invariant-loop decreases-loop
 mul-a c = omega arith
 
-shared-slice-copy-out-a : tie.Need-shared-slice-copy-out-a invariant-loop decreases-loop
+shared-slice-copy-out-a : tie.Need-bounds-coefs-j invariant-loop decreases-loop
 shared-slice-copy-out-a c = omega arith
 
 -- the row with its sign, and the variable that the turn comes to
-module _ (h : tie.At-loop invariant-loop decreases-loop) where
+module _ (h : tie.At-loop-j invariant-loop decreases-loop) where
   abbrev s : tie.Start invariant-loop decreases-loop
   s = h.before.before
 
@@ -62,19 +62,19 @@ module _ (h : tie.At-loop invariant-loop decreases-loop) where
   S = s.args.steps.now
 
   abbrev j : ℕ
-  j = h.loop.j
+  j = h.loop-j.j
 
   v : ValidCoefs (length C) A B
-  v = signed-coefs (sign-bits s.pre.1.1) s.pre.0
+  v = signed-coefs (sign-bits s.requires.1.1) s.requires.0
 
   steps : Steps (length C) A S
-  steps = signed_steps (to_z w32 (of_z w32 s.args.sign)) s.pre.1.0
+  steps = signed_steps (to_z w32 (of_z w32 s.args.sign)) s.requires.1.0
 
   small : Within 1_000_000 (at A j) × (Within 32_768 (lower B j) × Within 32_768 (upper B j))
   small = (coefs-small v j, (bounds-small v (2 * j), bounds-small v (2 * j + 1)))
 
   a-is : to_z w32 (of_z w32 (to_z w32 (of_z w32 s.args.sign) *ℤ to_z w32 (of_z w32 (at C j)))) ≡ at A j
-  a-is = signed-bits s.pre.1.1 C j (coefs-small s.pre.0 j)
+  a-is = signed-bits s.requires.1.1 C j (coefs-small s.requires.0 j)
 
   l-is : to_z w32 (of_z w32 (lower B j)) ≡ lower B j
   l-is = to_z-of_z {w = w32} (within-fits w32 tt small.1.0)
@@ -82,77 +82,77 @@ module _ (h : tie.At-loop invariant-loop decreases-loop) where
   u-is : to_z w32 (of_z w32 (upper B j)) ≡ upper B j
   u-is = to_z-of_z {w = w32} (within-fits w32 tt small.1.1)
 
-mul-a-2 : tie.Need-overflow-mul-a-2 invariant-loop decreases-loop
+mul-a-2 : tie.Need-overflow_mul-a invariant-loop decreases-loop
 mul-a-2 c = let h = c.before.before in signed-fits (s h).requires.1.1 (C h) (j h) (coefs-small (s h).requires.0 (j h))
 
-mul_low : tie.Need-overflow-mul-low invariant-loop decreases-loop
+mul_low : tie.Need-overflow_mul-low invariant-loop decreases-loop
 mul_low c = omega arith
 
-mul-low-2 : tie.Need-overflow-mul-low-2 invariant-loop decreases-loop
+mul-low-2 : tie.Need-offset_bounds-bounds-j invariant-loop decreases-loop
 mul-low-2 c = omega arith
 
-shared-slice-copy-out-low : tie.Need-shared-slice-copy-out-low invariant-loop decreases-loop
+shared-slice-copy-out-low : tie.Need-bounds-bounds-j invariant-loop decreases-loop
 shared-slice-copy-out-low c = omega arith
 
-mul-high : tie.Need-overflow-mul-high invariant-loop decreases-loop
+mul-high : tie.Need-overflow_mul-high invariant-loop decreases-loop
 mul-high c = omega arith
 
-add-high : tie.Need-overflow-add-high invariant-loop decreases-loop
+add-high : tie.Need-overflow_add-high invariant-loop decreases-loop
 add-high c = omega arith
 
-mul-high-2 : tie.Need-overflow-mul-high-2 invariant-loop decreases-loop
+mul-high-2 : tie.Need-offset_bounds-bounds-j-in-loop-j invariant-loop decreases-loop
 mul-high-2 c = omega arith
 
-shared-slice-copy-out-high : tie.Need-shared-slice-copy-out-high invariant-loop decreases-loop
+shared-slice-copy-out-high : tie.Need-bounds-bounds-j-in-loop-j invariant-loop decreases-loop
 shared-slice-copy-out-high c = omega arith
 
-term-requires : tie.Need-term-requires invariant-loop decreases-loop
+term-requires : tie.Need-term-least-requires invariant-loop decreases-loop
 term-requires c κs = let h = c.before.before.before.before in rw (a-is h, l-is h, u-is h) (small h)
 
 -- what the turn adds
-module _ (c : tie.After-term invariant-loop decreases-loop) where
-  abbrev head : tie.At-loop invariant-loop decreases-loop
+module _ (c : tie.After-term-least invariant-loop decreases-loop) where
+  abbrev head : tie.At-loop-j invariant-loop decreases-loop
   head = c.before.before.before.before.before
 
-  next : to_z w64 (of_z w64 c.term.result) ≡ min_term_at (A head) (B head) (j head)
-  next = to_z-of_z {w = w64} (record { sfits = c.term.type-inv }) ∙ (rw (a-is head, l-is head, u-is head) at c.term.ensures)
+  next : to_z w64 (of_z w64 c.term-least.result) ≡ min_term_at (A head) (B head) (j head)
+  next = to_z-of_z {w = w64} (record { sfits = c.term-least.type_inv }) ∙ (rw (a-is head, l-is head, u-is head) at c.term-least.ensures)
 
-add-least : tie.Need-overflow-add-least invariant-loop decreases-loop
-add-least c = let h = head c in turn-fits (min-terms (v h)) (j h) h.loop.inv.1 (next c) (omega arith)
+add-least : tie.Need-overflow_add-least invariant-loop decreases-loop
+add-least c = let h = head c in turn-fits (min-terms (v h)) (j h) h.loop-j.invariant.1 (next c) (omega arith)
 
-wider-requires : tie.Need-wider-requires invariant-loop decreases-loop
+wider-requires : tie.Need-wider-widest-requires invariant-loop decreases-loop
 wider-requires c κs = let h = head c in rw (a-is h, l-is h, u-is h) (small h)
 
 -- the next variable
-module _ (h : tie.At-loop invariant-loop decreases-loop) where
+module _ (h : tie.At-loop-j invariant-loop decreases-loop) where
   step_in : j h < length (C h) → j h + get_or (S h) (j h) 0 ≤ length (C h)
   step_in k = (steps h).within (j h) k
 
   step-on : j h < length (C h) → 0 < get_or (S h) (j h) 0
   step-on k = (steps h).forward (j h) k
 
-shared-slice-read-j : tie.Need-shared-slice-read-j invariant-loop decreases-loop
+shared-slice-read-j : tie.Need-bounds-steps-j invariant-loop decreases-loop
 shared-slice-read-j c = let h = head c.before.before in omega (arith, (steps h).len)
 
-cast-j : tie.Need-overflow-cast-j invariant-loop decreases-loop
+cast-j : tie.Need-overflow_cast-j invariant-loop decreases-loop
 cast-j c = omega (arith, step_in (head c.before.before) (omega arith))
 
-add-j : tie.Need-overflow-add-j invariant-loop decreases-loop
+add-j : tie.Need-overflow_add-j invariant-loop decreases-loop
 add-j c = omega (arith, step_in (head c.before.before) (omega arith))
 
-loop-less : tie.Need-loop-smaller invariant-loop decreases-loop
+loop-less : tie.Need-loop-j-smaller invariant-loop decreases-loop
 loop-less c = omega (arith, step_in (head c.before.before) (omega arith), step-on (head c.before.before) (omega arith))
 
-loop-again : tie.Need-loop-preserved invariant-loop decreases-loop
+loop-again : tie.Need-loop-j-preserved invariant-loop decreases-loop
 loop-again c =
     let t = c.before.before in
     let h = head t in
     let k : j h < length (C h) = omega arith in (
       step_in h k,
-      to_z-of_z (add-least t) ∙ turn (min-terms (v h)) (j h) h.loop.inv.1 (next t) ∙ step_sum (steps h) k (B h),
-      to_z-of_z {w = w64} (record { sfits = c.before.wider.type-inv })
-          ∙ (rw (a-is h, l-is h, u-is h) at c.before.wider.ensures)
-          ∙ ap (λ (x : ℤ). max_z x (width_at (A h) (B h) (j h))) h.loop.inv.2
+      to_z-of_z (add-least t) ∙ turn (min-terms (v h)) (j h) h.loop-j.invariant.1 (next t) ∙ step_sum (steps h) k (B h),
+      to_z-of_z {w = w64} (record { sfits = c.wider-widest.type_inv })
+          ∙ (rw (a-is h, l-is h, u-is h) at c.wider-widest.ensures)
+          ∙ ap (λ (x : ℤ). max_z x (width_at (A h) (B h) (j h))) h.loop-j.invariant.2
           ∙ sym (greatest-more (width_at (A h) (B h)) (j h))
           ∙ step-widest (steps h) k (B h),
     )
@@ -161,16 +161,16 @@ returns : tie.Need-returns invariant-loop decreases-loop
 unfolding min_activity widest_term
 returns c =
     let h = c.before in
-    let end : h.loop.j ≡ length (C h) = omega arith in
+    let end : h.loop-j.j ≡ length (C h) = omega arith in
     let e = sign-is (s h).requires.1.1 in (
-      h.loop.invariant.1 ∙ ap (λ (i : ℕ). total i (min_term_at (A h) (B h))) end
+      h.loop-j.invariant.1 ∙ ap (λ (i : ℕ). total i (min_term_at (A h) (B h))) end
           ∙ ap (λ (z : ℤ). total (length (C h)) (min_term_at (signed z (C h)) (B h))) e,
-      h.loop.invariant.2 ∙ ap (λ (i : ℕ). greatest i (width_at (A h) (B h))) end
+      h.loop-j.invariant.2 ∙ ap (λ (i : ℕ). greatest i (width_at (A h) (B h))) end
           ∙ ap (λ (z : ℤ). greatest (length (C h)) (width_at (signed z (C h)) (B h))) e,
     )
 
-pub reach-by-spec : {M : Type 1} → statement M
-reach-by-spec =
+pub reach_by_spec : {M : Type 1} → statement M
+reach_by_spec =
     tie.close
     (tie.spec
     invariant-loop

@@ -28,66 +28,66 @@ module _ (s : tie.Start) where
 
   low : 2 * k * (2 * n) + (2 * j + w) < length s.args.table.now
   unfolding byte_of literal
-  low = rw (s.pre.0.0.len, ← no_more) (byte-lt n k 0 j w s.pre.1.0 (omega arith) s.pre.1.1 s.pre.1.2)
+  low = rw (s.requires.0.0.len, ← no_more) (byte-lt n k 0 j w s.requires.1.0 (omega arith) s.requires.1.1 s.requires.1.2)
 
   high : (2 * k + 1) * (2 * n) + (2 * j + (1 - w)) < length s.args.table.now
   unfolding byte_of literal
-  high = rw s.pre.0.0.len (byte-lt n k 1 j (1 - w) s.pre.1.0 (omega arith) s.pre.1.1 (omega arith))
+  high = rw s.requires.0.0.len (byte-lt n k 1 j (1 - w) s.requires.1.0 (omega arith) s.requires.1.1 (omega arith))
 
-mul-at0 : tie.Need-overflow-mul-at0
+mul-at0 : tie.Need-overflow_mul-at0
 mul-at0 c = search rules
 
-mul-at0-2 : tie.Need-overflow-mul-at0-2
+mul-at0-2 : tie.Need-overflow_mul-at0-2
 mul-at0-2 c = search rules
 
-mul-at0-3 : tie.Need-overflow-mul-at0-3
+mul-at0-3 : tie.Need-overflow_mul-at0-3
 mul-at0-3 c = omega (arith, low c)
 
-mul-at0-4 : tie.Need-overflow-mul-at0-4
+mul-at0-4 : tie.Need-overflow_mul-at0-4
 mul-at0-4 c = search rules
 
-add-at0 : tie.Need-overflow-add-at0
+add-at0 : tie.Need-overflow_add-at0
 add-at0 c = search rules
 
-add-at0-2 : tie.Need-overflow-add-at0-2
+add-at0-2 : tie.Need-overflow_add-at0-2
 add-at0-2 c = omega (arith, low c)
 
-mul-at1 : tie.Need-overflow-mul-at1
+mul-at1 : tie.Need-overflow_mul-at1
 mul-at1 c = search rules
 
-add-at1 : tie.Need-overflow-add-at1
+add-at1 : tie.Need-overflow_add-at1
 add-at1 c = search rules
 
-mul-at1-2 : tie.Need-overflow-mul-at1-2
+mul-at1-2 : tie.Need-overflow_mul-at1-2
 mul-at1-2 c = search rules
 
-mul-at1-3 : tie.Need-overflow-mul-at1-3
+mul-at1-3 : tie.Need-overflow_mul-at1-3
 mul-at1-3 c = omega (arith, high c)
 
-mul-at1-4 : tie.Need-overflow-mul-at1-4
+mul-at1-4 : tie.Need-overflow_mul-at1-4
 mul-at1-4 c = search rules
 
-sub-at1 : tie.Need-overflow-sub-at1
+sub-at1 : tie.Need-overflow_sub-at1
 sub-at1 c = search rules
 
-add-at1-2 : tie.Need-overflow-add-at1-2
+add-at1-2 : tie.Need-overflow_add-at1-2
 add-at1-2 c = search rules
 
-add-at1-3 : tie.Need-overflow-add-at1-3
+add-at1-3 : tie.Need-overflow_add-at1-3
 add-at1-3 c = omega (arith, high c)
 
-shared-slice-read-result : tie.Need-shared-slice-read-result
+shared-slice-read-result : tie.Need-bounds-table-at0
 shared-slice-read-result c = low c.before
 
-shared-slice-read-result-2 : tie.Need-shared-slice-read-result-2
+shared-slice-read-result-2 : tie.Need-bounds-table-at1
 shared-slice-read-result-2 c = high c.before.before
 
 returns : tie.Need-returns
 unfolding says says_byte byte_of literal
 returns c = rw (no_more c.before.before) refl
 
-pub says-spec : {M : Type 1} → statement M
-says-spec =
+pub says_spec : {M : Type 1} → statement M
+says_spec =
     tie.close
     (tie.spec
     mul-at0

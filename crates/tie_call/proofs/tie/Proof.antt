@@ -25,31 +25,31 @@ before s = tied_state_of s.args.n s.args.m s.args.bounds.now (rows_of s.args.coe
 abbrev call : tie.Start → TieCall
 call s = tie_call_of (before s) s.args.k s.args.j
 
-tie-fault-requires : tie.Need-tie-fault-requires
+tie-fault-requires : tie.Need-tie_fault-fault-requires
 tie-fault-requires c κs = search rules
 
-same_length : tie.Need-same-length
+same_length : tie.Need-shape_of-coefs-then-fault-ne0
 same_length c = search rules
 
-same-length-2 : tie.Need-same-length-2
+same-length-2 : tie.Need-shape_of-rhs-then-fault-ne0
 same-length-2 c = search rules
 
-same-length-3 : tie.Need-same-length-3
+same-length-3 : tie.Need-shape_of-ties-then-fault-ne0
 same-length-3 c = search rules
 
-returns : tie.Need-returns
+returns : tie.Need-returns-then-fault-ne0
 unfolding performed_tie tie_answer
 returns c =
-    let s = c.before.before.before.before.before.before.before.before in
-    promised (before s) (call s) (tie-refused (before s) s.args.k s.args.j c.before.tie-fault.ensures c.if1.true)
+    let s = c.before.before.before.before.before in
+    promised (before s) (call s) (tie-refused (before s) s.args.k s.args.j c.before.tie_fault-fault.ensures c.if-fault-ne0.true)
 
 -- the call is accepted
-module _ (c : tie.Else1) where
+module _ (c : tie.Else-fault-ne0) where
   abbrev s : tie.Start
-  s = c.before.before.before.before.before.before.before.before
+  s = c.before.before.before.before.before
 
   ok : tie_fault (before s) (call s) ≡ 0
-  ok = sym c.before.tie-fault.ensures ∙ c.if1.false
+  ok = sym c.before.tie_fault-fault.ensures ∙ c.if-fault-ne0.false
 
   valid : ValidTiedState (before s)
   valid = (accepted-tie (before s) s.args.k s.args.j ok).0
@@ -62,59 +62,59 @@ module _ (c : tie.Else1) where
   unfolding tied_state_of state_of
   small = valid-small valid.state.model
 
-value-said-requires : tie.Need-value-said-requires
+value-said-requires : tie.Need-value_said-w-requires
 unfolding tied_state_of state_of
 value-said-requires c κs = (((valid c).state.table, (valid c).state.model.few), below c)
 
 -- the value that the table says
-module _ (c : tie.After-value-said) where
-  is : c.value-said.result ≡ value_said (before (s c.before)).state.model.n (before (s c.before)).state.table (s c.before).args.k (s c.before).args.j
+module _ (c : tie.After-value_said-w) where
+  is : c.value_said-w.result ≡ value_said (before (s c.before)).state.model.n (before (s c.before)).state.table (s c.before).args.k (s c.before).args.j
   unfolding tied_state_of state_of
-  is = c.value-said.ensures
+  is = c.value_said-w.ensures
 
-same-length-4 : tie.Need-same-length-4
+same-length-4 : tie.Need-shape_of-coefs-then-w-eq2
 same-length-4 c = search rules
 
-same-length-5 : tie.Need-same-length-5
+same-length-5 : tie.Need-shape_of-rhs-then-w-eq2
 same-length-5 c = search rules
 
-same-length-6 : tie.Need-same-length-6
+same-length-6 : tie.Need-shape_of-ties-then-w-eq2
 same-length-6 c = search rules
 
-returns-2 : tie.Need-returns-2
+returns-2 : tie.Need-returns-then-w-eq2
 unfolding performed_tie tie_answer
 returns-2 c =
     let e = c.before.before in
     let a = (s e).args in
-    promised (before (s e)) (call (s e)) (tie-unsaid (before (s e)) a.k a.j (ok e) (is c.before) c.if2.true)
+    promised (before (s e)) (call (s e)) (tie-unsaid (before (s e)) a.k a.j (ok e) (is c.before) c.if-w-eq2.true)
 
-can-tie-requires : tie.Need-can-tie-requires
+can-tie-requires : tie.Need-can_tie-requires
 unfolding tied_state_of state_of
 can-tie-requires c κs =
-    let e = c.before.before.before.before.before in
+    let e = c.before.before in
     ((small e, below e), ((valid e).state.model.box.len, (valid e).ties.len))
 
 -- whether nothing is in the way
-module _ (c : tie.After-can-tie) where
-  abbrev said : tie.After-value-said
-  said = c.before.before.before.before.before
+module _ (c : tie.After-can_tie) where
+  abbrev said : tie.After-value_said-w
+  said = c.before.before
 
-  can : c.can-tie.result ≡ can_tie (before (s said.before)) (s said.before).args.k (s said.before).args.j said.value-said.result
+  can : c.can_tie.result ≡ can_tie (before (s said.before)) (s said.before).args.k (s said.before).args.j said.value_said-w.result
   can =
       let a = (s said.before).args in
-      c.can-tie.ensures
-      ∙ can-tie-of a.n a.m a.bounds.now a.coefs.now a.rhs.now a.kinds.now a.table.now a.ties.now a.k a.j said.value-said.result
+      c.can_tie.ensures
+      ∙ can-tie-of a.n a.m a.bounds.now a.coefs.now a.rhs.now a.kinds.now a.table.now a.ties.now a.k a.j said.value_said-w.result
 
-same-length-7 : tie.Need-same-length-7
+same-length-7 : tie.Need-shape_of-coefs-then-not-can_tie
 same-length-7 c = search rules
 
-same-length-8 : tie.Need-same-length-8
+same-length-8 : tie.Need-shape_of-rhs-then-not-can_tie
 same-length-8 c = search rules
 
-same-length-9 : tie.Need-same-length-9
+same-length-9 : tie.Need-shape_of-ties-then-not-can_tie
 same-length-9 c = search rules
 
-returns-3 : tie.Need-returns-3
+returns-3 : tie.Need-returns-then-not-can_tie
 unfolding performed_tie tie_answer
 returns-3 c =
     let d = c.before in
@@ -122,68 +122,68 @@ returns-3 c =
     let e = v.before in
     let a = (s e).args in
     promised (before (s e)) (call (s e))
-    (tie-same (before (s e)) a.k a.j (ok e) (is v) d.before.before.before.before.if2.false (told-false d.can-tie.result (can d) c.if3.true))
+    (tie-same (before (s e)) a.k a.j (ok e) (is v) d.if-w-eq2.false (told-false d.can_tie.result (can d) c.if-not-can_tie.true-raw))
 
-tie-rows-requires : tie.Need-tie-rows-requires
+tie-rows-requires : tie.Need-tie_rows-requires
 tie-rows-requires c κs = let e = (said c.before.before.before).before in (small e, below e)
 
 -- j is tied: the place fits in 16 bits
-module _ (c : tie.Else3) where
-  abbrev value : tie.After-value-said
+module _ (c : tie.Else-not-can_tie) where
+  abbrev value : tie.After-value_said-w
   value = said c.before
 
   abbrev at : tie.Start
   at = s value.before
 
-  some : value.value-said.result ≡ 2 → ⊥
-  some = c.before.before.before.before.before.if2.false
+  some : value.value_said-w.result ≡ 2 → ⊥
+  some = c.if-w-eq2.false
 
-  one_bit : value.value-said.result < 2
-  one_bit = value-below at.args.n at.args.table.now at.args.k at.args.j value.value-said.ensures some
+  one_bit : value.value_said-w.result < 2
+  one_bit = value-below at.args.n at.args.table.now at.args.k at.args.j value.value_said-w.ensures some
 
   few : (at.args.k < 128) × (at.args.j < length at.args.ties.now)
   unfolding tied_state_of state_of
   few = let v = valid value.before in let l = below value.before in (omega (arith, v.state.model.few), omega (arith, v.ties.len))
 
-mul-place : tie.Need-overflow-mul-place
+mul-place : tie.Need-overflow_mul-place
 mul-place c = let d = c.before.before.before.before.before in omega (arith, (few d).0)
 
-add-place : tie.Need-overflow-add-place
+add-place : tie.Need-overflow_add-place
 add-place c = let d = c.before.before.before.before.before in omega (arith, (few d).0)
 
-sub-place : tie.Need-overflow-sub-place
+sub-place : tie.Need-overflow_sub-place
 sub-place c = let d = c.before.before.before.before.before in omega (arith, one_bit d)
 
-cast-ties : tie.Need-overflow-cast-ties
+cast-ties : tie.Need-overflow_cast-ties
 cast-ties c = let d = c.before.before.before.before.before in omega (arith, (few d).0, one_bit d)
 
-mul-ties : tie.Need-overflow-mul-ties
+mul-ties : tie.Need-offset_bounds-ties-replaced
 mul-ties c = search rules
 
-slice-write-ties : tie.Need-slice-write-ties
+slice-write-ties : tie.Need-bounds-ties-replaced
 slice-write-ties c = (few c.before.before.before.before.before).1
 
-same-length-10 : tie.Need-same-length-10
+same-length-10 : tie.Need-shape_of-coefs
 same-length-10 c = search rules
 
-same-length-11 : tie.Need-same-length-11
+same-length-11 : tie.Need-shape_of-rhs
 same-length-11 c = search rules
 
-same-length-12 : tie.Need-same-length-12
+same-length-12 : tie.Need-shape_of-ties
 same-length-12 c = search rules
 
-returns-4 : tie.Need-returns-4
+returns-4 : tie.Need-returns
 unfolding performed_tie tie_answer
 returns-4 c =
     let d = c.before.before.before.before.before in
     let e = (value d).before in
     let a = (at d).args in
     promised (before (s e)) (call (s e))
-    (tied-left a.n a.m a.bounds.now a.coefs.now a.rhs.now a.kinds.now a.table.now a.ties.now a.k a.j (value d).value-said.result
-    (ok e) (value d).value-said.ensures (some d) (told-true d.before.can-tie.result (can d.before) d.if3.false) c.before.before.tie-rows.ensures)
+    (tied-left a.n a.m a.bounds.now a.coefs.now a.rhs.now a.kinds.now a.table.now a.ties.now a.k a.j (value d).value_said-w.result
+    (ok e) (value d).value_said-w.ensures (some d) (told-true d.before.can_tie.result (can d.before) d.if-not-can_tie.false-raw) c.before.before.tie_rows.ensures)
 
-pub tie-spec : {M : Type 1} → statement M
-tie-spec =
+pub tie_spec : {M : Type 1} → statement M
+tie_spec =
     tie.close
     (tie.spec
     tie-fault-requires

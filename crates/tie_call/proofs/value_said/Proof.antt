@@ -8,24 +8,24 @@ use Rattle.tie_call.proofs.value_said.Tie as tie
 says-requires : tie.Need-says-requires
 says-requires c κs = search rules
 
-returns : tie.Need-returns
+returns : tie.Need-returns-then-says
 unfolding value_said
-returns c = rw (sym c.before.says.ensures ∙ c.if1.true) refl
+returns c = rw (sym c.before.says.ensures ∙ c.if-says.true) refl
 
 says-requires-2 : tie.Need-says-requires-2
 says-requires-2 c κs = search rules
 
-returns-2 : tie.Need-returns-2
+returns-2 : tie.Need-returns-then-says-2
 unfolding value_said
 returns-2 c =
     let e = c.before.before in
-    rw (sym e.before.says.ensures ∙ e.if1.false, sym c.before.says2.ensures ∙ c.if2.true) refl
+    rw (sym e.before.says.ensures ∙ e.if-says.false, sym c.before.says-2.ensures ∙ c.if-says-2.true) refl
 
-returns-3 : tie.Need-returns-3
+returns-3 : tie.Need-returns
 unfolding value_said
 returns-3 c =
     let e = c.before.before in
-    rw (sym e.before.says.ensures ∙ e.if1.false, sym c.before.says2.ensures ∙ c.if2.false) refl
+    rw (sym e.before.says.ensures ∙ e.if-says.false, sym c.before.says-2.ensures ∙ c.if-says-2.false) refl
 
-pub value-said-spec : {M : Type 1} → statement M
-value-said-spec = tie.close (tie.spec says-requires returns says-requires-2 returns-2 returns-3)
+pub value_said_spec : {M : Type 1} → statement M
+value_said_spec = tie.close (tie.spec says-requires returns says-requires-2 returns-2 returns-3)

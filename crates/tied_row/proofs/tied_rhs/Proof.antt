@@ -14,17 +14,17 @@ use Rattle.tied_row.proofs.tied_rhs.Tie as tie
 less-is : (s : tie.Start) → to_z w32 (of_z w32 s.args.b) -ℤ to_z w32 (of_z w32 s.args.aj) ≡ s.args.b -ℤ s.args.aj
 less-is s = ap₂ ◌-ℤ◌ (to_z-of_z {w = w32} s.ranges.b) (to_z-of_z {w = w32} s.ranges.aj)
 
-returns : tie.Need-returns
-returns c = let s = c.before in rw c.if1.true (to_z-of_z {w = w32} s.ranges.b)
+returns : tie.Need-returns-then-w-eq0
+returns c = let s = c.before in rw c.if-w-eq0.true (to_z-of_z {w = w32} s.ranges.b)
 
-sub-result : tie.Need-overflow-sub-result
+sub-result : tie.Need-overflow_sub-result
 sub-result c = let s = c.before in rw (less-is s) (within-fits w32 tt (within-sub s.requires.1 s.requires.0))
 
-returns-2 : tie.Need-returns-2
+returns-2 : tie.Need-returns
 returns-2 c =
     let s = c.before in
     let w = s.args.w in
-    rw (test-false (eqb w 0) (eqb-test w 0) c.if1.false) (read w32 (sub-result c) (less-is s))
+    rw (test-false (eqb w 0) (eqb-test w 0) c.if-w-eq0.false) (read w32 (sub-result c) (less-is s))
 
-pub tied-rhs-spec : {M : Type 1} → statement M
-tied-rhs-spec = tie.close (tie.spec returns sub-result returns-2)
+pub tied_rhs_spec : {M : Type 1} → statement M
+tied_rhs_spec = tie.close (tie.spec returns sub-result returns-2)

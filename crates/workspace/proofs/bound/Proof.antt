@@ -15,13 +15,13 @@ use Rattle.row.proofs.ActivityLaws.{within-bound}
 use Rattle.workspace.proofs.bound.Statement.{statement}
 use Rattle.workspace.proofs.bound.Tie as tie
 
-cast-result : tie.Need-overflow-cast-result
+cast-result : tie.Need-overflow_cast-result
 cast-result c = search rules
 
 read : (c : tie.Start) → to_z w32 (c.args.word % 65_536) ≡ pos (c.args.word % 65_536)
 read c = to_z_pos w32 (omega arith)
 
-sub-result : tie.Need-overflow-sub-result
+sub-result : tie.Need-overflow_sub-result
 unfolding bound_of
 sub-result c = fits_read (ap (λ (z : ℤ). z -ℤ pos 32_768) (read c)) (within-fits w32 tt (within-bound (bound-in c.args.word)))
 
@@ -29,5 +29,5 @@ returns : tie.Need-returns
 unfolding bound_of
 returns c = to_z-of_z {w = w32} (sub-result c) ∙ ap (λ (z : ℤ). z -ℤ pos 32_768) (read c)
 
-pub bound-spec : {M : Type 1} → statement M
-bound-spec = tie.close (tie.spec cast-result sub-result returns)
+pub bound_spec : {M : Type 1} → statement M
+bound_spec = tie.close (tie.spec cast-result sub-result returns)

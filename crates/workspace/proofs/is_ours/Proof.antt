@@ -30,60 +30,60 @@ le-no a b h = T→false (leb a b) (not_T (leb a b) (λ t. let l = leb→le a b t
 le_yes : (a b : ℕ) → a ≤ b → leb a b ≡ true
 le_yes a b h = T→true (leb a b) ((leb-test a b).1 h)
 
-returns : tie.Need-returns
+returns : tie.Need-returns-then-ws-ne-WORKSPACE_LEN
 unfolding is_ours
-returns c = rw (eq_no c.if1.true)
+returns c = rw (eq_no c.if-ws-ne-WORKSPACE_LEN.true)
 
-shared-slice-read-if2 : tie.Need-shared-slice-read-if2
+shared-slice-read-if2 : tie.Need-bounds-ws-0
 shared-slice-read-if2 c = search rules
 
-returns-2 : tie.Need-returns-2
+returns-2 : tie.Need-returns-then-ws-ne-OUR_MARK
 unfolding is_ours
-returns-2 c = rw (eq_yes c.before.before.if1.false, eq_no c.if2.true)
+returns-2 c = rw (eq_yes c.if-ws-ne-WORKSPACE_LEN.false, eq_no c.if-ws-ne-OUR_MARK.true)
 
-shared-slice-read-if3 : tie.Need-shared-slice-read-if3
+shared-slice-read-if3 : tie.Need-bounds-ws-1
 shared-slice-read-if3 c = search rules
 
 -- where the first two tests passed
-module _ (e : tie.Else2) where
+module _ (e : tie.Else-ws-ne-OUR_MARK) where
   abbrev W : List ℕ
-  W = e.before.before.before.args.ws.now
+  W = e.args.ws.now
 
   length-is : eqb (length W) workspace_len ≡ true
-  length-is = eq_yes e.before.before.if1.left
+  length-is = eq_yes e.if-ws-ne-WORKSPACE_LEN.false
 
   mark-is : eqb (get_or W 0 0) our_mark ≡ true
-  mark-is = eq_yes e.if2.left
+  mark-is = eq_yes e.if-ws-ne-OUR_MARK.false
 
-returns-3 : tie.Need-returns-3
+returns-3 : tie.Need-returns-then-ws-lt1
 unfolding is_ours
 returns-3 c =
     let e = c.before.before in
-    rw (length-is e, mark-is e, lt_no 0 (get_or (W e) 1 0) (omega (arith, c.if3.true)))
+    rw (length-is e, mark-is e, lt_no 0 (get_or (W e) 1 0) (omega (arith, c.if-ws-lt1.true)))
 
-shared-slice-read-if4 : tie.Need-shared-slice-read-if4
+shared-slice-read-if4 : tie.Need-bounds-ws-1-2
 shared-slice-read-if4 c = search rules
 
-returns-4 : tie.Need-returns-4
+returns-4 : tie.Need-returns-then-ws-gt-MOST_VARIABLES
 unfolding is_ours
 returns-4 c =
     let t = c.before.before in
     let e = t.before.before in
-    rw (length-is e, mark-is e, lt_yes 0 (get_or (W e) 1 0) (omega (arith, t.if3.false)), le-no (get_or (W e) 1 0) 128 c.if4.true)
+    rw (length-is e, mark-is e, lt_yes 0 (get_or (W e) 1 0) (omega (arith, t.if-ws-lt1.false)), le-no (get_or (W e) 1 0) 128 c.if-ws-gt-MOST_VARIABLES.true)
 
-shared-slice-read-result : tie.Need-shared-slice-read-result
+shared-slice-read-result : tie.Need-bounds-ws-2
 shared-slice-read-result c = search rules
 
-returns-5 : tie.Need-returns-5
+returns-5 : tie.Need-returns
 unfolding is_ours
 returns-5 c =
     let u = c.before in
     let t = u.before.before in
     let e = t.before.before in
-    rw (length-is e, mark-is e, lt_yes 0 (get_or (W e) 1 0) (omega (arith, t.if3.false)), le_yes (get_or (W e) 1 0) 128 (omega (arith, u.if4.false)))
+    rw (length-is e, mark-is e, lt_yes 0 (get_or (W e) 1 0) (omega (arith, t.if-ws-lt1.false)), le_yes (get_or (W e) 1 0) 128 (omega (arith, u.if-ws-gt-MOST_VARIABLES.false)))
 
-pub is-ours-spec : {M : Type 1} → statement M
-is-ours-spec =
+pub is_ours_spec : {M : Type 1} → statement M
+is_ours_spec =
     tie.close
     (tie.spec
     returns

@@ -19,70 +19,70 @@ use Rattle.row.proofs.ActivityLaws.{within-bound}
 use Rattle.workspace.proofs.keep_box.Statement.{statement}
 use Rattle.workspace.proofs.keep_box.Tie as tie
 
-abbrev invariant-loop : tie.invariant-loop
+abbrev invariant-loop : tie.invariant-loop-i
 invariant-loop bounds ws₀ i₀ ws i = (i ≤ length bounds) × SameBut 8 (8 + i) ws₀ ws × ((q : ℕ) → q < i → bound_of (get_or ws (8 + q) 0) ≡ at bounds q)
 
-abbrev decreases-loop : tie.decreases-loop
+abbrev decreases-loop : tie.decreases-loop-i
 decreases-loop bounds ws₀ i₀ ws i = length bounds - i
 
-loop-holds : tie.Need-loop-init invariant-loop decreases-loop
-loop-holds c = (omega arith, same_none 8 c.before.args.ws.now, below_none _)
+loop-holds : tie.Need-loop-i-init invariant-loop decreases-loop
+loop-holds c = (omega arith, same_none 8 c.args.ws.now, below_none _)
 
-mul-raised : tie.Need-overflow-mul-raised invariant-loop decreases-loop
-mul-raised c = omega (arith, c.before.before.before.requires)
+mul-raised : tie.Need-offset_bounds-bounds-i invariant-loop decreases-loop
+mul-raised c = omega (arith, c.requires)
 
-shared-slice-copy-out-raised : tie.Need-shared-slice-copy-out-raised invariant-loop decreases-loop
+shared-slice-copy-out-raised : tie.Need-bounds-bounds-i invariant-loop decreases-loop
 shared-slice-copy-out-raised c = omega arith
 
 raised-requires : tie.Need-raised-requires invariant-loop decreases-loop
 raised-requires c κs =
-    let b = c.before.before.before.before.requires.1 c.before.before.loop.i in
+    let b = c.requires.1 c.loop-i.i in
     let f = within-fits w32 tt (within-bound b) in
     simp to_z-of_z (omega (zarith, b), omega (zarith, b), omega zarith)
 
-add-ws : tie.Need-overflow-add-ws invariant-loop decreases-loop
-add-ws c = omega (arith, c.before.before.before.before.before.requires)
+add-ws : tie.Need-overflow_add-ws invariant-loop decreases-loop
+add-ws c = omega (arith, c.requires)
 
-mul-ws : tie.Need-overflow-mul-ws invariant-loop decreases-loop
-mul-ws c = omega (arith, c.before.before.before.before.before.requires)
+mul-ws : tie.Need-offset_bounds-ws-i invariant-loop decreases-loop
+mul-ws c = omega (arith, c.requires)
 
-slice-write-ws : tie.Need-slice-write-ws invariant-loop decreases-loop
-slice-write-ws c = omega (arith, c.before.before.before.before.before.requires, c.before.before.before.loop.invariant.1.len)
+slice-write-ws : tie.Need-bounds-ws-i invariant-loop decreases-loop
+slice-write-ws c = omega (arith, c.requires, c.loop-i.invariant.1.len)
 
-add-i : tie.Need-overflow-add-i invariant-loop decreases-loop
-add-i c = omega (arith, c.before.before.before.before.before.requires)
+add-i : tie.Need-overflow_add-i invariant-loop decreases-loop
+add-i c = omega (arith, c.requires)
 
-loop-less : tie.Need-loop-smaller invariant-loop decreases-loop
+loop-less : tie.Need-loop-i-smaller invariant-loop decreases-loop
 loop-less c = omega arith
 
-loop-again : tie.Need-loop-preserved invariant-loop decreases-loop
+loop-again : tie.Need-loop-i-preserved invariant-loop decreases-loop
 loop-again c =
     let h = c.before.before.before in
-    let i = h.loop.i in
-    let ws = h.loop.ws in
-    let b = h.before.before.requires.1 i in
+    let i = h.loop-i.i in
+    let ws = h.loop-i.ws in
+    let b = h.requires.1 i in
     let f = within-fits w32 tt (within-bound b) in (
       omega arith,
-      same_more i h.loop.invariant.1 _,
+      same_more i h.loop-i.invariant.1 _,
       below_more _ i
-          (λ q k. ap bound_of (get_or-set_other ws (8 + i) (8 + q) _ 0 (omega arith)) ∙ h.loop.invariant.2 q k)
+          (λ q k. ap bound_of (get_or-set_other ws (8 + i) (8 + q) _ 0 (omega arith)) ∙ h.loop-i.invariant.2 q k)
           (ap bound_of (get_or-set_same ws (8 + i) _ 0 (slice-write-ws c)) ∙ bound-raised b (simp to_z-of_z at c.raised.ensures)),
     )
 
-same_length : tie.Need-same-length invariant-loop decreases-loop
-same_length c = c.before.loop.invariant.1.len
+same_length : tie.Need-shape_of-ws invariant-loop decreases-loop
+same_length c = c.loop-i.invariant.1.len
 
 returns : tie.Need-returns invariant-loop decreases-loop
 returns c =
     let h = c.before in
-    let W = h.loop.ws in (
+    let W = h.loop-i.ws in (
       (λ n l. ext_get_or (pos 0) _ _ (length-box n W ∙ sym l)
-          (λ q k. let small = rw (length-box n W) at k in box-at n W q small ∙ h.loop.invariant.2 q (omega arith))),
-      same-wider (omega (arith, h.before.before.requires)) h.loop.invariant.1,
+          (λ q k. let small = rw (length-box n W) at k in box-at n W q small ∙ h.loop-i.invariant.2 q (omega arith))),
+      same-wider (omega (arith, h.requires)) h.loop-i.invariant.1,
     )
 
-pub keep-box-spec : {M : Type 1} → statement M
-keep-box-spec =
+pub keep_box_spec : {M : Type 1} → statement M
+keep_box_spec =
     tie.close
     (tie.spec
     invariant-loop

@@ -23,13 +23,13 @@ module _ (c : tie.Start) where
   sum-positive : T (non_neg (c.args.z +ℤ c.args.by))
   sum-positive = not_negative sum (omega (zarith, c.requires, add_parts c.args.z c.args.by, neg-parts c.args.by))
 
-add-result : tie.Need-overflow-add-result
+add-result : tie.Need-overflow_add-result
 add-result c =
     let fz = c.ranges.z in
     let fb = c.ranges.by in
     simp to_z-of_z (sum_fits c)
 
-cast-result : tie.Need-overflow-cast-result
+cast-result : tie.Need-overflow_cast-result
 cast-result c =
     let fz = c.ranges.z in
     let fb = c.ranges.by in
@@ -43,5 +43,5 @@ returns c =
     let fs = sum_fits c in
     simp to_z-of_z (pos-nat_abs (sum c) (sum-positive c))
 
-pub raised-spec : {M : Type 1} → statement M
-raised-spec = tie.close (tie.spec add-result cast-result returns)
+pub raised_spec : {M : Type 1} → statement M
+raised_spec = tie.close (tie.spec add-result cast-result returns)

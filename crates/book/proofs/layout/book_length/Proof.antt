@@ -6,15 +6,15 @@ use Rattle.book.proofs.EncodeLaws.{place-below}
 use Rattle.book.proofs.layout.book_length.Statement.{statement}
 use Rattle.book.proofs.layout.book_length.Tie as tie
 
-row-place-requires : tie.Need-row-place-requires
+row-place-requires : tie.Need-row_place-requires
 row-place-requires c κs = search rules
 
-add-result : tie.Need-overflow-add-result
+add-result : tie.Need-overflow_add-result
 add-result c = omega (arith, place-below c.before.args.n c.before.args.m c.before.requires.0 c.before.requires.1)
 
 returns : tie.Need-returns
 unfolding row_place book_length
 returns c = omega arith
 
-pub book-length-spec : {M : Type 1} → statement M
-book-length-spec = tie.close (tie.spec row-place-requires add-result returns)
+pub book_length_spec : {M : Type 1} → statement M
+book_length_spec = tie.close (tie.spec row-place-requires add-result returns)

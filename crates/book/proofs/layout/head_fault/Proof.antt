@@ -14,48 +14,48 @@ use Rattle.book.proofs.EncodeLaws.{trailer-part}
 use Rattle.book.proofs.layout.head_fault.Statement.{statement}
 use Rattle.book.proofs.layout.head_fault.Tie as tie
 
-returns : tie.Need-returns
+returns : tie.Need-returns-then-len-lt-TRAILER
 unfolding head_checks
-returns c = fails _ 1 _ (lt-leb _ _ c.if1.true)
+returns c = fails _ 1 _ (lt-leb _ _ c.if-len-lt-TRAILER.true)
 
-sub-trailer : tie.Need-overflow-sub-trailer
+sub-trailer : tie.Need-slice_bounds-trailer-count
 sub-trailer c = search rules
 
-part-trailer-start : tie.Need-slice-bounds-trailer-start
+part-trailer-start : tie.Need-slice_bounds-trailer-start
 part-trailer-start c = search rules
 
-part-trailer-end : tie.Need-slice-bounds-trailer-end
+part-trailer-end : tie.Need-slice_bounds-trailer-end
 part-trailer-end c = search rules
 
-given-length-fault-requires : tie.Need-given-length-fault-requires
+given-length-fault-requires : tie.Need-given_length_fault-given-requires
 given-length-fault-requires c κs = search rules
 
-layout-fault-requires : tie.Need-layout-fault-requires
+layout-fault-requires : tie.Need-layout_fault-layout-requires
 layout-fault-requires c κs = search rules
 
 -- the two calls answer for the book's trailer
-given : (c : tie.After-given-length-fault)
-    → let bs = c.before.before.before.before.args.book.now in c.given-length-fault.result ≡ first (given_length_checks (trailer_of bs) (length bs))
+given : (c : tie.After-given_length_fault-given)
+    → let bs = c.before.before.before.before.args.book.now in c.given_length_fault-given.result ≡ first (given_length_checks (trailer_of bs) (length bs))
 given c =
     let bs = c.before.before.before.before.args.book.now in
-    c.given-length-fault.ensures ∙ ap (λ (t : List ℕ). first (given_length_checks t (length bs))) (trailer-part bs)
+    c.given_length_fault-given.ensures ∙ ap (λ (t : List ℕ). first (given_length_checks t (length bs))) (trailer-part bs)
 
-layout : (c : tie.After-layout-fault) → c.layout-fault.result ≡ first (layout_checks (trailer_of c.before.before.before.before.before.args.book.now))
-layout c = c.layout-fault.ensures ∙ ap (λ (t : List ℕ). first (layout_checks t)) (trailer-part c.before.before.before.before.before.args.book.now)
+layout : (c : tie.After-layout_fault-layout) → c.layout_fault-layout.result ≡ first (layout_checks (trailer_of c.before.before.before.before.before.args.book.now))
+layout c = c.layout_fault-layout.ensures ∙ ap (λ (t : List ℕ). first (layout_checks t)) (trailer-part c.before.before.before.before.before.args.book.now)
 
-returns-2 : tie.Need-returns-2
+returns-2 : tie.Need-returns-then-given-ne0
 unfolding head_checks
-returns-2 c = past _ 1 _ (le-leb _ _ c.before.before.before.before.if1.false) (stops _ _ (given c.before.before) c.if2.true)
+returns-2 c = past _ 1 _ (le-leb _ _ c.before.before.before.before.if-len-lt-TRAILER.false) (stops _ _ (given c.before.before) c.if-given-ne0.true)
 
-returns-3 : tie.Need-returns-3
+returns-3 : tie.Need-returns
 unfolding head_checks given_length_checks
 returns-3 c =
     let bs = c.before.before.before.before.before.before.args.book.now in
-    past _ 1 _ (le-leb _ _ c.before.before.before.before.if1.false)
-    (goes (given_length_checks (trailer_of bs) (length bs)) (layout_checks (trailer_of bs)) tt (given c.before.before) c.if2.false (layout c.before))
+    past _ 1 _ (le-leb _ _ c.before.before.before.before.if-len-lt-TRAILER.false)
+    (goes (given_length_checks (trailer_of bs) (length bs)) (layout_checks (trailer_of bs)) tt (given c.before.before) c.if-given-ne0.false (layout c.before))
 
-pub head-fault-spec : {M : Type 1} → statement M
-head-fault-spec =
+pub head_fault_spec : {M : Type 1} → statement M
+head_fault_spec =
     tie.close
     (tie.spec
     returns

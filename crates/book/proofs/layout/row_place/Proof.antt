@@ -7,20 +7,20 @@ use Rattle.book.proofs.EncodeLaws.{place-below}
 use Rattle.book.proofs.layout.row_place.Statement.{statement}
 use Rattle.book.proofs.layout.row_place.Tie as tie
 
-mul-result : tie.Need-overflow-mul-result
+mul-result : tie.Need-overflow_mul-result
 mul-result c = search rules
 
-mul-result-2 : tie.Need-overflow-mul-result-2
+mul-result-2 : tie.Need-overflow_mul-result-2
 mul-result-2 c = search rules
 
-add-result : tie.Need-overflow-add-result
+add-result : tie.Need-overflow_add-result
 add-result c = search rules
 
-mul-result-3 : tie.Need-overflow-mul-result-3
+mul-result-3 : tie.Need-overflow_mul-result-3
 unfolding row_place
 mul-result-3 c = omega (arith, place-below c.args.n c.args.i c.requires.0 c.requires.1)
 
-add-result-2 : tie.Need-overflow-add-result-2
+add-result-2 : tie.Need-overflow_add-result-2
 unfolding row_place
 add-result-2 c = omega (arith, place-below c.args.n c.args.i c.requires.0 c.requires.1)
 
@@ -28,6 +28,6 @@ returns : tie.Need-returns
 unfolding row_place
 returns c = refl
 
-pub row-place-spec : {M : Type 1} → statement M
-row-place-spec =
+pub row_place_spec : {M : Type 1} → statement M
+row_place_spec =
     tie.close (tie.spec mul-result mul-result-2 add-result mul-result-3 add-result-2 returns)

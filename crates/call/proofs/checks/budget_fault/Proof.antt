@@ -17,20 +17,20 @@ Within b = (1 ≤ b) × (b ≤ max_budget)
 tests : (b : ℕ) → T (leb 1 b && leb b max_budget) ↔ Within b
 tests b = both (leb 1 b) (leb b max_budget) (leb-test 1 b) (leb-test b max_budget)
 
-returns : tie.Need-returns
+returns : tie.Need-returns-then-budget-lt1
 unfolding budget_checks
 returns c =
-    let b = c.before.args.budget in fails _ 15 _ (test-false _ (tests b) (λ (h : Within b). let z : ⊥ = omega arith in z))
+    let b = c.args.budget in fails _ 15 _ (test-false _ (tests b) (λ (h : Within b). let z : ⊥ = omega arith in z))
 
-returns-2 : tie.Need-returns-2
+returns-2 : tie.Need-returns-then-budget-gt-MAX_BUDGET
 unfolding budget_checks
 returns-2 c =
-    let b = c.before.before.args.budget in fails _ 15 _ (test-false _ (tests b) (λ (h : Within b). let z : ⊥ = omega arith in z))
+    let b = c.args.budget in fails _ 15 _ (test-false _ (tests b) (λ (h : Within b). let z : ⊥ = omega arith in z))
 
-returns-3 : tie.Need-returns-3
+returns-3 : tie.Need-returns
 unfolding budget_checks
 returns-3 c =
-    let b = c.before.before.args.budget in past _ 15 _ (test-true _ (tests b) (let w : Within b = (omega arith, omega arith) in w)) ends
+    let b = c.args.budget in past _ 15 _ (test-true _ (tests b) (let w : Within b = (omega arith, omega arith) in w)) ends
 
-pub budget-fault-spec : {M : Type 1} → statement M
-budget-fault-spec = tie.close (tie.spec returns returns-2 returns-3)
+pub budget_fault_spec : {M : Type 1} → statement M
+budget_fault_spec = tie.close (tie.spec returns returns-2 returns-3)

@@ -6,24 +6,24 @@ use Rattle.call.specs.FieldChecks.{row_checks, tightening_checks, variable_check
 use Rattle.call.proofs.checks.tightening_fields_fault.Statement.{statement}
 use Rattle.call.proofs.checks.tightening_fields_fault.Tie as tie
 
-row-fault-requires : tie.Need-row-fault-requires
+row-fault-requires : tie.Need-row_fault-fault-requires
 row-fault-requires c κs = search rules
 
-returns : tie.Need-returns
+returns : tie.Need-returns-then-fault-ne0
 unfolding tightening_checks
 returns c =
-    let a = c.before.before.args in
-    stops (row_checks a.m a.row) (variable_checks a.n a.bounds.now a.variable) c.before.row-fault.ensures c.if1.true
+    let a = c.args in
+    stops (row_checks a.m a.row) (variable_checks a.n a.bounds.now a.variable) c.row_fault-fault.ensures c.if-fault-ne0.true
 
-variable-fault-requires : tie.Need-variable-fault-requires
+variable-fault-requires : tie.Need-variable_fault-requires
 variable-fault-requires c κs = search rules
 
-returns-2 : tie.Need-returns-2
+returns-2 : tie.Need-returns
 unfolding tightening_checks row_checks
 returns-2 c =
     let e = c.before in
-    let a = e.before.before.args in
-    goes (row_checks a.m a.row) (variable_checks a.n a.bounds.now a.variable) tt e.before.row-fault.ensures e.if1.false c.variable-fault.ensures
+    let a = e.args in
+    goes (row_checks a.m a.row) (variable_checks a.n a.bounds.now a.variable) tt e.row_fault-fault.ensures e.if-fault-ne0.false c.variable_fault.ensures
 
-pub tightening-fields-fault-spec : {M : Type 1} → statement M
-tightening-fields-fault-spec = tie.close (tie.spec row-fault-requires returns variable-fault-requires returns-2)
+pub tightening_fields_fault_spec : {M : Type 1} → statement M
+tightening_fields_fault_spec = tie.close (tie.spec row-fault-requires returns variable-fault-requires returns-2)

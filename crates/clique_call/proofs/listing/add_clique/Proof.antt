@@ -32,68 +32,68 @@ module _ (s : tie.Start) where
   C' = splice C (clique_row n (grow n t p)) (s.args.number * n)
 
   lengths : (length C ≡ 2 * n * n) × (length s.args.rhs.now ≡ 2 * n) × (s.args.number < 2 * n)
-  lengths = list-lengths n t p s.pre.0.1 s.pre.1
+  lengths = list-lengths n t p s.requires.0.1 s.requires.1
 
   lies : s.args.number * n + n ≤ length C'
-  lies = row_lies n (2 * n) C' s.args.number (grown-list-length n t p s.pre.0.1 s.pre.1) lengths.2
+  lies = row_lies n (2 * n) C' s.args.number (grown-list-length n t p s.requires.0.1 s.requires.1) lengths.2
 
-grow-at-requires : tie.Need-grow-at-requires
+grow-at-requires : tie.Need-grow_at-clique-requires
 grow-at-requires c κs =
     let s = c.before.before in
     (s.requires.0, (row_lies (n s) (2 * n s) (C s) s.args.number (lengths s).0 (lengths s).2, next-row-zero (n s) (t s) (p s) s.requires.0.1 s.requires.1))
 
-is-kept-requires : tie.Need-is-kept-requires
-is-kept-requires c κs = rw c.before.before.grow-at.ensures.0 (lies c.before.before.before.before.before)
+is-kept-requires : tie.Need-is_kept-requires
+is-kept-requires c κs = rw c.before.grow_at-clique.ensures.0 (lies c.before.before.before.before)
 
 -- whether it is new
-new_is : (c : tie.After-is-kept) → let s = c.before.before.before.before.before.before in c.is-kept.result ≡ is_new (grow (n s) (t s) (p s)) (cliques_to (p s) (n s) (t s))
+new_is : (c : tie.After-is_kept) → let s = c.before.before.before.before.before in c.is_kept.result ≡ is_new (grow (n s) (t s) (p s)) (cliques_to (p s) (n s) (t s))
 new_is c =
-    let s = c.before.before.before.before.before.before in
-    let told = c.before.before.before.grow-at.ensures in
-    rw (told.0, told.1.0.0) at c.is-kept.ensures ∙ test-is (n s) (t s) (p s) s.requires.0.1 s.requires.1
+    let s = c.before.before.before.before.before in
+    let told = c.before.before.grow_at-clique.ensures in
+    rw (told.0, told.1.0.0) at c.is_kept.ensures ∙ test-is (n s) (t s) (p s) s.requires.0.1 s.requires.1
 
-cast-rhs : tie.Need-overflow-cast-rhs
+cast-rhs : tie.Need-overflow_cast-rhs
 cast-rhs c = search rules
 
-sub-rhs : tie.Need-overflow-sub-rhs
-sub-rhs c = side-fits c.before.before.before.before.before.grow-at.ensures.1.1.1
+sub-rhs : tie.Need-overflow_sub-rhs
+sub-rhs c = side-fits c.before.before.before.before.grow_at-clique.ensures.1.1.1
 
-mul-t15 : tie.Need-overflow-mul-t15
-mul-t15 c = let m = c.before.before.before.before.before.before.before.before.requires.0.0.most in omega (arith, (lengths c.before.before.before.before.before.before.before.before).2)
+mul-t15 : tie.Need-offset_bounds-rhs-number
+mul-t15 c = let m = c.before.before.before.before.before.before.before.requires.0.0.most in omega (arith, (lengths c.before.before.before.before.before.before.before).2)
 
-slice-set-from-rhs : tie.Need-slice-set-from-rhs
-slice-set-from-rhs c = let l = lengths c.before.before.before.before.before.before.before.before in omega (arith, l.1, l.2)
+slice-set-from-rhs : tie.Need-bounds-rhs-number
+slice-set-from-rhs c = let l = lengths c.before.before.before.before.before.before.before in omega (arith, l.1, l.2)
 
-add-result : tie.Need-overflow-add-result
-add-result c = let m = c.before.before.before.before.before.before.before.before.requires.0.0.most in omega (arith, (lengths c.before.before.before.before.before.before.before.before).2)
+add-result : tie.Need-overflow_add-result
+add-result c = let m = c.before.before.before.before.before.before.before.requires.0.0.most in omega (arith, (lengths c.before.before.before.before.before.before.before).2)
 
-same_length : tie.Need-same-length
+same_length : tie.Need-shape_of-coefs-then-is_kept
 same_length c = search rules
 
-same-length-2 : tie.Need-same-length-2
+same-length-2 : tie.Need-shape_of-rhs-then-is_kept
 same-length-2 c = search rules
 
-returns : tie.Need-returns
+returns : tie.Need-returns-then-is_kept
 returns c =
-    let s = c.before.before.before.before.before.before.before.before in
-    let told = c.before.before.before.before.before.grow-at.ensures in
+    let s = c.before.before.before.before.before.before.before in
+    let told = c.before.before.before.before.grow_at-clique.ensures in
     rw told.0
-    (clique-kept (n s) (t s) (p s) s.requires.0.1 s.requires.1 (sym (new_is c.before.before) ∙ c.before.if1.true) (side-is (grow (n s) (t s) (p s)) told.1.1.1 told.1.1.0))
+    (clique-kept (n s) (t s) (p s) s.requires.0.1 s.requires.1 (sym (new_is c.before.before) ∙ c.before.if-is_kept.true) (side-is (grow (n s) (t s) (p s)) told.1.1.1 told.1.1.0))
 
-zero-at-requires : tie.Need-zero-at-requires
-zero-at-requires c κs = rw c.before.before.before.before.before.grow-at.ensures.0 (lies c.before.before.before.before.before.before.before.before)
+zero-at-requires : tie.Need-zero_at-requires
+zero-at-requires c κs = rw c.before.before.before.before.grow_at-clique.ensures.0 (lies c.before.before.before.before.before.before.before)
 
-same-length-3 : tie.Need-same-length-3
+same-length-3 : tie.Need-shape_of-coefs
 same-length-3 c = search rules
 
-returns-2 : tie.Need-returns-2
+returns-2 : tie.Need-returns
 returns-2 c =
-    let s = c.before.before.before.before.before.before.before.before.before.before in
-    let told = rw c.before.before.before.before.before.before.before.grow-at.ensures.0 at c.before.zero-at.ensures in
-    rw told (clique-cleared (n s) (t s) (p s) s.requires.0.1 s.requires.1 (sym (new_is c.before.before.before.before) ∙ c.before.before.before.if1.false))
+    let s = c.before.before.before.before.before.before.before.before.before in
+    let told = rw c.before.before.before.before.before.before.grow_at-clique.ensures.0 at c.before.zero_at.ensures in
+    rw told (clique-cleared (n s) (t s) (p s) s.requires.0.1 s.requires.1 (sym (new_is c.before.before.before.before) ∙ c.before.before.before.if-is_kept.false))
 
-pub add-clique-spec : {M : Type 1} → statement M
-add-clique-spec =
+pub add_clique_spec : {M : Type 1} → statement M
+add_clique_spec =
     tie.close
     (tie.spec
     grow-at-requires

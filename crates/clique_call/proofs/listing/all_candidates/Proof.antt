@@ -8,5 +8,5 @@ returns : tie.Need-returns
 unfolding all_ones
 returns c = refl
 
-pub all-candidates-spec : {M : Type 1} → statement M
-all-candidates-spec = tie.close (tie.spec returns)
+pub all_candidates_spec : {M : Type 1} → statement M
+all_candidates_spec = tie.close (tie.spec returns)

@@ -7,36 +7,36 @@ use borrow.Author.Rules.{rules}
 use Rattle.clique_call.proofs.listing.grow_at.Statement.{statement}
 use Rattle.clique_call.proofs.listing.grow_at.Tie as tie
 
-all-candidates-requires : tie.Need-all-candidates-requires
+all-candidates-requires : tie.Need-all_candidates-flags-requires
 all-candidates-requires c κs = search rules
 
-mul-start : tie.Need-overflow-mul-start
+mul-start : tie.Need-overflow_mul-start
 mul-start c = search rules
 
-add-end : tie.Need-overflow-add-end
+add-end : tie.Need-overflow_add-end
 add-end c = search rules
 
-slice-aggregate-grow : tie.Need-slice-aggregate-grow
+slice-aggregate-grow : tie.Need-slice_bounds-grow-end
 slice-aggregate-grow c = search rules
 
-mul-grow : tie.Need-overflow-mul-grow
+mul-grow : tie.Need-offset_bounds-coefs-start
 mul-grow c = search rules
 
-sub-grow : tie.Need-overflow-sub-grow
+sub-grow : tie.Need-slice_bounds-grow-count
 sub-grow c = search rules
 
-part-grow-start : tie.Need-slice-bounds-grow-start
+part-grow-start : tie.Need-slice_bounds-grow-start
 part-grow-start c = search rules
 
-part-grow-end : tie.Need-slice-bounds-grow-end
+part-grow-end : tie.Need-slice_bounds-grow-end-2
 part-grow-end c = search rules
 
 grow-requires : tie.Need-grow-requires
 grow-requires c κs =
     let s = c.before.before.before.before in
-    ((s.requires.0.0, c.before.before.all-candidates.ensures), (s.requires.0.1, rw (part-is s.args.k s.args.n s.args.coefs.now) s.requires.1.1))
+    ((s.requires.0.0, c.before.before.all_candidates-flags.ensures), (s.requires.0.1, rw (part-is s.args.k s.args.n s.args.coefs.now) s.requires.1.1))
 
-same_length : tie.Need-same-length
+same_length : tie.Need-shape_of-coefs
 same_length c = search rules
 
 returns : tie.Need-returns
@@ -49,8 +49,8 @@ returns c =
     let told = c.before.before.grow.ensures in
     (rw told.0 (part-back C row k n (length-clique_row n _)), told.1)
 
-pub grow-at-spec : {M : Type 1} → statement M
-grow-at-spec =
+pub grow_at_spec : {M : Type 1} → statement M
+grow_at_spec =
     tie.close
     (tie.spec
     all-candidates-requires

@@ -7,14 +7,14 @@ use borrow.Author.Rules.{rules}
 use Rattle.clique_call.proofs.listing.is_kept.Statement.{statement}
 use Rattle.clique_call.proofs.listing.is_kept.Tie as tie
 
-returns : tie.Need-returns
+returns : tie.Need-returns-then-size-lt3
 returns c = rw (test-false (leb 3 c.before.args.size) (leb-test 3 c.before.args.size) (λ h. let z : ⊥ = omega arith in z)) refl
 
-is-different-requires : tie.Need-is-different-requires
+is-different-requires : tie.Need-is_different-requires
 is-different-requires c κs = search rules
 
-returns-2 : tie.Need-returns-2
-returns-2 c = rw (test-true (leb 3 c.before.before.args.size) (leb-test 3 c.before.before.args.size) (omega arith)) c.is-different.ensures
+returns-2 : tie.Need-returns
+returns-2 c = rw (test-true (leb 3 c.before.before.args.size) (leb-test 3 c.before.before.args.size) (omega arith)) c.is_different.ensures
 
-pub is-kept-spec : {M : Type 1} → statement M
-is-kept-spec = tie.close (tie.spec returns is-different-requires returns-2)
+pub is_kept_spec : {M : Type 1} → statement M
+is_kept_spec = tie.close (tie.spec returns is-different-requires returns-2)

@@ -10,15 +10,15 @@ coefficients-requires c κs = search rules
 coefficients-requires-2 : tie.Need-coefficients-requires-2
 coefficients-requires-2 c κs = search rules
 
-same-box-requires : tie.Need-same-box-requires
+same-box-requires : tie.Need-same_box-requires
 same-box-requires c κs =
     let s = c.before.before in
     let a = s.args in
-    rw (c.before.coefficients.ensures, c.coefficients2.ensures, part_length a.i a.n a.coefs.now s.requires.0, part_length a.k a.n a.coefs.now s.requires.1)
+    rw (c.before.coefficients.ensures, c.coefficients-2.ensures, part_length a.i a.n a.coefs.now s.requires.0, part_length a.k a.n a.coefs.now s.requires.1)
 
 returns : tie.Need-returns
-returns c = rw (c.before.before.coefficients.ensures, c.before.coefficients2.ensures) at c.same-box.ensures
+returns c = rw (c.before.before.coefficients.ensures, c.before.coefficients-2.ensures) at c.same_box.ensures
 
-pub same-row-spec : {M : Type 1} → statement M
-same-row-spec =
+pub same_row_spec : {M : Type 1} → statement M
+same_row_spec =
     tie.close (tie.spec coefficients-requires coefficients-requires-2 same-box-requires returns)

@@ -7,28 +7,28 @@ use borrow.Author.Rules.{rules}
 use Rattle.clique_call.proofs.listing.zero_at.Statement.{statement}
 use Rattle.clique_call.proofs.listing.zero_at.Tie as tie
 
-mul-start : tie.Need-overflow-mul-start
+mul-start : tie.Need-overflow_mul-start
 mul-start c = search rules
 
-add-end : tie.Need-overflow-add-end
+add-end : tie.Need-overflow_add-end
 add-end c = search rules
 
-mul-zero : tie.Need-overflow-mul-zero
+mul-zero : tie.Need-offset_bounds-coefs-start
 mul-zero c = search rules
 
-sub-zero : tie.Need-overflow-sub-zero
+sub-zero : tie.Need-slice_bounds-zero-count
 sub-zero c = search rules
 
-part-zero-start : tie.Need-slice-bounds-zero-start
+part-zero-start : tie.Need-slice_bounds-zero-start
 part-zero-start c = search rules
 
-part-zero-end : tie.Need-slice-bounds-zero-end
+part-zero-end : tie.Need-slice_bounds-zero-end
 part-zero-end c = search rules
 
 zero-requires : tie.Need-zero-requires
 zero-requires c κs = search rules
 
-same_length : tie.Need-same-length
+same_length : tie.Need-shape_of-coefs
 same_length c = search rules
 
 returns : tie.Need-returns
@@ -40,8 +40,8 @@ returns c =
     let told = rw (part-is k n C, length_part C k n s.requires) at c.before.zero.ensures in
     rw told (part-back C (zero_row n) k n (length-zero_row n))
 
-pub zero-at-spec : {M : Type 1} → statement M
-zero-at-spec =
+pub zero_at_spec : {M : Type 1} → statement M
+zero_at_spec =
     tie.close
     (tie.spec
     mul-start

@@ -8,5 +8,5 @@ use Rattle.intake.proofs.checking.is_too_long.Tie as tie
 returns : tie.Need-returns
 returns c = let len = c.args.len in ((λ e. too_long_lem len (leb-true too_long len e)), (λ e. leb-false too_long len e))
 
-pub is-too-long-spec : {M : Type 1} → statement M
-is-too-long-spec = tie.close (tie.spec returns)
+pub is_too_long_spec : {M : Type 1} → statement M
+is_too_long_spec = tie.close (tie.spec returns)

@@ -6,22 +6,22 @@ use native.Mathlib.Omega.{arith}
 use Rattle.page_call.proofs.count.pages_needed.Statement.{statement}
 use Rattle.page_call.proofs.count.pages_needed.Tie as tie
 
-content-lines-requires : tie.Need-content-lines-requires
+content-lines-requires : tie.Need-content_lines-requires
 content-lines-requires c κs = search rules
 
-sub-result : tie.Need-overflow-sub-result
+sub-result : tie.Need-overflow_sub-result
 sub-result c = search rules
 
-add-result : tie.Need-overflow-add-result
+add-result : tie.Need-overflow_add-result
 add-result c =
-    let a = c.before.before.args in
-    omega (arith, c.content-lines.ensures, lines-most a.n a.table.now (omega arith))
+    let a = c.args in
+    omega (arith, c.content_lines.ensures, lines-most a.n a.table.now (omega arith))
 
 returns : tie.Need-returns
 unfolding page_count
 returns c =
-    let a = c.before.before.args in
-    (rw c.content-lines.ensures, omega (arith, c.content-lines.ensures, lines-most a.n a.table.now (omega arith)))
+    let a = c.args in
+    (rw c.content_lines.ensures, omega (arith, c.content_lines.ensures, lines-most a.n a.table.now (omega arith)))
 
-pub pages-needed-spec : {M : Type 1} → statement M
-pages-needed-spec = tie.close (tie.spec content-lines-requires sub-result add-result returns)
+pub pages_needed_spec : {M : Type 1} → statement M
+pages_needed_spec = tie.close (tie.spec content-lines-requires sub-result add-result returns)

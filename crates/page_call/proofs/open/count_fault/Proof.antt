@@ -10,29 +10,29 @@ use mathlib.Core.Path.{◌≡◌}
 use Rattle.page_call.proofs.open.count_fault.Statement.{statement}
 use Rattle.page_call.proofs.open.count_fault.Tie as tie
 
-lent-fault-requires : tie.Need-lent-fault-requires
+lent-fault-requires : tie.Need-lent_fault-lent-requires
 lent-fault-requires c κs = search rules
 
-returns : tie.Need-returns
+returns : tie.Need-returns-then-lent-ne0
 unfolding count_checks
-returns c = stops _ _ c.before.lent-fault.ensures c.if1.true
+returns c = stops _ _ c.lent_fault-lent.ensures c.if-lent-ne0.true
 
 -- past checks 3 and 5
-past-lent : (c : tie.Else1) {r : ℕ} (ys : List Check) → r ≡ first ys → r ≡ first (lent_checks c.before.before.before.args.n c.before.before.before.args.table.now ++ ys)
+past-lent : (c : tie.Else-lent-ne0) {r : ℕ} (ys : List Check) → r ≡ first ys → r ≡ first (lent_checks c.args.n c.args.table.now ++ ys)
 unfolding lent_checks size_checks table_length_checks
-past-lent c ys h = goes (lent_checks c.before.before.before.args.n c.before.before.before.args.table.now) ys tt c.before.lent-fault.ensures c.if1.false h
+past-lent c ys h = goes (lent_checks c.args.n c.args.table.now) ys tt c.lent_fault-lent.ensures c.if-lent-ne0.false h
 
-is-bits-requires : tie.Need-is-bits-requires
+is-bits-requires : tie.Need-is_bits-requires
 is-bits-requires c κs = search rules
 
-returns-2 : tie.Need-returns-2
+returns-2 : tie.Need-returns-then-not-is_bits
 unfolding count_checks table_byte_checks
-returns-2 c = past-lent c.before.before _ (fails _ 10 _ (told-false _ c.before.is-bits.ensures c.if2.true))
+returns-2 c = past-lent c.before.before _ (fails _ 10 _ (told-false _ c.is_bits.ensures c.if-not-is_bits.true-raw))
 
-returns-3 : tie.Need-returns-3
+returns-3 : tie.Need-returns
 unfolding count_checks table_byte_checks
-returns-3 c = past-lent c.before.before _ (past _ 10 _ (told-true _ c.before.is-bits.ensures c.if2.false) ends)
+returns-3 c = past-lent c.before.before _ (past _ 10 _ (told-true _ c.is_bits.ensures c.if-not-is_bits.false-raw) ends)
 
-pub count-fault-spec : {M : Type 1} → statement M
-count-fault-spec =
+pub count_fault_spec : {M : Type 1} → statement M
+count_fault_spec =
     tie.close (tie.spec lent-fault-requires returns is-bits-requires returns-2 returns-3)

@@ -10,35 +10,35 @@ use mathlib.Core.Path.{◌∙◌, ◌≡◌, sym}
 use Rattle.page_call.proofs.open.write_pages.Statement.{statement}
 use Rattle.page_call.proofs.open.write_pages.Tie as tie
 
-pages-fault-requires : tie.Need-pages-fault-requires
+pages-fault-requires : tie.Need-pages_fault-fault-requires
 pages-fault-requires c κs = search rules
 
-returns : tie.Need-returns
+returns : tie.Need-returns-then-fault-ne0
 unfolding pages_answer pages_call
 returns c =
-    let a = c.before.before.before.before.args in
-    let f = c.before.pages-fault.ensures in
-    (refused-by f c.if1.true _, left_alone a.n a.bounds.now a.table.now a.pages.now f c.if1.true)
+    let a = c.args in
+    let f = c.pages_fault-fault.ensures in
+    (refused-by f c.if-fault-ne0.true _, left_alone a.n a.bounds.now a.table.now a.pages.now f c.if-fault-ne0.true)
 
-passed : (c : tie.Else1) → first (page_checks c.before.before.before.before.args.n c.before.before.before.before.args.bounds.now c.before.before.before.before.args.table.now (length c.before.before.before.before.args.pages.now)) ≡ 0
-passed c = sym c.before.pages-fault.ensures ∙ c.if1.false
+passed : (c : tie.Else-fault-ne0) → first (page_checks c.args.n c.args.bounds.now c.args.table.now (length c.args.pages.now)) ≡ 0
+passed c = sym c.pages_fault-fault.ensures ∙ c.if-fault-ne0.false
 
-write-all-requires : tie.Need-write-all-requires
+write-all-requires : tie.Need-write_all-requires
 write-all-requires c κs =
-    let a = c.before.before.before.before.before.args in
+    let a = c.args in
     let p = pages-passed a.n a.bounds.now a.table.now (length a.pages.now) (passed c.before) in
     (p.paper, (p.table, p.room))
 
-same_length : tie.Need-same-length
+same_length : tie.Need-shape_of-pages
 same_length c = search rules
 
-returns-2 : tie.Need-returns-2
+returns-2 : tie.Need-returns
 unfolding pages_answer pages_call
 returns-2 c =
-    let a = c.before.before.before.before.before.before.before.before.args in
+    let a = c.args in
     let e = passed c.before.before.before.before in
-    (accepted-by e _, c.before.before.write-all.ensures ∙ all-printed a.n a.bounds.now a.table.now a.pages.now e)
+    (accepted-by e _, c.write_all.ensures ∙ all-printed a.n a.bounds.now a.table.now a.pages.now e)
 
-pub write-pages-spec : {M : Type 1} → statement M
-write-pages-spec =
+pub write_pages_spec : {M : Type 1} → statement M
+write_pages_spec =
     tie.close (tie.spec pages-fault-requires returns write-all-requires same_length returns-2)

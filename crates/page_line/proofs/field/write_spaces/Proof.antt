@@ -10,42 +10,42 @@ use native.Mathlib.Omega.{arith}
 use Rattle.page_line.proofs.field.write_spaces.Statement.{statement}
 use Rattle.page_line.proofs.field.write_spaces.Tie as tie
 
-abbrev invariant-loop : tie.invariant-loop
+abbrev invariant-loop : tie.invariant-loop-i
 invariant-loop count buf₀ at end₀ i₀ buf end i = (i ≤ count) × Wrote buf₀ at (spaces i) end buf
 
-abbrev decreases-loop : tie.decreases-loop
+abbrev decreases-loop : tie.decreases-loop-i
 decreases-loop count buf₀ at end₀ i₀ buf end i = count - i
 
-loop-holds : tie.Need-loop-init invariant-loop decreases-loop
+loop-holds : tie.Need-loop-i-init invariant-loop decreases-loop
 loop-holds c = (omega arith, wrote_none _ _ (omega arith))
 
-write-byte-requires : tie.Need-write-byte-requires invariant-loop decreases-loop
+write-byte-requires : tie.Need-write_byte-end-requires invariant-loop decreases-loop
 write-byte-requires c κs =
-    let l = c.before.before.loop in
+    let l = c.loop-i in
     omega (arith, l.invariant.1.end, wrote-length l.invariant.1, spaces-length l.i)
 
-add-i : tie.Need-overflow-add-i invariant-loop decreases-loop
+add-i : tie.Need-overflow_add-i invariant-loop decreases-loop
 add-i c = omega arith
 
-loop-less : tie.Need-loop-smaller invariant-loop decreases-loop
+loop-less : tie.Need-loop-i-smaller invariant-loop decreases-loop
 loop-less c = omega arith
 
-loop-again : tie.Need-loop-preserved invariant-loop decreases-loop
+loop-again : tie.Need-loop-i-preserved invariant-loop decreases-loop
 loop-again c =
-    let l = c.before.before.before.before.before.loop in
-    (omega arith, as-text (spaces-more l.i) (l.invariant.1 ⨾ c.before.before.write_byte.ensures))
+    let l = c.loop-i in
+    (omega arith, as-text (spaces-more l.i) (l.invariant.1 ⨾ c.write_byte-end.ensures))
 
-same_length : tie.Need-same-length invariant-loop decreases-loop
+same_length : tie.Need-shape_of-buf invariant-loop decreases-loop
 same_length c = omega (arith, wrote-length)
 
 returns : tie.Need-returns invariant-loop decreases-loop
 returns c =
-    let l = c.before.loop in
-    let e : l.i ≡ c.before.before.before.args.count = omega arith in
+    let l = c.loop-i in
+    let e : l.i ≡ c.args.count = omega arith in
     rw e at l.invariant.1
 
-pub write-spaces-spec : {M : Type 1} → statement M
-write-spaces-spec =
+pub write_spaces_spec : {M : Type 1} → statement M
+write_spaces_spec =
     tie.close
     (tie.spec
     invariant-loop

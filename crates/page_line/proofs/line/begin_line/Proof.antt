@@ -10,66 +10,66 @@ use native.Mathlib.Omega.{arith}
 use Rattle.page_line.proofs.line.begin_line.Statement.{statement}
 use Rattle.page_line.proofs.line.begin_line.Tie as tie
 
-sub_at : tie.Need-overflow-sub-at
+sub_at : tie.Need-overflow_sub-at
 sub_at c = search rules
 
-add_at : tie.Need-overflow-add-at
+add_at : tie.Need-overflow_add-at
 add_at c = search rules
 
-add-at-2 : tie.Need-overflow-add-at-2
+add-at-2 : tie.Need-overflow_add-at-2
 add-at-2 c = search rules
 
-mul_at : tie.Need-overflow-mul-at
+mul_at : tie.Need-overflow_mul-at
 mul_at c = search rules
 
-returns : tie.Need-returns
+returns : tie.Need-returns-then-line-ne0
 unfolding start
-returns c = rw (heading-none c.before.before.args.line c.if1.true) (wrote_none _ _ (omega arith))
+returns c = rw (heading-none c.args.line c.if-line-ne0.true) (wrote_none _ _ (omega arith))
 
-write-spaces-requires : tie.Need-write-spaces-requires
+write-spaces-requires : tie.Need-write_spaces-number-requires
 unfolding start
-write-spaces-requires c κs = omega (arith, c.before.if1.false, c.before.before.before.requires.1)
+write-spaces-requires c κs = omega (arith, c.if-line-ne0.false, c.requires.1)
 
-add-write-right : tie.Need-overflow-add-write-right
+add-write-right : tie.Need-overflow_add-line
 add-write-right c = search rules
 
-cast-write-right : tie.Need-overflow-cast-write-right
+cast-write-right : tie.Need-overflow_cast-line
 cast-write-right c = search rules
 
-write-right-requires : tie.Need-write-right-requires
+write-right-requires : tie.Need-write_right-end-requires
 unfolding start
 write-right-requires c κs =
     let s = c.before.before.before in
     let a = s.before.before.before.before in
-    let w = s.write-spaces.ensures in
+    let w = s.write_spaces-number.ensures in
     let n = a.args.line / 59 + 1 in
-    (rw (small_signed n (omega arith)) (omega (arith, small-columns n (omega arith))), omega (arith, w.end, wrote-length w, s.before.before.if1.false, a.requires.1))
+    (rw (small_signed n (omega arith)) (omega (arith, small-columns n (omega arith))), omega (arith, w.end, wrote-length w, s.if-line-ne0.false, a.requires.1))
 
-write-byte-requires : tie.Need-write-byte-requires
+write-byte-requires : tie.Need-write_byte-requires
 unfolding start
 write-byte-requires c κs =
     let r = c.before.before.before in
     let s = r.before.before.before.before in
     let a = s.before.before.before.before in
     let n = a.args.line / 59 + 1 in
-    let w = s.write-spaces.ensures in
-    let v = rw (small_signed n (omega arith)) at r.write-right.ensures in
-    omega (arith, w.end, wrote-length w, right-ends 6 (pos n) (omega (arith, small-columns n (omega arith))) v, wrote-length v, s.before.before.if1.false, a.requires.1)
+    let w = s.write_spaces-number.ensures in
+    let v = rw (small_signed n (omega arith)) at r.write_right-end.ensures in
+    omega (arith, w.end, wrote-length w, right-ends 6 (pos n) (omega (arith, small-columns n (omega arith))) v, wrote-length v, s.if-line-ne0.false, a.requires.1)
 
-same_length : tie.Need-same-length
+same_length : tie.Need-shape_of-buf
 same_length c = search rules
 
-returns-2 : tie.Need-returns-2
+returns-2 : tie.Need-returns
 unfolding start
 returns-2 c =
     let r = c.before.before.before.before.before.before in
     let s = r.before.before.before.before in
     let a = s.before.before.before.before in
     let n = a.args.line / 59 + 1 in
-    as-text (heading-new a.args.line s.before.before.if1.false) (s.write-spaces.ensures ⨾ (rw (small_signed n (omega arith)) at r.write-right.ensures) ⨾ c.before.before.write_byte.ensures)
+    as-text (heading-new a.args.line s.if-line-ne0.false) (s.write_spaces-number.ensures ⨾ (rw (small_signed n (omega arith)) at r.write_right-end.ensures) ⨾ c.write_byte.ensures)
 
-pub begin-line-spec : {M : Type 1} → statement M
-begin-line-spec =
+pub begin_line_spec : {M : Type 1} → statement M
+begin_line_spec =
     tie.close
     (tie.spec
     sub_at

@@ -17,26 +17,26 @@ l-small s = omega (arith, s.requires.0.1.abs)
 u-small : (s : tie.Start) → nat_abs s.args.u < 1_000_000
 u-small s = omega (arith, s.requires.0.2.abs)
 
-begin-line-requires : tie.Need-begin-line-requires
+begin-line-requires : tie.Need-begin_line-at-requires
 begin-line-requires c κs = search rules
 
-write-fields-requires : tie.Need-write-fields-requires
+write-fields-requires : tie.Need-write_fields-literals-requires
 write-fields-requires c κs =
     let b = c.before.before.before in
     let s = b.before.before.before.before in
-    let w = b.begin-line.ensures in
+    let w = b.begin_line-at.ensures in
     ((s.requires.0.0, rw (to_z-of_z s.ranges.l) s.requires.0.1, rw (to_z-of_z s.ranges.u) s.requires.0.2), omega (arith, w.end, wrote-length w, heading-ends s.args.line (omega arith)))
 
-write-literals-requires : tie.Need-write-literals-requires
+write-literals-requires : tie.Need-write_literals-requires
 write-literals-requires c κs =
     let f = c.before.before.before in
     let b = f.before.before.before.before in
     let s = b.before.before.before.before in
-    let w = b.begin-line.ensures in
-    let v = rw (to_z-of_z s.ranges.l, to_z-of_z s.ranges.u) at f.write-fields.ensures in
+    let w = b.begin_line-at.ensures in
+    let v = rw (to_z-of_z s.ranges.l, to_z-of_z s.ranges.u) at f.write_fields-literals.ensures in
     ((omega arith, omega arith), omega (arith, w.end, wrote-length w, v.end, wrote-length v, fields-length s.args.k s.args.l s.args.u s.requires.0.0 (l-small s) (u-small s), heading-ends s.args.line (omega arith)))
 
-same_length : tie.Need-same-length
+same_length : tie.Need-shape_of-buf
 same_length c = search rules
 
 returns : tie.Need-returns
@@ -44,12 +44,12 @@ returns c =
     let f = c.before.before.before.before.before.before in
     let b = f.before.before.before.before in
     let s = b.before.before.before.before in
-    let v = rw (to_z-of_z s.ranges.l, to_z-of_z s.ranges.u) at f.write-fields.ensures in
-    let r = c.before.before.write-literals.ensures in
-    (first_made s.args.line s.args.k s.args.l s.args.u (ones_from s.args.part.now 0) (omega arith) s.requires.0.0 (l-small s) (u-small s) b.begin-line.ensures v r.0, r.1)
+    let v = rw (to_z-of_z s.ranges.l, to_z-of_z s.ranges.u) at f.write_fields-literals.ensures in
+    let r = c.write_literals.ensures in
+    (first_made s.args.line s.args.k s.args.l s.args.u (ones_from s.args.part.now 0) (omega arith) s.requires.0.0 (l-small s) (u-small s) b.begin_line-at.ensures v r.0, r.1)
 
-pub write-first-spec : {M : Type 1} → statement M
-write-first-spec =
+pub write_first_spec : {M : Type 1} → statement M
+write_first_spec =
     tie.close
     (tie.spec
     begin-line-requires

@@ -7,32 +7,32 @@ use native.Mathlib.Omega.{arith}
 use Rattle.page_line.proofs.line.write_literals.Statement.{statement}
 use Rattle.page_line.proofs.line.write_literals.Tie as tie
 
-write-slots-requires : tie.Need-write-slots-requires
+write-slots-requires : tie.Need-write_slots-next-requires
 write-slots-requires c κs = search rules
 
-add-write-spaces : tie.Need-overflow-add-write-spaces
+add-write-spaces : tie.Need-overflow_add-at
 add-write-spaces c = search rules
 
-write-spaces-requires : tie.Need-write-spaces-requires
+write-spaces-requires : tie.Need-write_spaces-end-requires
 write-spaces-requires c κs = search rules
 
-write-byte-requires : tie.Need-write-byte-requires
+write-byte-requires : tie.Need-write_byte-requires
 write-byte-requires c κs = search rules
 
-same_length : tie.Need-same-length
+same_length : tie.Need-shape_of-buf
 same_length c = search rules
 
 returns : tie.Need-returns
 unfolding literals
 returns c =
     let s = c.before.before.before.before.before.before in
-    let p = s.before.before.before.before.write-slots in
-    let v = s.write-spaces.ensures in
-    let w = c.before.before.write_byte.ensures in
+    let p = s.write_slots-next in
+    let v = s.write_spaces-end.ensures in
+    let w = c.write_byte.ensures in
     (as-end (omega (arith, v.end, w.end, spaces-length 9)) (p.ensures.0 ⨾ v ⨾ w), p.ensures.1)
 
-pub write-literals-spec : {M : Type 1} → statement M
-write-literals-spec =
+pub write_literals_spec : {M : Type 1} → statement M
+write_literals_spec =
     tie.close
     (tie.spec
     write-slots-requires

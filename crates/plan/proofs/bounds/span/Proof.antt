@@ -15,13 +15,13 @@ difference-fits s = within-fits w32 {m = 65_536} tt (within-sub s.requires.1.0 s
 not_negative : (s : tie.Start) → pos 0 ≤ℤ (s.args.high -ℤ s.args.low)
 not_negative s = let h = s.requires.1.1 in omega (zarith, sub_parts s.args.high s.args.low)
 
-sub-result : tie.Need-overflow-sub-result
+sub-result : tie.Need-overflow_sub-result
 sub-result c =
     let fl = c.ranges.low in
     let fh = c.ranges.high in
     simp to_z-of_z (difference-fits c)
 
-cast-result : tie.Need-overflow-cast-result
+cast-result : tie.Need-overflow_cast-result
 cast-result c =
     let fl = c.ranges.low in
     let fh = c.ranges.high in
@@ -35,5 +35,5 @@ returns c =
     let fd = difference-fits c in
     simp to_z-of_z (pos-nat_abs (c.args.high -ℤ c.args.low) (yes_non_neg (not_negative c)))
 
-pub span-spec : {M : Type 1} → statement M
-span-spec = tie.close (tie.spec sub-result cast-result returns)
+pub span_spec : {M : Type 1} → statement M
+span_spec = tie.close (tie.spec sub-result cast-result returns)

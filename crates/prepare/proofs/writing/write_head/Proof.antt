@@ -9,25 +9,25 @@ use Rattle.prepared_model.proofs.KeptLaws.{same-inside, same_none, same-wider}
 use Rattle.prepare.proofs.writing.write_head.Statement.{statement}
 use Rattle.prepare.proofs.writing.write_head.Tie as tie
 
-slice-write-ws : tie.Need-slice-write-ws
+slice-write-ws : tie.Need-bounds-ws-0
 slice-write-ws c = search rules
 
-cast-ws : tie.Need-overflow-cast-ws
+cast-ws : tie.Need-overflow_cast-ws
 cast-ws c = search rules
 
-slice-write-ws-2 : tie.Need-slice-write-ws-2
+slice-write-ws-2 : tie.Need-bounds-ws-1
 slice-write-ws-2 c = search rules
 
-cast-ws-2 : tie.Need-overflow-cast-ws-2
+cast-ws-2 : tie.Need-overflow_cast-ws-2
 cast-ws-2 c = search rules
 
-slice-write-ws-3 : tie.Need-slice-write-ws-3
+slice-write-ws-3 : tie.Need-bounds-ws-2
 slice-write-ws-3 c = search rules
 
-slice-write-ws-4 : tie.Need-slice-write-ws-4
+slice-write-ws-4 : tie.Need-bounds-ws-3
 slice-write-ws-4 c = search rules
 
-same_length : tie.Need-same-length
+same_length : tie.Need-shape_of-ws
 same_length c = search rules
 
 returns : tie.Need-returns
@@ -50,8 +50,8 @@ returns c =
           (omega arith) (omega arith)) 3 0 (omega arith) (omega arith),
     )
 
-pub write-head-spec : {M : Type 1} → statement M
-write-head-spec =
+pub write_head_spec : {M : Type 1} → statement M
+write_head_spec =
     tie.close
     (tie.spec
     slice-write-ws

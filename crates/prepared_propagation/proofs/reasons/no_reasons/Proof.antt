@@ -10,49 +10,49 @@ use Rattle.prepared_model.specs.Reasons.{no_row}
 use Rattle.prepared_propagation.proofs.reasons.no_reasons.Statement.{statement}
 use Rattle.prepared_propagation.proofs.reasons.no_reasons.Tie as tie
 
-abbrev invariant-loop : tie.invariant-loop
+abbrev invariant-loop : tie.invariant-loop-i
 invariant-loop reasons₀ i₀ reasons i = (i ≤ length reasons₀) × (length reasons ≡ length reasons₀) × (take i reasons ≡ replicate i no_row)
 
-abbrev decreases-loop : tie.decreases-loop
+abbrev decreases-loop : tie.decreases-loop-i
 decreases-loop reasons₀ i₀ reasons i = length reasons₀ - i
 
-loop-holds : tie.Need-loop-init invariant-loop decreases-loop
+loop-holds : tie.Need-loop-i-init invariant-loop decreases-loop
 loop-holds c = (omega arith, refl, refl)
 
-mul-reasons : tie.Need-overflow-mul-reasons invariant-loop decreases-loop
+mul-reasons : tie.Need-offset_bounds-reasons-i invariant-loop decreases-loop
 mul-reasons c = omega arith
 
-slice-write-reasons : tie.Need-slice-write-reasons invariant-loop decreases-loop
+slice-write-reasons : tie.Need-bounds-reasons-i invariant-loop decreases-loop
 slice-write-reasons c = omega arith
 
-add-i : tie.Need-overflow-add-i invariant-loop decreases-loop
+add-i : tie.Need-overflow_add-i invariant-loop decreases-loop
 add-i c = omega arith
 
-loop-less : tie.Need-loop-smaller invariant-loop decreases-loop
+loop-less : tie.Need-loop-i-smaller invariant-loop decreases-loop
 loop-less c = omega arith
 
-loop-again : tie.Need-loop-preserved invariant-loop decreases-loop
+loop-again : tie.Need-loop-i-preserved invariant-loop decreases-loop
 loop-again c =
-    let xs = c.before.loop.reasons in
-    let i = c.before.loop.i in (
+    let xs = c.loop-i.reasons in
+    let i = c.loop-i.i in (
       omega arith,
-      length-set xs i no_row ∙ c.before.loop.invariant.1,
+      length-set xs i no_row ∙ c.loop-i.invariant.1,
       ap (λ (k : ℕ). take k (set xs i no_row)) (add-one i) ∙ take-suc-set xs i no_row (omega arith)
-          ∙ ap (λ (ys : List ℕ). ys ++ (no_row ∷ [])) c.before.loop.invariant.2 ∙ replicate-append-replicate i 1 no_row,
+          ∙ ap (λ (ys : List ℕ). ys ++ (no_row ∷ [])) c.loop-i.invariant.2 ∙ replicate-append-replicate i 1 no_row,
     )
 
-same_length : tie.Need-same-length invariant-loop decreases-loop
+same_length : tie.Need-shape_of-reasons invariant-loop decreases-loop
 same_length c = omega arith
 
 returns : tie.Need-returns invariant-loop decreases-loop
 returns c =
-    let xs = c.before.loop.reasons in
-    let i = c.before.loop.i in
-    let end : i ≡ length c.before.before.args.reasons.now = omega arith in
-    sym (take_all i xs (omega arith)) ∙ c.before.loop.invariant.2 ∙ ap (λ (k : ℕ). replicate k no_row) end
+    let xs = c.loop-i.reasons in
+    let i = c.loop-i.i in
+    let end : i ≡ length c.args.reasons.now = omega arith in
+    sym (take_all i xs (omega arith)) ∙ c.loop-i.invariant.2 ∙ ap (λ (k : ℕ). replicate k no_row) end
 
-pub no-reasons-spec : {M : Type 1} → statement M
-no-reasons-spec =
+pub no_reasons_spec : {M : Type 1} → statement M
+no_reasons_spec =
     tie.close
     (tie.spec
     invariant-loop

@@ -16,10 +16,10 @@ use Rattle.prepared_propagation.proofs.SearchLaws.{calm-passed, calm-tested}
 use Rattle.prepared_propagation.proofs.search.first_moving.Statement.{statement}
 use Rattle.prepared_propagation.proofs.search.first_moving.Tie as tie
 
-abbrev invariant-loop : tie.invariant-loop
+abbrev invariant-loop : tie.invariant-loop-r
 invariant-loop n m ws bounds dirty r₀ r = (r ≤ m) × (Calm n m (decode n m ws) bounds dirty → T (all r (row_leaves n (decode n m ws) bounds)))
 
-abbrev decreases-loop : tie.decreases-loop
+abbrev decreases-loop : tie.decreases-loop-r
 decreases-loop n m ws bounds dirty r₀ r = m - r
 
 module _ (s : tie.Start invariant-loop decreases-loop) where
@@ -38,56 +38,56 @@ module _ (s : tie.Start invariant-loop decreases-loop) where
   abbrev D : List ℕ
   D = s.args.dirty.now
 
-next-row-requires : tie.Need-next-row-requires invariant-loop decreases-loop
+next-row-requires : tie.Need-next_row-r-requires invariant-loop decreases-loop
 next-row-requires c κs = let s = c.before.before in (omega arith, omega (arith, s.requires.0.few_rows), s.requires.2)
 
-loop-holds : tie.Need-loop-init invariant-loop decreases-loop
+loop-holds : tie.Need-loop-r-init invariant-loop decreases-loop
 unfolding all
 loop-holds c =
     let s = c.before.before.before in
-    let e = c.next_row.ensures in
+    let e = c.next_row-r.ensures in
     (e.1, λ k. calm-passed (n s) (m s) (A s) (B s) (D s) s.requires.0.some s.requires.1 k 0 _ tt e.1 e.2)
 
-row-moves-prepared-requires : tie.Need-row-moves-prepared-requires invariant-loop decreases-loop
-row-moves-prepared-requires c κs = let s = c.before.before.before.before.before in (s.requires.0, c.loop-test.true)
+row-moves-prepared-requires : tie.Need-row_moves_prepared-requires invariant-loop decreases-loop
+row-moves-prepared-requires c κs = let s = c.before.before.before.before.before in (s.requires.0, c.loop-r-test.true)
 
-returns : tie.Need-returns invariant-loop decreases-loop
+returns : tie.Need-returns-then-row_moves_prepared invariant-loop decreases-loop
 returns c k =
     let s = c.before.before.before.before.before.before.before in
-    let h = c.before.before.before.loop in
-    found (n s) (A s) (B s) s.requires.0.some s.requires.1 (m s) h.r c.before.before.loop-test.true (h.invariant.1 k)
-    (sym c.before.row-moves-prepared.ensures ∙ c.if1.true)
+    let h = c.loop-r in
+    found (n s) (A s) (B s) s.requires.0.some s.requires.1 (m s) h.r c.loop-r-test.true (h.invariant.1 k)
+    (sym c.row_moves_prepared.ensures ∙ c.if-row_moves_prepared.true)
 
-add-next-row : tie.Need-overflow-add-next-row invariant-loop decreases-loop
+add-next-row : tie.Need-overflow_add-r invariant-loop decreases-loop
 add-next-row c = omega arith
 
-next-row-requires-2 : tie.Need-next-row-requires-2 invariant-loop decreases-loop
+next-row-requires-2 : tie.Need-next_row-r-requires-in-loop-r invariant-loop decreases-loop
 next-row-requires-2 c κs =
     let s = c.before.before.before.before.before.before.before in
-    (omega (arith, c.before.before.loop-test.true), omega (arith, s.requires.0.few_rows), s.requires.2)
+    (omega (arith, c.loop-r-test.true), omega (arith, s.requires.0.few_rows), s.requires.2)
 
-loop-less : tie.Need-loop-smaller invariant-loop decreases-loop
-loop-less c = let e = c.next-row2.ensures in omega (arith, c.before.before.before.loop-test.true)
+loop-less : tie.Need-loop-r-smaller invariant-loop decreases-loop
+loop-less c = let e = c.next_row-r-in-loop-r.ensures in omega (arith, c.loop-r-test.true)
 
-loop-again : tie.Need-loop-preserved invariant-loop decreases-loop
+loop-again : tie.Need-loop-r-preserved invariant-loop decreases-loop
 loop-again c =
     let s = c.before.before.before.before.before.before.before.before in
-    let h = c.before.before.before.before.loop in
-    let e = c.next-row2.ensures in (
+    let h = c.loop-r in
+    let e = c.next_row-r-in-loop-r.ensures in (
       e.1,
-      λ k. calm-tested (n s) (m s) (A s) (B s) (D s) s.requires.0.some s.requires.1 k h.r _ (h.invariant.1 k) c.before.before.before.loop-test.true
-          (sym c.before.before.row-moves-prepared.ensures ∙ c.before.if1.false) e.1 e.2,
+      λ k. calm-tested (n s) (m s) (A s) (B s) (D s) s.requires.0.some s.requires.1 k h.r _ (h.invariant.1 k) c.loop-r-test.true
+          (sym c.row_moves_prepared.ensures ∙ c.if-row_moves_prepared.false) e.1 e.2,
     )
 
-returns-2 : tie.Need-returns-2 invariant-loop decreases-loop
+returns-2 : tie.Need-returns invariant-loop decreases-loop
 returns-2 c k =
     let s = c.before.before.before.before.before in
     let h = c.before in
-    let e : h.loop.r ≡ m s = omega (arith, h.loop.invariant.0) in
-    none_found (n s) (A s) (B s) s.requires.0.some s.requires.1 (m s) (rw e at (h.loop.invariant.1 k))
+    let e : h.loop-r.r ≡ m s = omega (arith, h.loop-r.invariant.0) in
+    none_found (n s) (A s) (B s) s.requires.0.some s.requires.1 (m s) (rw e at (h.loop-r.invariant.1 k))
 
-pub first-moving-spec : {M : Type 1} → statement M
-first-moving-spec =
+pub first_moving_spec : {M : Type 1} → statement M
+first_moving_spec =
     tie.close
     (tie.spec
     invariant-loop

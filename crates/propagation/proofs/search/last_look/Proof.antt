@@ -11,22 +11,22 @@ use Rattle.propagation.proofs.search.last_look.Tie as tie
 abbrev rows : tie.Start → Rows
 rows s = let a = s.args in rows_of a.coefs.now a.rhs.now a.kinds.now
 
-first-moving-requires : tie.Need-first-moving-requires
-first-moving-requires c κs = c.before.before.requires
+first-moving-requires : tie.Need-first_moving-requires
+first-moving-requires c κs = c.requires
 
-returns : tie.Need-returns
+returns : tie.Need-returns-then-first_moving-m
 unfolding propagation_of propagate_from
 returns c =
     let s = c.before.before.before.before in
-    let e = c.before.first-moving.ensures in
-    rw (look-spent s.args.n s.args.m (rows s) s.args.bounds.now (omega (arith, e, c.if1.true)))
+    let e = c.first_moving.ensures in
+    rw (look-spent s.args.n s.args.m (rows s) s.args.bounds.now (omega (arith, e, c.if-first_moving-m.true)))
 
-returns-2 : tie.Need-returns-2
+returns-2 : tie.Need-returns
 unfolding propagation_of propagate_from
 returns-2 c =
     let s = c.before.before.before.before in
-    let e = c.before.first-moving.ensures in
-    rw (look-converged s.args.n s.args.m (rows s) s.args.bounds.now (omega (arith, e, c.if1.false)))
+    let e = c.first_moving.ensures in
+    rw (look-converged s.args.n s.args.m (rows s) s.args.bounds.now (omega (arith, e, c.if-first_moving-m.false)))
 
-pub last-look-spec : {M : Type 1} → statement M
-last-look-spec = tie.close (tie.spec first-moving-requires returns returns-2)
+pub last_look_spec : {M : Type 1} → statement M
+last_look_spec = tie.close (tie.spec first-moving-requires returns returns-2)

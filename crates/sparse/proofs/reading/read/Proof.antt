@@ -24,33 +24,33 @@ use Rattle.sparse.proofs.reading.read.Tie as tie
 abbrev lent_rows : tie.Start → Rows
 lent_rows s = rows_of s.args.coefs.now s.args.rhs.now s.args.kinds.now
 
-abbrev start_of : tie.After-read-fault → tie.Start
-start_of c = c.before.before.before.before.before.before.before
+abbrev start_of : tie.After-read_fault-fault → tie.Start
+start_of c = c.before.before.before
 
-read-fault-requires : tie.Need-read-fault-requires
+read-fault-requires : tie.Need-read_fault-fault-requires
 read-fault-requires c κs = search rules
 
-same_length : tie.Need-same-length
+same_length : tie.Need-shape_of-bounds-then-fault-ne0
 same_length c = search rules
 
-same-length-2 : tie.Need-same-length-2
+same-length-2 : tie.Need-shape_of-coefs-then-fault-ne0
 same-length-2 c = search rules
 
-same-length-3 : tie.Need-same-length-3
+same-length-3 : tie.Need-shape_of-rhs-then-fault-ne0
 same-length-3 c = search rules
 
-same-length-4 : tie.Need-same-length-4
+same-length-4 : tie.Need-shape_of-kinds-then-fault-ne0
 same-length-4 c = search rules
 
 -- the book is bytes
-known : (c : tie.After-read-fault) → Bytes (start_of c).args.book.now
-known c = record { below = λ i. omega (arith, c.before.before.before.before.before.before.shared-slice-known.given i) }
+known : (c : tie.After-read_fault-fault) → Bytes (start_of c).args.book.now
+known c = record { below = λ i. omega (arith, c.shared_slice_known-1.given i) }
 
-returns : tie.Need-returns
+returns : tie.Need-returns-then-fault-ne0
 unfolding sizes_answer sparse_read_call sparse_bounds_read sparse_coefs_read sparse_rhs_read sparse_kinds_read
 returns c =
-    let e = c.before.read-fault.ensures in
-    let n = c.if1.true in
+    let e = c.read_fault-fault.ensures in
+    let n = c.if-fault-ne0.true in
     let s = start_of c.before in
     let bs = s.args.book.now in
     let B = s.args.bounds.now in
@@ -65,11 +65,11 @@ returns c =
     (said, (kept₁, (kept₂, (kept₃, (kept₄, λ p q h. sparse-reads-back bs B _ A A (known c.before) kept₁ kept₂ kept₃ kept₄ p q (sym said ∙ h))))))
 
 -- no check fails
-no-fault : (c : tie.Else1) → let s = start_of c.before in sparse_read_fault s.args.book.now s.args.bounds.now (lent_rows s) ≡ 0
-no-fault c = sym c.before.read-fault.ensures ∙ c.if1.false
+no-fault : (c : tie.Else-fault-ne0) → let s = start_of c.before in sparse_read_fault s.args.book.now s.args.bounds.now (lent_rows s) ≡ 0
+no-fault c = sym c.read_fault-fault.ensures ∙ c.if-fault-ne0.false
 
 -- so the book is laid out, and the buffers have the lengths that it says
-passed : (c : tie.Else1)
+passed : (c : tie.Else-fault-ne0)
     → let s = start_of c.before in
     let bs = s.args.book.now in
     SparseLayout bs × LengthsFit (model_of (decode_sparse bs).n (decode_sparse bs).m s.args.bounds.now (lent_rows s))
@@ -78,65 +78,65 @@ passed c =
     let h = sparse-read-passed s.args.book.now s.args.bounds.now (lent_rows s) (no-fault c) in
     (h.0, h.1)
 
-trailer-u16-requires : tie.Need-trailer-u16-requires
+trailer-u16-requires : tie.Need-trailer_u16-n-requires
 trailer-u16-requires c κs = omega (arith, (passed c).0.head.long)
 
-trailer-u16-requires-2 : tie.Need-trailer-u16-requires-2
+trailer-u16-requires-2 : tie.Need-trailer_u16-m-requires
 trailer-u16-requires-2 c κs = omega (arith, (passed c.before).0.head.long)
 
 -- the sizes that were read are the book's: the rows lie within it, and the buffers have their lengths
-sized : (c : tie.After-trailer-u162)
+sized : (c : tie.After-trailer_u16-m)
     → let s = start_of c.before.before.before in
-    let n = c.before.trailer-u16.result in
-    let m = c.trailer-u162.result in
+    let n = c.trailer_u16-n.result in
+    let m = c.trailer_u16-m.result in
     let bs = s.args.book.now in
     (HoldsRows n m bs × (first (all_entry_checks n m bs) ≡ 0)) × LengthsFit (model_of n m s.args.bounds.now (lent_rows s))
 unfolding decode_sparse sparse_model_in
 sized c =
     let d = c.before.before in
-    rw (c.before.trailer-u16.ensures, c.trailer-u162.ensures) (layout-holds (start_of d.before).args.book.now (known d.before) (passed d).0, (passed d).1)
+    rw (c.trailer_u16-n.ensures, c.trailer_u16-m.ensures) (layout-holds (start_of d.before).args.book.now (known d.before) (passed d).0, (passed d).1)
 
-sizes-said : (c : tie.After-trailer-u162)
-    → let M = decode_sparse (start_of c.before.before.before).args.book.now in sizes_are c.before.trailer-u16.result c.trailer-u162.result ≡ sizes_are M.n M.m
+sizes-said : (c : tie.After-trailer_u16-m)
+    → let M = decode_sparse (start_of c.before.before.before).args.book.now in sizes_are c.trailer_u16-n.result c.trailer_u16-m.result ≡ sizes_are M.n M.m
 unfolding decode_sparse sparse_model_in
-sizes-said c = ap₂ sizes_are c.before.trailer-u16.ensures c.trailer-u162.ensures
+sizes-said c = ap₂ sizes_are c.trailer_u16-n.ensures c.trailer_u16-m.ensures
 
-read-numbers-requires : tie.Need-read-numbers-requires
+read-numbers-requires : tie.Need-read_numbers-requires
 read-numbers-requires c κs = sized c.before.before.before.before
 
-same-length-5 : tie.Need-same-length-5
+same-length-5 : tie.Need-shape_of-bounds
 same-length-5 c = search rules
 
-same-length-6 : tie.Need-same-length-6
+same-length-6 : tie.Need-shape_of-coefs
 same-length-6 c = search rules
 
-same-length-7 : tie.Need-same-length-7
+same-length-7 : tie.Need-shape_of-rhs
 same-length-7 c = search rules
 
-same-length-8 : tie.Need-same-length-8
+same-length-8 : tie.Need-shape_of-kinds
 same-length-8 c = search rules
 
 -- the buffers hold the book's model
-filled : (c : tie.After-read-numbers)
+filled : (c : tie.After-read_numbers)
     → let M = decode_sparse (start_of c.before.before.before.before.before.before.before.before).args.book.now in
-    (c.read-numbers.new.1.1.1.0 ≡ M.box)
-    × (c.read-numbers.new.1.1.1.1.0 ≡ M.rows.coefs)
-    × (c.read-numbers.new.1.1.1.1.1.0 ≡ M.rows.rhs)
-    × (c.read-numbers.new.1.1.1.1.1.1.0 ≡ M.rows.kinds)
+    (c.read_numbers.new.bounds ≡ M.box)
+    × (c.read_numbers.new.coefs ≡ M.rows.coefs)
+    × (c.read_numbers.new.rhs ≡ M.rows.rhs)
+    × (c.read_numbers.new.kinds ≡ M.rows.kinds)
 unfolding decode_sparse sparse_model_in
 filled c =
     let u = c.before.before.before.before.before in
     let bs = (start_of u.before.before.before).args.book.now in
-    let e = c.read-numbers.ensures in
-    let n = u.before.trailer-u16.ensures in
-    let m = u.trailer-u162.ensures in (
+    let e = c.read_numbers.ensures in
+    let n = u.trailer_u16-n.ensures in
+    let m = u.trailer_u16-m.ensures in (
       e.0 ∙ ap (λ (k : ℕ). bounds_of k bs) n,
       e.1.0 ∙ ap₂ (λ (j k : ℕ). sparse_coefs_of j k bs) n m,
       e.1.1.0 ∙ ap₂ (λ (j k : ℕ). sparse_rhs_of j k bs) n m,
       e.1.1.1 ∙ ap₂ (λ (j k : ℕ). sparse_kinds_of j k bs) n m,
     )
 
-returns-2 : tie.Need-returns-2
+returns-2 : tie.Need-returns
 unfolding sizes_answer sparse_read_call sparse_bounds_read sparse_coefs_read sparse_rhs_read sparse_kinds_read
 returns-2 c =
     let w = c.before.before.before.before.before in

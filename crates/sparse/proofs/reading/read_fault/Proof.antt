@@ -18,64 +18,64 @@ use borrow.Author.Rules.{rules}
 use Rattle.sparse.proofs.reading.read_fault.Statement.{statement}
 use Rattle.sparse.proofs.reading.read_fault.Tie as tie
 
-layout-fault-requires : tie.Need-layout-fault-requires
+layout-fault-requires : tie.Need-layout_fault-layout-requires
 layout-fault-requires c κs = search rules
 
-returns : tie.Need-returns
+returns : tie.Need-returns-then-layout-ne0
 unfolding sparse_read_fault sparse_read_checks
-returns c = stops _ _ c.before.layout-fault.ensures c.if1.true
+returns c = stops _ _ c.layout_fault-layout.ensures c.if-layout-ne0.true
 
 -- the layout's checks are passed
-laid : (c : tie.Else1) → SparseLayout c.before.before.before.before.args.book.now
-laid c = (sparse-layout-test _).0 (sym c.before.layout-fault.ensures ∙ c.if1.false)
+laid : (c : tie.Else-layout-ne0) → SparseLayout c.args.book.now
+laid c = (sparse-layout-test _).0 (sym c.layout_fault-layout.ensures ∙ c.if-layout-ne0.false)
 
-past-layout : (c : tie.Else1) {r : ℕ} (ys : List Check) → r ≡ first ys → r ≡ first (sparse_layout_checks c.before.before.before.before.args.book.now ++ ys)
-past-layout c ys h = goes (sparse_layout_checks _) ys (sparse-layout-numbered _) c.before.layout-fault.ensures c.if1.false h
+past-layout : (c : tie.Else-layout-ne0) {r : ℕ} (ys : List Check) → r ≡ first ys → r ≡ first (sparse_layout_checks c.args.book.now ++ ys)
+past-layout c ys h = goes (sparse_layout_checks _) ys (sparse-layout-numbered _) c.layout_fault-layout.ensures c.if-layout-ne0.false h
 
-trailer-u16-requires : tie.Need-trailer-u16-requires
+trailer-u16-requires : tie.Need-trailer_u16-n-requires
 trailer-u16-requires c κs = omega (arith, (laid c).head.long)
 
-trailer-u16-requires-2 : tie.Need-trailer-u16-requires-2
+trailer-u16-requires-2 : tie.Need-trailer_u16-m-requires
 trailer-u16-requires-2 c κs = omega (arith, (laid c.before).head.long)
 
-length-fault-requires : tie.Need-length-fault-requires
+length-fault-requires : tie.Need-length_fault-length-requires
 length-fault-requires c κs = search rules
 
 -- `length_fault` answers for the book's n and m
-lengths : (c : tie.After-length-fault)
-    → let a = c.before.before.before.before.before.before.before.args in
+lengths : (c : tie.After-length_fault-length)
+    → let a = c.args in
     let M = decode_sparse a.book.now in
-    c.length-fault.result ≡ first (length_checks (model_of M.n M.m a.bounds.now (rows_of a.coefs.now a.rhs.now a.kinds.now)))
+    c.length_fault-length.result ≡ first (length_checks (model_of M.n M.m a.bounds.now (rows_of a.coefs.now a.rhs.now a.kinds.now)))
 unfolding decode_sparse sparse_model_in
-lengths c = rw (← c.before.before.trailer-u16.ensures, ← c.before.trailer-u162.ensures) c.length-fault.ensures
+lengths c = rw (← c.trailer_u16-n.ensures, ← c.trailer_u16-m.ensures) c.length_fault-length.ensures
 
-returns-2 : tie.Need-returns-2
+returns-2 : tie.Need-returns-then-length-ne0
 unfolding sparse_read_fault sparse_read_checks
-returns-2 c = past-layout c.before.before.before.before _ (stops _ _ (lengths c.before) c.if2.true)
+returns-2 c = past-layout c.before.before.before.before _ (stops _ _ (lengths c.before) c.if-length-ne0.true)
 
-number-fault-requires : tie.Need-number-fault-requires
+number-fault-requires : tie.Need-number_fault-requires
 number-fault-requires c κs =
     let d = c.before.before.before.before in
-    rw (c.before.before.before.trailer-u16.ensures, c.before.before.trailer-u162.ensures)
-    (layout-holds _ (record { below = λ i. omega (arith, d.before.before.before.shared-slice-known.given i) }) (laid d))
+    rw (c.trailer_u16-n.ensures, c.trailer_u16-m.ensures)
+    (layout-holds _ (record { below = λ i. omega (arith, d.shared_slice_known-1.given i) }) (laid d))
 
 -- `number_fault` answers for the book's model
-numbers : (c : tie.After-number-fault)
-    → c.number-fault.result ≡ first (model_number_checks (decode_sparse c.before.before.before.before.before.before.before.before.before.args.book.now))
+numbers : (c : tie.After-number_fault)
+    → c.number_fault.result ≡ first (model_number_checks (decode_sparse c.args.book.now))
 unfolding decode_sparse sparse_model_in
 numbers c =
-    rw (← c.before.before.before.before.trailer-u16.ensures, ← c.before.before.before.trailer-u162.ensures) c.number-fault.ensures
+    rw (← c.trailer_u16-n.ensures, ← c.trailer_u16-m.ensures) c.number_fault.ensures
 
-returns-3 : tie.Need-returns-3
+returns-3 : tie.Need-returns
 unfolding sparse_read_fault sparse_read_checks length_checks
 returns-3 c =
-    let a = c.before.before.before.before.before.before.before.before.before.args in
+    let a = c.args in
     let M = decode_sparse a.book.now in
     past-layout c.before.before.before.before.before _
-    (goes (length_checks (model_of M.n M.m a.bounds.now (rows_of a.coefs.now a.rhs.now a.kinds.now))) (model_number_checks M) tt (lengths c.before.before) c.before.if2.false (numbers c))
+    (goes (length_checks (model_of M.n M.m a.bounds.now (rows_of a.coefs.now a.rhs.now a.kinds.now))) (model_number_checks M) tt (lengths c.before.before) c.if-length-ne0.false (numbers c))
 
-pub read-fault-spec : {M : Type 1} → statement M
-read-fault-spec =
+pub read_fault_spec : {M : Type 1} → statement M
+read_fault_spec =
     tie.close
     (tie.spec
     layout-fault-requires

@@ -12,41 +12,41 @@ use borrow.Author.Rules.{rules}
 use Rattle.sparse.proofs.reading.trailer.Statement.{statement}
 use Rattle.sparse.proofs.reading.trailer.Tie as tie
 
-returns : tie.Need-returns
+returns : tie.Need-returns-then-bytes-lt-TRAILER
 unfolding sizes_answer sparse_trailer_call sparse_trailer_checks
-returns c = refused-by (fails _ 1 _ (lt-leb _ _ c.if1.true)) (λ z. omega arith) _
+returns c = refused-by (fails _ 1 _ (lt-leb _ _ c.if-bytes-lt-TRAILER.true)) (λ z. omega arith) _
 
-returns-2 : tie.Need-returns-2
+returns-2 : tie.Need-returns-then-bytes-gt-TRAILER
 unfolding sizes_answer sparse_trailer_call sparse_trailer_checks
 returns-2 c =
-    refused-by (past _ 1 _ (le-leb _ _ c.before.if1.false) (fails _ 5 _ (lt-leb _ _ c.if2.true))) (λ z. omega arith) _
+    refused-by (past _ 1 _ (le-leb _ _ c.if-bytes-lt-TRAILER.false) (fails _ 5 _ (lt-leb _ _ c.if-bytes-gt-TRAILER.true))) (λ z. omega arith) _
 
-frame-fault-requires : tie.Need-frame-fault-requires
+frame-fault-requires : tie.Need-frame_fault-fault-requires
 frame-fault-requires c κs = search rules
 
 -- what is left of the checks is what `frame_fault` answers for
-checked : (c : tie.After-frame-fault) → c.frame-fault.result ≡ first (sparse_trailer_checks c.before.before.before.before.args.bytes.now)
+checked : (c : tie.After-frame_fault-fault) → c.frame_fault-fault.result ≡ first (sparse_trailer_checks c.args.bytes.now)
 unfolding sparse_trailer_checks
-checked c = past _ 1 _ (le-leb _ _ c.before.before.if1.false) (past _ 5 _ (le-leb _ _ c.before.if2.false) c.frame-fault.ensures)
+checked c = past _ 1 _ (le-leb _ _ c.if-bytes-lt-TRAILER.false) (past _ 5 _ (le-leb _ _ c.if-bytes-gt-TRAILER.false) c.frame_fault-fault.ensures)
 
-returns-3 : tie.Need-returns-3
+returns-3 : tie.Need-returns-then-fault-ne0
 unfolding sizes_answer sparse_trailer_call
-returns-3 c = refused-by (checked c.before) c.if3.true _
+returns-3 c = refused-by (checked c.before) c.if-fault-ne0.true _
 
-variables-of-requires : tie.Need-variables-of-requires
+variables-of-requires : tie.Need-variables_of-requires
 variables-of-requires c κs = search rules
 
-rows-of-requires : tie.Need-rows-of-requires
+rows-of-requires : tie.Need-rows_of-requires
 rows-of-requires c κs = search rules
 
-returns-4 : tie.Need-returns-4
+returns-4 : tie.Need-returns
 unfolding sizes_answer sparse_trailer_call
 returns-4 c =
     let d = c.before.before in
-    ap₂ sizes_are c.before.variables-of.ensures c.rows_of_lem.ensures ∙ accepted-by (sym (checked d.before) ∙ d.if3.false) _
+    ap₂ sizes_are c.variables_of.ensures c.rows_of.ensures ∙ accepted-by (sym (checked d.before) ∙ d.if-fault-ne0.false) _
 
-pub trailer-spec : {M : Type 1} → statement M
-trailer-spec =
+pub trailer_spec : {M : Type 1} → statement M
+trailer_spec =
     tie.close
     (tie.spec
     returns

@@ -13,29 +13,29 @@ use borrow.Author.Rules.{rules}
 use Rattle.sparse.proofs.writing.length.Statement.{statement}
 use Rattle.sparse.proofs.writing.length.Tie as tie
 
-model-fault-requires : tie.Need-model-fault-requires
+model-fault-requires : tie.Need-model_fault-fault-requires
 model-fault-requires c κs = search rules
 
-returns : tie.Need-returns
+returns : tie.Need-returns-then-fault-ne0
 unfolding length_answer sparse_length_call
-returns c = length-refused c.before.model-fault.ensures c.if1.true _
+returns c = length-refused c.model_fault-fault.ensures c.if-fault-ne0.true _
 
 -- no check fails, so the model is valid
 abbrev lent-model : tie.Start → Model
 lent-model s = model_of s.args.n s.args.m s.args.bounds.now (rows_of s.args.coefs.now s.args.rhs.now s.args.kinds.now)
 
-valid : (c : tie.Else1) → ValidModel (lent-model c.before.before.before)
-valid c = (fault-none _).0 (sym c.before.model-fault.ensures ∙ c.if1.false)
+valid : (c : tie.Else-fault-ne0) → ValidModel (lent-model c.before.before.before)
+valid c = (fault-none _).0 (sym c.model_fault-fault.ensures ∙ c.if-fault-ne0.false)
 
-sparse-length-requires : tie.Need-sparse-length-requires
+sparse-length-requires : tie.Need-sparse_length-requires
 sparse-length-requires c κs = let v = valid c in (v.few, v.few_rows, v.coefs_len)
 
-returns-2 : tie.Need-returns-2
+returns-2 : tie.Need-returns
 unfolding length_answer sparse_length_call
 returns-2 c =
     let d = c.before in
     let M = lent-model d.before.before.before in
-    ap bytes_are (c.sparse-length.ensures ∙ length-coefs M) ∙ length-accepted (sym d.before.model-fault.ensures ∙ d.if1.false) (sparse_length M)
+    ap bytes_are (c.sparse_length.ensures ∙ length-coefs M) ∙ length-accepted (sym d.model_fault-fault.ensures ∙ d.if-fault-ne0.false) (sparse_length M)
 
 pub length_spec : {M : Type 1} → statement M
 length_spec = tie.close (tie.spec model-fault-requires returns sparse-length-requires returns-2)

@@ -5,14 +5,14 @@ use mathlib.Core.Path.{sym}
 use Rattle.test_text.proofs.parts.bytes_part_mut.Statement.{statement}
 use Rattle.test_text.proofs.parts.bytes_part_mut.Tie as tie
 
-lesser-requires : tie.Need-lesser-requires
+lesser-requires : tie.Need-lesser-k-requires
 lesser-requires c κs = search rules
 
-slice-aggregate-result : tie.Need-slice-aggregate-result
-slice-aggregate-result c = sym (length-take-le c.before.lesser.result c.before.before.before.args.xs.now c.before.lesser.ensures.1)
+slice-aggregate-result : tie.Need-slice_bounds-result-end
+slice-aggregate-result c = sym (length-take-le c.before.lesser-k.result c.before.before.before.args.xs.now c.before.lesser-k.ensures.1)
 
 returns : tie.Need-returns
 returns c = search rules
 
-pub bytes-part-mut-spec : {M : Type 1} → statement M
-bytes-part-mut-spec = tie.close (tie.spec lesser-requires slice-aggregate-result returns)
+pub bytes_part_mut_spec : {M : Type 1} → statement M
+bytes_part_mut_spec = tie.close (tie.spec lesser-requires slice-aggregate-result returns)

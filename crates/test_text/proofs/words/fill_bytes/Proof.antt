@@ -7,44 +7,44 @@ use native.Mathlib.Omega.{arith}
 use Rattle.test_text.proofs.words.fill_bytes.Statement.{statement}
 use Rattle.test_text.proofs.words.fill_bytes.Tie as tie
 
-abbrev invariant-loop : tie.invariant-loop
+abbrev invariant-loop : tie.invariant-loop-i
 invariant-loop line at len xs₀ end place₀ i₀ xs place i = (i ≤ end) × (length xs ≡ length xs₀)
 
-abbrev decreases-loop : tie.decreases-loop
+abbrev decreases-loop : tie.decreases-loop-i
 decreases-loop line at len xs₀ end place₀ i₀ xs place i = end - i
 
-lesser-requires : tie.Need-lesser-requires invariant-loop decreases-loop
+lesser-requires : tie.Need-lesser-end-requires invariant-loop decreases-loop
 lesser-requires c κs = search rules
 
-loop-holds : tie.Need-loop-init invariant-loop decreases-loop
+loop-holds : tie.Need-loop-i-init invariant-loop decreases-loop
 loop-holds c = omega arith
 
-word-at-requires : tie.Need-word-at-requires invariant-loop decreases-loop
+word-at-requires : tie.Need-word_at-word-requires invariant-loop decreases-loop
 word-at-requires c κs = search rules
 
 byte-requires : tie.Need-byte-requires invariant-loop decreases-loop
 byte-requires c κs = search rules
 
-slice-write-xs : tie.Need-slice-write-xs invariant-loop decreases-loop
+slice-write-xs : tie.Need-bounds-xs-i invariant-loop decreases-loop
 slice-write-xs c = search rules
 
-add-i : tie.Need-overflow-add-i invariant-loop decreases-loop
+add-i : tie.Need-overflow_add-i invariant-loop decreases-loop
 add-i c = omega arith
 
-loop-less : tie.Need-loop-smaller invariant-loop decreases-loop
+loop-less : tie.Need-loop-i-smaller invariant-loop decreases-loop
 loop-less c = omega arith
 
-loop-again : tie.Need-loop-preserved invariant-loop decreases-loop
+loop-again : tie.Need-loop-i-preserved invariant-loop decreases-loop
 loop-again c = simp length-set (omega arith)
 
-same_length : tie.Need-same-length invariant-loop decreases-loop
+same_length : tie.Need-shape_of-xs invariant-loop decreases-loop
 same_length c = omega arith
 
 returns : tie.Need-returns invariant-loop decreases-loop
 returns c = search rules
 
-pub fill-bytes-spec : {M : Type 1} → statement M
-fill-bytes-spec =
+pub fill_bytes_spec : {M : Type 1} → statement M
+fill_bytes_spec =
     tie.close
     (tie.spec
     invariant-loop

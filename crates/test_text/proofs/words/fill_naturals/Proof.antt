@@ -7,47 +7,47 @@ use native.Mathlib.Omega.{arith}
 use Rattle.test_text.proofs.words.fill_naturals.Statement.{statement}
 use Rattle.test_text.proofs.words.fill_naturals.Tie as tie
 
-abbrev invariant-loop : tie.invariant-loop
+abbrev invariant-loop : tie.invariant-loop-i
 invariant-loop line at len xs₀ end place₀ i₀ xs place i = (i ≤ end) × (length xs ≡ length xs₀)
 
-abbrev decreases-loop : tie.decreases-loop
+abbrev decreases-loop : tie.decreases-loop-i
 decreases-loop line at len xs₀ end place₀ i₀ xs place i = end - i
 
-lesser-requires : tie.Need-lesser-requires invariant-loop decreases-loop
+lesser-requires : tie.Need-lesser-end-requires invariant-loop decreases-loop
 lesser-requires c κs = search rules
 
-loop-holds : tie.Need-loop-init invariant-loop decreases-loop
+loop-holds : tie.Need-loop-i-init invariant-loop decreases-loop
 loop-holds c = omega arith
 
-word-at-requires : tie.Need-word-at-requires invariant-loop decreases-loop
+word-at-requires : tie.Need-word_at-word-requires invariant-loop decreases-loop
 word-at-requires c κs = search rules
 
 natural-requires : tie.Need-natural-requires invariant-loop decreases-loop
 natural-requires c κs = search rules
 
-mul-xs : tie.Need-overflow-mul-xs invariant-loop decreases-loop
+mul-xs : tie.Need-offset_bounds-xs-i invariant-loop decreases-loop
 mul-xs c = omega arith
 
-slice-write-xs : tie.Need-slice-write-xs invariant-loop decreases-loop
+slice-write-xs : tie.Need-bounds-xs-i invariant-loop decreases-loop
 slice-write-xs c = omega arith
 
-add-i : tie.Need-overflow-add-i invariant-loop decreases-loop
+add-i : tie.Need-overflow_add-i invariant-loop decreases-loop
 add-i c = omega arith
 
-loop-less : tie.Need-loop-smaller invariant-loop decreases-loop
+loop-less : tie.Need-loop-i-smaller invariant-loop decreases-loop
 loop-less c = omega arith
 
-loop-again : tie.Need-loop-preserved invariant-loop decreases-loop
+loop-again : tie.Need-loop-i-preserved invariant-loop decreases-loop
 loop-again c = simp length-set (omega arith)
 
-same_length : tie.Need-same-length invariant-loop decreases-loop
+same_length : tie.Need-shape_of-xs invariant-loop decreases-loop
 same_length c = omega arith
 
 returns : tie.Need-returns invariant-loop decreases-loop
 returns c = search rules
 
-pub fill-naturals-spec : {M : Type 1} → statement M
-fill-naturals-spec =
+pub fill_naturals_spec : {M : Type 1} → statement M
+fill_naturals_spec =
     tie.close
     (tie.spec
     invariant-loop

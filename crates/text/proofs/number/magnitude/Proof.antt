@@ -30,30 +30,30 @@ minus-abs z =
 
 ruleset decode = (to_z-of_z, wide, z-fits, less-fits)
 
-cast-result : tie.Need-overflow-cast-result
+cast-result : tie.Need-overflow_cast-result
 cast-result c = simp decode (wide (z-fits c.before))
 
-sub-result : tie.Need-overflow-sub-result
+sub-result : tie.Need-overflow_sub-result
 sub-result c = simp decode (less-fits c.before)
 
-cast-result-2 : tie.Need-overflow-cast-result-2
+cast-result-2 : tie.Need-overflow_cast-result-then-z-lt0
 cast-result-2 c =
     let z = c.before.args.z in
-    let h : z <ℤ pos 0 = lt-true z (pos 0) (simp decode at c.if1.true) in
+    let h : z <ℤ pos 0 = lt-true z (pos 0) (simp decode at c.if-z-lt0.true) in
     let above : pos 0 ≤ℤ (pos 0 -ℤ z) = omega (zarith, h, sub_parts (pos 0) z) in
     simp decode (yes_non_neg above, rw (minus-abs z) (Fits-nat_abs tt (z-fits c.before)))
 
-returns : tie.Need-returns
+returns : tie.Need-returns-then-z-lt0
 returns c = simp decode (minus-abs c.before.args.z)
 
-cast-result-3 : tie.Need-overflow-cast-result-3
+cast-result-3 : tie.Need-overflow_cast-result-2
 cast-result-3 c =
-    let h : pos 0 ≤ℤ c.before.args.z = lt-false c.before.args.z (pos 0) (simp decode at c.if1.false) in
+    let h : pos 0 ≤ℤ c.before.args.z = lt-false c.before.args.z (pos 0) (simp decode at c.if-z-lt0.false) in
     simp decode (yes_non_neg h, Fits-nat_abs tt (z-fits c.before))
 
-returns-2 : tie.Need-returns-2
+returns-2 : tie.Need-returns
 returns-2 c = simp decode
 
-pub magnitude-spec : {M : Type 1} → statement M
-magnitude-spec =
+pub magnitude_spec : {M : Type 1} → statement M
+magnitude_spec =
     tie.close (tie.spec cast-result sub-result cast-result-2 returns cast-result-3 returns-2)

@@ -11,60 +11,60 @@ use Rattle.text.proofs.TextLaws.{◌⨾◌}
 use Rattle.text.proofs.number.write_integer.Statement.{statement}
 use Rattle.text.proofs.number.write_integer.Tie as tie
 
-write-byte-requires : tie.Need-write-byte-requires
+write-byte-requires : tie.Need-write_byte-start-requires
 write-byte-requires c κs = search rules
 
-write-byte-requires-2 : tie.Need-write-byte-requires-2
+write-byte-requires-2 : tie.Need-write_byte-first-requires
 write-byte-requires-2 c κs = search rules
 
 magnitude-requires : tie.Need-magnitude-requires
 magnitude-requires c κs = search rules
 
-cast-write-digits : tie.Need-overflow-cast-write-digits
+cast-write-digits : tie.Need-overflow_cast-magnitude
 cast-write-digits c = search rules
 
-write-digits-requires : tie.Need-write-digits-requires
+write-digits-requires : tie.Need-write_digits-requires
 write-digits-requires c κs = omega (arith, decimal-length 9 c.before.magnitude.result (omega arith))
 
-same_length : tie.Need-same-length
+same_length : tie.Need-shape_of-buf-then-z-lt0
 same_length c = search rules
 
-returns : tie.Need-returns
+returns : tie.Need-returns-then-z-lt0
 unfolding field
 returns c =
     let s = c.before.before.before.before.before.before.before.before.before.before.before.before.before.before.before in
     let m = c.before.before.before.before.magnitude in
     let f = s.ranges.z in
-    let h = lt-true s.args.z (pos 0) (simp to_z-of_z at c.before.before.before.before.before.before.before.before.before.if1.true) in
+    let h = lt-true s.args.z (pos 0) (simp to_z-of_z at c.before.before.before.before.before.before.before.before.before.if-z-lt0.true) in
     let e : m.result ≡ nat_abs s.args.z = simp to_z-of_z at m.ensures in
-    let w = c.before.before.before.before.before.before.before.before.before.before.before.before.write_byte.ensures ⨾ c.before.before.before.before.before.before.before.write-byte2.ensures ⨾ c.before.before.write-digits.ensures in
+    let w = c.before.before.before.before.before.before.before.before.before.before.before.before.write_byte-start.ensures ⨾ c.before.before.before.before.before.before.before.write_byte-first.ensures ⨾ c.before.before.write_digits.ensures in
     (rw (signed-negative s.args.z h, ← e) w, omega (arith, decimal-length 9 m.result (omega arith)))
 
 magnitude-requires-2 : tie.Need-magnitude-requires-2
 magnitude-requires-2 c κs = search rules
 
-cast-write-digits-2 : tie.Need-overflow-cast-write-digits-2
+cast-write-digits-2 : tie.Need-overflow_cast-magnitude-2
 cast-write-digits-2 c = search rules
 
-write-digits-requires-2 : tie.Need-write-digits-requires-2
-write-digits-requires-2 c κs = omega (arith, decimal-length 9 c.before.magnitude2.result (omega arith))
+write-digits-requires-2 : tie.Need-write_digits-requires-2
+write-digits-requires-2 c κs = omega (arith, decimal-length 9 c.before.magnitude-2.result (omega arith))
 
-same-length-2 : tie.Need-same-length-2
+same-length-2 : tie.Need-shape_of-buf
 same-length-2 c = search rules
 
-returns-2 : tie.Need-returns-2
+returns-2 : tie.Need-returns
 unfolding field
 returns-2 c =
     let s = c.before.before.before.before.before.before.before.before.before.before.before in
-    let m = c.before.before.before.before.magnitude2 in
+    let m = c.before.before.before.before.magnitude-2 in
     let f = s.ranges.z in
-    let h = lt-false s.args.z (pos 0) (simp to_z-of_z at c.before.before.before.before.before.if1.false) in
+    let h = lt-false s.args.z (pos 0) (simp to_z-of_z at c.before.before.before.before.before.if-z-lt0.false) in
     let e : m.result ≡ nat_abs s.args.z = simp to_z-of_z at m.ensures in
-    let w = c.before.before.before.before.before.before.before.before.write_byte.ensures ⨾ c.before.before.write-digits2.ensures in
+    let w = c.before.before.before.before.before.before.before.before.write_byte-start.ensures ⨾ c.before.before.write_digits-2.ensures in
     (rw (signed-natural s.args.z h, ← e) w, omega (arith, decimal-length 9 m.result (omega arith)))
 
-pub write-integer-spec : {M : Type 1} → statement M
-write-integer-spec =
+pub write_integer_spec : {M : Type 1} → statement M
+write_integer_spec =
     tie.close
     (tie.spec
     write-byte-requires

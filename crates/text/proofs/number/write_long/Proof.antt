@@ -8,21 +8,21 @@ use Rattle.text.proofs.TextLaws.{◌⨾◌}
 use Rattle.text.proofs.number.write_long.Statement.{statement}
 use Rattle.text.proofs.number.write_long.Tie as tie
 
-write-byte-requires : tie.Need-write-byte-requires
+write-byte-requires : tie.Need-write_byte-start-requires
 write-byte-requires c κs = search rules
 
-write-digits-requires : tie.Need-write-digits-requires
+write-digits-requires : tie.Need-write_digits-requires
 write-digits-requires c κs = omega (arith, decimal-length 19 c.before.before.before.before.before.before.args.x (omega arith))
 
-same_length : tie.Need-same-length
+same_length : tie.Need-shape_of-buf
 same_length c = search rules
 
 returns : tie.Need-returns
 unfolding field signed
 returns c =
     let x = c.before.before.before.before.before.before.before.before.before.args.x in
-    (c.before.before.before.before.before.before.write_byte.ensures ⨾ c.before.before.write-digits.ensures, omega (arith, decimal-length 19 x (omega arith)))
+    (c.before.before.before.before.before.before.write_byte-start.ensures ⨾ c.before.before.write_digits.ensures, omega (arith, decimal-length 19 x (omega arith)))
 
-pub write-long-spec : {M : Type 1} → statement M
-write-long-spec =
+pub write_long_spec : {M : Type 1} → statement M
+write_long_spec =
     tie.close (tie.spec write-byte-requires write-digits-requires same_length returns)

@@ -15,39 +15,39 @@ use Rattle.verdicts.proofs.call.check_allocations.Tie as tie
 abbrev M : tie.Start → Model
 M s = model_of s.args.n s.args.m s.args.bounds.now (rows_of s.args.coefs.now s.args.rhs.now s.args.kinds.now)
 
-allocation-fault-requires : tie.Need-allocation-fault-requires
+allocation-fault-requires : tie.Need-allocation_fault-fault-requires
 allocation-fault-requires c κs = search rules
 
-same_length : tie.Need-same-length
+same_length : tie.Need-shape_of-verdicts-then-fault-ne0
 same_length c = search rules
 
-returns : tie.Need-returns
+returns : tie.Need-returns-then-fault-ne0
 returns c =
-    let s = c.before.before.before.before.before in
-    let e = c.before.allocation-fault.ensures in
-    (e, (left-refused (M s) s.args.proposals.now s.args.count s.args.verdicts.now (λ z. c.if1.true (e ∙ z)), λ z. absurd (c.if1.true z)))
+    let s = c.before.before.before.before in
+    let e = c.allocation_fault-fault.ensures in
+    (e, (left-refused (M s) s.args.proposals.now s.args.count s.args.verdicts.now (λ z. c.if-fault-ne0.true (e ∙ z)), λ z. absurd (c.if-fault-ne0.true z)))
 
-judge-all-requires : tie.Need-judge-all-requires
+judge-all-requires : tie.Need-judge_all-requires
 judge-all-requires c κs =
-    let s = c.before.before.before.before.before.before in
+    let s = c.before.before.before.before.before in
     let d = c.before in
-    judgeable (M s) s.args.proposals.now s.args.count s.args.verdicts.now (sym d.before.allocation-fault.ensures ∙ d.if1.false)
+    judgeable (M s) s.args.proposals.now s.args.count s.args.verdicts.now (sym d.allocation_fault-fault.ensures ∙ d.if-fault-ne0.false)
 
-same-length-2 : tie.Need-same-length-2
+same-length-2 : tie.Need-shape_of-verdicts
 same-length-2 c = search rules
 
-returns-2 : tie.Need-returns-2
+returns-2 : tie.Need-returns
 returns-2 c =
     let d = c.before.before.before.before in
-    let s = d.before.before.before.before.before in
+    let s = d.before.before.before.before in
     let P = s.args.proposals.now in
     let Y = s.args.verdicts.now in
-    let e = sym d.before.allocation-fault.ensures ∙ d.if1.false in
-    let t = tells-numbers s.args.count _ _ c.before.before.judge-all.ensures ∙ left-accepted (M s) P s.args.count Y e in
+    let e = sym d.allocation_fault-fault.ensures ∙ d.if-fault-ne0.false in
+    let t = tells-numbers s.args.count _ _ c.judge_all.ensures ∙ left-accepted (M s) P s.args.count Y e in
     (sym e, (t, λ _. subst (Judged (M s) P s.args.count) (sym t) (judged (M s) P s.args.count Y e)))
 
-pub check-allocations-spec : {M : Type 1} → statement M
-check-allocations-spec =
+pub check_allocations_spec : {M : Type 1} → statement M
+check_allocations_spec =
     tie.close
     (tie.spec
     allocation-fault-requires

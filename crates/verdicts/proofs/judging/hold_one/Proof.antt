@@ -14,54 +14,54 @@ use borrow.Author.Rules.{rules}
 use Rattle.verdicts.proofs.judging.hold_one.Statement.{statement}
 use Rattle.verdicts.proofs.judging.hold_one.Tie as tie
 
-mul-if1 : tie.Need-overflow-mul-if1
+mul-if1 : tie.Need-overflow_mul-c
 mul-if1 c = search rules
 
-mul-if1-2 : tie.Need-overflow-mul-if1-2
+mul-if1-2 : tie.Need-offset_bounds-verdicts-c
 mul-if1-2 c = search rules
 
-slice-read-if1 : tie.Need-slice-read-if1
+slice-read-if1 : tie.Need-bounds-verdicts-c
 slice-read-if1 c = search rules
 
-returns : tie.Need-returns
+returns : tie.Need-returns-then-verdicts-c-ne-INSIDE
 returns c v t =
-    let a = c.before.before.before.before.args in
-    sym (told-again a.verdicts.now a.c _ (rw (held-told a.i _ v (λ e. c.if1.true (t.case ∙ e))) t))
+    let a = c.args in
+    sym (told-again a.verdicts.now a.c _ (rw (held-told a.i _ v (λ e. c.if-verdicts-c-ne-INSIDE.true (t.case ∙ e))) t))
 
-meets-row-requires : tie.Need-meets-row-requires
-meets-row-requires c κs = let s = c.before.before.before.before in (s.requires.0.0 c.if1.false, s.requires.0.1)
+meets-row-requires : tie.Need-meets_row-requires
+meets-row-requires c κs = let s = c.before.before.before.before in (s.requires.0.0 c.if-verdicts-c-ne-INSIDE.false, s.requires.0.1)
 
 -- what the row says of the proposal
-met-is : (c : tie.After-meets-row) → let a = c.before.before.before.before.before.args in
-    c.meets-row.result ≡ meets (length a.coefs.now) (row_with a.coefs.now a.b a.kind) a.x.now
+met-is : (c : tie.After-meets_row) → let a = c.args in
+    c.meets_row.result ≡ meets (length a.coefs.now) (row_with a.coefs.now a.b a.kind) a.x.now
 met-is c =
     let s = c.before.before.before.before.before in
     let f : SFits w32 s.args.b = record { sfits = s.ranges.b.sfits } in
-    simp to_z-of_z at c.meets-row.ensures
+    simp to_z-of_z at c.meets_row.ensures
 
 tell-requires : tie.Need-tell-requires
 tell-requires c κs = search rules
 
-same_length : tie.Need-same-length
+same_length : tie.Need-shape_of-verdicts
 same_length c = search rules
 
-returns-2 : tie.Need-returns-2
+returns-2 : tie.Need-returns-then-not-meets_row
 returns-2 c v t =
     let d = c.before.before.before.before.before in
     let s = d.before.before.before.before.before in
-    c.before.before.tell.ensures
+    c.tell.ensures
     ∙ told-breaks s.args.verdicts.now s.args.c
-    (held-broken s.args.i ((inside-case v).0 (sym t.case ∙ d.before.if1.false)) (told-false _ (met-is d) c.before.before.before.before.if2.true))
+    (held-broken s.args.i ((inside-case v).0 (sym t.case ∙ d.if-verdicts-c-ne-INSIDE.false)) (told-false _ (met-is d) c.if-not-meets_row.true-raw))
 
-returns-3 : tie.Need-returns-3
+returns-3 : tie.Need-returns-else-not-meets_row
 returns-3 c v t =
     let d = c.before in
-    let a = d.before.before.before.before.before.args in
+    let a = d.args in
     sym (told-again a.verdicts.now a.c _
-    (rw (held-met a.i ((inside-case v).0 (sym t.case ∙ d.before.if1.false)) (told-true _ (met-is d) c.if2.false)) t))
+    (rw (held-met a.i ((inside-case v).0 (sym t.case ∙ d.if-verdicts-c-ne-INSIDE.false)) (told-true _ (met-is d) c.if-not-meets_row.false-raw)) t))
 
-pub hold-one-spec : {M : Type 1} → statement M
-hold-one-spec =
+pub hold_one_spec : {M : Type 1} → statement M
+hold_one_spec =
     tie.close
     (tie.spec
     mul-if1

@@ -22,55 +22,55 @@ use Rattle.verdicts.proofs.judging.hold_row.Tie as tie
 abbrev held_at : ℕ → List ℤ → ℤ → ℕ → ℕ → List ℤ → ℕ → Verdict → Verdict
 held_at n A b kind i P d v = held i (meets n (row_with A b kind) (proposal n P d)) v
 
-abbrev invariant-loop : tie.invariant-loop
+abbrev invariant-loop : tie.invariant-loop-c
 invariant-loop n coefs steps b kind i count proposals verdicts₀ c₀ verdicts c =
     (c ≤ count) × Halfway verdicts₀ verdicts c (held_at n coefs (to_z w32 b) kind i proposals)
 
-abbrev decreases-loop : tie.decreases-loop
+abbrev decreases-loop : tie.decreases-loop-c
 decreases-loop n coefs steps b kind i count proposals verdicts₀ c₀ verdicts c = count - c
 
-loop-holds : tie.Need-loop-init invariant-loop decreases-loop
+loop-holds : tie.Need-loop-c-init invariant-loop decreases-loop
 loop-holds c = (omega arith, halfway-start _ _)
 
-proposal-at-requires : tie.Need-proposal-at-requires invariant-loop decreases-loop
-proposal-at-requires c κs = let s = c.before.before.before.before in omega (arith, line-end c.before.loop.c s.args.count s.args.n (omega arith), s.requires.0.lent.len)
+proposal-at-requires : tie.Need-proposal_at-requires invariant-loop decreases-loop
+proposal-at-requires c κs = let s = c.before.before.before.before in omega (arith, line-end c.loop-c.c s.args.count s.args.n (omega arith), s.requires.0.lent.len)
 
-hold-one-requires : tie.Need-hold-one-requires invariant-loop decreases-loop
+hold-one-requires : tie.Need-hold_one-requires invariant-loop decreases-loop
 hold-one-requires c κs =
     let h = c.before.before.before in
     let s = h.before.before.before in
     let A = s.args.coefs.now in
-    let k : h.loop.c < s.args.count = omega arith in
+    let k : h.loop-c.c < s.args.count = omega arith in
     let l = s.requires.0.len in (
       (
-        (λ e. subst (λ (j : ℕ). Holdable j A c.before.proposal-at.result.now) (sym l)
-            (subst (Holdable s.args.n A) (sym c.before.proposal-at.ensures) (s.requires.0.small h.loop.c k (sym (h.loop.invariant.1.rest (2 * h.loop.c) (omega arith)) ∙ e)))),
+        (λ e. subst (λ (j : ℕ). Holdable j A c.proposal_at.result.now) (sym l)
+            (subst (Holdable s.args.n A) (sym c.proposal_at.ensures) (s.requires.0.small h.loop-c.c k (sym (h.loop-c.invariant.1.rest (2 * h.loop-c.c) (omega arith)) ∙ e)))),
         subst (λ (j : ℕ). Steps j A s.args.steps.now) (sym l) s.requires.1,
       ),
-      omega (arith, h.loop.invariant.1.len, s.requires.0.lent.room),
+      omega (arith, h.loop-c.invariant.1.len, s.requires.0.lent.room),
     )
 
-add-c : tie.Need-overflow-add-c invariant-loop decreases-loop
+add-c : tie.Need-overflow_add-c invariant-loop decreases-loop
 add-c c = omega arith
 
-loop-less : tie.Need-loop-smaller invariant-loop decreases-loop
+loop-less : tie.Need-loop-c-smaller invariant-loop decreases-loop
 loop-less c = omega arith
 
-loop-again : tie.Need-loop-preserved invariant-loop decreases-loop
+loop-again : tie.Need-loop-c-preserved invariant-loop decreases-loop
 loop-again c =
     let h = c.before.before.before.before.before.before in
     let s = h.before.before.before in
-    let k : h.loop.c < s.args.count = omega arith in
+    let k : h.loop-c.c < s.args.count = omega arith in
     let b = to_z w32 (of_z w32 s.args.b) in (
       omega arith,
-      halfway-more (held_at s.args.n s.args.coefs.now b s.args.kind s.args.i s.args.proposals.now) h.loop.invariant.1 (s.requires.0.told h.loop.c k)
-          (omega (arith, s.requires.0.lent.room)) (λ v t. c.before.before.hold-one.ensures v t
-          ∙ ap₂ (λ (j : ℕ) (x : List ℤ). with_verdict h.loop.verdicts h.loop.c (held s.args.i (meets j (row_with s.args.coefs.now b s.args.kind) x) v))
-          s.requires.0.len c.before.before.before.before.proposal-at.ensures),
+      halfway-more (held_at s.args.n s.args.coefs.now b s.args.kind s.args.i s.args.proposals.now) h.loop-c.invariant.1 (s.requires.0.told h.loop-c.c k)
+          (omega (arith, s.requires.0.lent.room)) (λ v t. c.hold_one.ensures v t
+          ∙ ap₂ (λ (j : ℕ) (x : List ℤ). with_verdict h.loop-c.verdicts h.loop-c.c (held s.args.i (meets j (row_with s.args.coefs.now b s.args.kind) x) v))
+          s.requires.0.len c.proposal_at.ensures),
     )
 
-same_length : tie.Need-same-length invariant-loop decreases-loop
-same_length c = c.before.loop.invariant.1.len
+same_length : tie.Need-shape_of-verdicts invariant-loop decreases-loop
+same_length c = c.loop-c.invariant.1.len
 
 returns : tie.Need-returns invariant-loop decreases-loop
 returns c f t =
@@ -78,13 +78,13 @@ returns c f t =
     let s = h.before.before.before in
     let e : to_z w32 (of_z w32 s.args.b) ≡ s.args.b = to_z-of_z {w = w32} (record { sfits = s.ranges.b.sfits }) in
     record {
-      len = h.loop.invariant.1.len ∙ t.len;
-      says = λ d k. subst (λ (b : ℤ). Says h.loop.verdicts d (held_at s.args.n s.args.coefs.now b s.args.kind s.args.i s.args.proposals.now d (f d))) e
-          (h.loop.invariant.1.done d (omega arith) (f d) (t.says d k));
+      len = h.loop-c.invariant.1.len ∙ t.len;
+      says = λ d k. subst (λ (b : ℤ). Says h.loop-c.verdicts d (held_at s.args.n s.args.coefs.now b s.args.kind s.args.i s.args.proposals.now d (f d))) e
+          (h.loop-c.invariant.1.done d (omega arith) (f d) (t.says d k));
     }
 
-pub hold-row-spec : {M : Type 1} → statement M
-hold-row-spec =
+pub hold_row_spec : {M : Type 1} → statement M
+hold_row_spec =
     tie.close
     (tie.spec
     invariant-loop
