@@ -56,6 +56,7 @@ fn print_verdicts(
 
 // The answer to an input of `len` bytes; where it is no longer than `start`, `start` begins with it. True where all of
 // it was written.
+#[tactic(auto, using(crate::proofs::LongInput::long_input))]
 fn answer(
     rt: &(impl Print + Eprint),
     start: &[u8],

@@ -237,3 +237,7 @@ held_whole {bs} {start} h k = ap (λ (r : ℕ). take r start) h.size ∙ h.whole
 -- a part at the start of a buffer lies within it
 pub part-fits : (ds rest : List ℕ) {len : ℕ} → length ds ≡ len → len ≤ length (ds ++ rest)
 part-fits ds rest k = omega (arith, k, length-append ds rest)
+
+-- an input that is longer than any sparse book, and whose head is refused, is of the first edition, which refuses it so
+pub long_refused : (bs : List ℕ) (number : ℕ) → refused number ≡ head_call bs → max_sparse < length bs → refused_line number ≡ output bs
+long_refused bs number e k = (head-refused bs number e).2 ∙ sym (long-input bs k)

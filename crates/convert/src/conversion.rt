@@ -69,6 +69,7 @@ fn first_edition(from: &[u8], to: &mut [u8]) -> Answer
 // The book of the other edition of an input of `len` bytes that ends in `tail`; where it is no longer than `start`,
 // `start` begins with it. What passes check 4 of the first edition is of the first, unless the sparse edition accepts
 // it. Nothing of a longer input is converted: no book is as long.
+#[tactic(auto, using(crate::proofs::ConvertLaws::long_refused), unfolding(crate::specs::Answers::answer_bytes, book::specs::Answers::sizes_answer))]
 pub fn convert(start: &[u8], tail: &[u8], len: usize, to: &mut [u8]) -> Answer
     requires max_sparse_value { (max_sparse ≡ length start.now) × (max_sparse ≡ length to.old) }
     requires by_index { (bs : List ℕ) × Held bs start.now tail.now len }

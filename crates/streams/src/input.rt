@@ -1,7 +1,9 @@
 // Standard input, read whole however its bytes arrive.
-ghost use Rattle.std.specs.Prelude.{◌≡◌, List, ℕ, IfOk, Ok, replicate};
+ghost use Rattle.std.specs.Prelude.{◌≡◌, ◌≢◌, List, ℕ, IfOk, IfErr, Ok, Some, pos, replicate};
+ghost use Rattle.std.specs.IoError.{raw_os_error};
 ghost use Rattle.intake.specs.Intake.{Held};
 ghost use Rattle.streams.specs.Input.{InputHeld, ended_at};
+ghost use Rattle.streams.specs.declared.input.Input.TheVariants.{Failed};
 
 use intake::{is_too_long, take_in};
 use std::io;
@@ -26,6 +28,8 @@ pub enum Input {
 fn ended(rt: &impl Eprint, got: io::Result<usize>, len: usize) -> Input
     requires { IfOk got (λ count. count ≡ 0) }
     ensures whole { got ≡ Ok 0 → result ≡ ended_at len }
+    ensures closed { IfErr got (λ error. raw_os_error error ≡ Some (pos 9) → result ≡ ended_at len) }
+    ensures failed { IfErr got (λ error. raw_os_error error ≢ Some (pos 9) → result ≡ Failed) }
     ensures held { (bs start tail : List ℕ) → Held bs start tail len → InputHeld result start tail }
 {
     match got {

@@ -2,18 +2,14 @@
 use Rattle.std.proofs.Common.{◌≤◌, ◌∙◌, ap, length, take, arith}
 use Rattle.allocation_input.specs.Output.{input_verdict, output}
 use Rattle.allocation_input.proofs.InputLaws.{held_whole}
-use Rattle.allocation_input.proofs.OutputLaws.{output-long, output-refused, output-told}
+use Rattle.allocation_input.proofs.OutputLaws.{output-refused, output-told}
 use Rattle.allocations.proofs.answer.Goals as goal
-
-pub returns-then-len-gt-MAX_INPUT : goal.returns-then-len-gt-MAX_INPUT
-returns-then-len-gt-MAX_INPUT g c = λ bs h t.
-    c.refused.ensures t ∙ ap length (output-long bs (omega (arith, h.size, c.if-len-gt-MAX_INPUT.true)))
 
 pub returns-in-Refused : goal.returns-in-Refused
 returns-in-Refused g c = λ bs h t.
     let a = c.args in
     let r = c.in-Refused.ensures in
-    let within : a.len ≤ length a.start.now = omega (arith, c.requires.max_input_value.0, c.if-len-gt-MAX_INPUT.false) in
+    let within : a.len ≤ length a.start.now = omega (arith, c.requires.max_input_value.0) in
     c.refused-in-Refused.ensures t ∙ ap length (output-refused (take a.len a.start.now) r.0 r.1 ∙ ap output (held_whole h within))
 
 pub returns-in-Verdicts : goal.returns-in-Verdicts
@@ -21,6 +17,6 @@ returns-in-Verdicts g c = λ bs h t.
     let a = c.args in
     let input = take a.len a.start.now in
     let j = c.in-Verdicts.ensures in
-    let within : a.len ≤ length a.start.now = omega (arith, c.requires.max_input_value.0, c.if-len-gt-MAX_INPUT.false) in
+    let within : a.len ≤ length a.start.now = omega (arith, c.requires.max_input_value.0) in
     c.print_verdicts.ensures (input_verdict input) j.told t
     ∙ ap length (output-told input j ∙ ap output (held_whole h within))

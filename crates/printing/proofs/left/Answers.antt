@@ -1,4 +1,3 @@
-use Rattle.std.proofs.Common.{◌≡◌, sym}
 use Rattle.model.specs.State.{state_of}
 use Rattle.reduction.specs.Output.{left_text}
 use Rattle.printing.proofs.left.Goals as goal

@@ -5,7 +5,7 @@ use Rattle.model.specs.State.{state_of}
 use Rattle.report.specs.Report.{line_at, line_count}
 use Rattle.text.specs.Text.{chunk}
 use Rattle.report.proofs.ReportLaws.{report-chunks}
-use Rattle.text.proofs.TextLaws.{chunk-none, wrote-length}
+use Rattle.text.proofs.TextLaws.{chunk-none}
 use Rattle.streams.proofs.StreamLaws.{written-length}
 use Rattle.printing.proofs.PrintLaws.{chunks-length, lines-few}
 use Rattle.printing.proofs.reduced.Goals as goal
@@ -22,7 +22,7 @@ pub loop-next-init : goal.loop-next-init
 loop-next-init g c =
     let a = c.args in
     let z = c.requires.printed_value in
-    record { within = omega arith; lines = z ∙ sym (ap length (chunk-none (line_at a.rounds (state_of a.n a.m a.bounds.now (rows_of a.coefs.now a.rhs.now []) a.table.now)) 0)); few = omega (arith, z); }
+    record { within = omega arith; lines = z ∙ sym (ap length (chunk-none (line_at a.rounds (state_of a.n a.m a.bounds.now (rows_of a.coefs.now a.rhs.now []) a.table.now)) 0)); few = omega (arith, z) }
 
 pub print-requires : goal.print-requires
 unfolding state_of

@@ -8,7 +8,7 @@ use Rattle.book.specs.BookChecks.{head_checks}
 use Rattle.sparse_layout.specs.SparseChecks.{sparse_fault}
 use Rattle.convert.specs.Answers.{answer_bytes}
 use Rattle.convert.specs.Output.{first_edition, sparse_edition}
-use Rattle.convert.proofs.ConvertLaws.{accepted-input, first-framed, first-input, head_passed, head-refused, held_whole, long-input, not-sparse, other-edition, sparse-input}
+use Rattle.convert.proofs.ConvertLaws.{accepted-input, first-framed, first-input, head_passed, head-refused, held_whole, not-sparse, other-edition, sparse-input}
 use Rattle.convert.proofs.conversion.convert.Goals as goal
 
 pub returns-then-number-ne-OTHER_EDITION-clause-bytes : goal.returns-then-number-ne-OTHER_EDITION-clause-bytes
@@ -16,12 +16,6 @@ unfolding answer_bytes sizes_answer
 returns-then-number-ne-OTHER_EDITION-clause-bytes c = λ bs h.
     let r = head-refused bs c.in-Refused.number (c.in-Refused.ensures.right bs h.size h.end) in
     r.2 ∙ sym (not-sparse bs r.1 (λ e. c.if-number-ne-OTHER_EDITION.true (r.0 ∙ e)))
-
-pub returns-then-len-gt-MAX_SPARSE-clause-bytes : goal.returns-then-len-gt-MAX_SPARSE-clause-bytes
-unfolding answer_bytes sizes_answer
-returns-then-len-gt-MAX_SPARSE-clause-bytes c = λ bs h.
-    let r = head-refused bs c.in-Refused.number (c.in-Refused.ensures.right bs h.size h.end) in
-    r.2 ∙ sym (long-input bs (omega (arith, h.size, c.if-len-gt-MAX_SPARSE.true)))
 
 pub first_edition-requires : goal.first_edition-requires
 unfolding sizes_answer
@@ -37,7 +31,7 @@ returns-in-Refused-clause-bytes c = λ bs h.
     let r = head-refused bs c.in-Refused.number (c.in-Refused.ensures.right bs h.size h.end) in
     c.first_edition.ensures.bytes
     ∙ ap first_edition (held_whole h (omega arith))
-    ∙ sym (sparse-input bs (sym r.0 ∙ c.if-number-ne-OTHER_EDITION.false) (omega (arith, h.size, c.if-len-gt-MAX_SPARSE.false)))
+    ∙ sym (sparse-input bs (sym r.0 ∙ c.if-number-ne-OTHER_EDITION.false) (omega (arith, h.size)))
 
 -- the sizes are accepted, so the input is as long as a book of the first edition
 pub slice_bounds-book-end : goal.slice_bounds-book-end
