@@ -1,5 +1,5 @@
 -- No answer of the prepared propagate call hides another: its reading with the infeasible row is injective.
-use Rattle.core.specs.Prelude.{◌≡◌}
+use Rattle.std.specs.Prelude.{◌≡◌}
 use Rattle.prepared_call.specs.PreparedCall.{infeasible_row, prepared_answer}
 use Rattle.prepared_call.specs.declared.PreparedPropagation.{PreparedPropagation}
 use Rattle.prepared_call.specs.declared.PreparedPropagation.TheVariants.{BudgetSpent, Converged, Infeasible, Refused}

@@ -1,5 +1,5 @@
 -- The open call's promises, refused or accepted, from the number of its checks and from what an accepted call comes to.
-use Rattle.core.specs.Prelude.{◌≡◌, ℕ, true, List, [], length, ℤ}
+use Rattle.std.specs.Prelude.{◌≡◌, ℕ, true, List, [], length, ℤ}
 use mathlib.Core.Path.{◌∙◌, ap, refl, sym}
 use Rattle.model.specs.Rows.{Rows}
 use Rattle.model.specs.State.{state_of}

@@ -1,5 +1,5 @@
 -- An accepted call: what the passes came to is what the settle of the model comes to, and what is kept leaves the workspace prepared.
-use Rattle.core.specs.Prelude.{◌≡◌, ℕ, zero, suc, ◌+◌, Bool, true, false, cond, not, T, ltb, List, [], length, take, replicate, ℤ}
+use Rattle.std.specs.Prelude.{◌≡◌, ℕ, zero, suc, ◌+◌, Bool, true, false, cond, not, T, ltb, List, [], length, take, replicate, ℤ}
 use lib.Dec.{T_not}
 use lib.ListN.{length-replicate}
 use lib.Seq.{length-take-le}

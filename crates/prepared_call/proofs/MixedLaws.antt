@@ -1,6 +1,6 @@
 -- A prepared call is a call of demand 3's runs: its contract is an equation with `perform`, and a settle does not look at the table.
 -- Assumes nothing.
-use Rattle.core.specs.Prelude.{◌≡◌, ℕ, Bool, true, false, cond, eqb, List, [], ◌∷◌, ℤ}
+use Rattle.std.specs.Prelude.{◌≡◌, ℕ, Bool, true, false, cond, eqb, List, [], ◌∷◌, ℤ}
 use mathlib.Core.Logic.{inl, inr}
 use mathlib.Core.Path.{◌∙◌, ap, refl, subst, sym}
 use Rattle.model.specs.Rows.{Rows}

@@ -1,5 +1,5 @@
 -- What the functions below the open call ask and give: W is the workspace, B the box and R the list of reasons that they are lent.
-use Rattle.core.specs.Prelude.{◌≡◌, ℕ, not, T, List, [], length, ℤ}
+use Rattle.std.specs.Prelude.{◌≡◌, ℕ, not, T, List, [], length, ℤ}
 use Rattle.model.specs.Box.{NonEmpty}
 use Rattle.model.specs.Rows.{Rows}
 use Rattle.model.specs.Valid.{ValidBox}

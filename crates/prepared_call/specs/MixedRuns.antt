@@ -1,6 +1,6 @@
 -- Demand 3 in a tree: a prepared call is a call of demand 3's runs, so that runs that mix prepared calls with others, and with calls that
 -- were refused, agree where they end at rest, and keep the points.
-use Rattle.core.specs.Prelude.{◌≡◌, ℕ, T, ◌⊎◌, ◌↔◌, List, [], ◌∷◌, ℤ}
+use Rattle.std.specs.Prelude.{◌≡◌, ℕ, T, ◌⊎◌, ◌↔◌, List, [], ◌∷◌, ℤ}
 use Rattle.model.specs.Rows.{Rows}
 use Rattle.model.specs.State.{State, state_of}
 use Rattle.reducer.specs.OpenCalls.{performed}

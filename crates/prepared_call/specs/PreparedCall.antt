@@ -1,5 +1,5 @@
 -- The prepared propagate call: its answer in the semantics, and what it comes to. W is the workspace and B the box that it is lent.
-use Rattle.core.specs.Prelude.{◌≡◌, ℕ, not, T, List, ℤ}
+use Rattle.std.specs.Prelude.{◌≡◌, ℕ, not, T, List, ℤ}
 use Rattle.model.specs.Rows.{Rows}
 use Rattle.model.specs.Valid.{ValidBox}
 use Rattle.prepared_model.specs.Keeps.{Keeps}

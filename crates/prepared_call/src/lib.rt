@@ -5,9 +5,9 @@
 // `perform` on the model with the lent box, and `prepared`, it still is prepared for them.
 #![tactic(auto)]
 
-mod core;
+mod accepted;
 
-ghost use Rattle.core.specs.Prelude.{◌≡◌, true, [], length};
+ghost use Rattle.std.specs.Prelude.{◌≡◌, true, [], length};
 ghost use Rattle.model.specs.Rows.{Rows};
 ghost use Rattle.model.specs.State.{state_of};
 ghost use Rattle.prepared_checks.specs.Checks.{propagate_fault, reasons_fit};
@@ -18,7 +18,7 @@ ghost use Rattle.semantics.specs.Call.{call_of};
 ghost use Rattle.semantics.specs.Perform.{perform, refused};
 ghost use Rattle.prepared_call.specs.PreparedCall.{PropagateAccepted, prepared_answer};
 
-use crate::core::propagate_accepted;
+use crate::accepted::propagate_accepted;
 use prepared_checks::propagate_fault;
 
 // 01's settle: refused N, None, Settled, Spent, with the passes made and the number of bounds moved; None with the row

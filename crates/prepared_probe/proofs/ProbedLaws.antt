@@ -1,5 +1,5 @@
 -- What a probe of a prepared model needs of its sides: what the answer says of the box, and what is kept.
-use Rattle.core.specs.Prelude.{◌≡◌, ℕ, ◌<◌, not, ◌||◌, T, List, [], ◌∷◌, ℤ}
+use Rattle.std.specs.Prelude.{◌≡◌, ℕ, ◌<◌, not, ◌||◌, T, List, [], ◌∷◌, ℤ}
 use denote.Enum.Declared.{tag_of}
 use lib.Dec.{T_not}
 use mathlib.Core.Logic.{⊎_elim}

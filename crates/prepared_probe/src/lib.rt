@@ -5,9 +5,9 @@
 // answer means is then that of `probe_call::probe` (`promised-ends`), what the reasons mean `probe-reasons-mean`.
 #![tactic(auto)]
 
-mod core;
+mod accepted;
 
-ghost use Rattle.core.specs.Prelude.{◌≡◌, true, not, T, length};
+ghost use Rattle.std.specs.Prelude.{◌≡◌, true, not, T, length};
 ghost use Rattle.model.specs.Rows.{Rows};
 ghost use Rattle.model.specs.State.{state_of};
 ghost use Rattle.prepared_checks.specs.Checks.{probe_fault, sides_fit};
@@ -20,7 +20,7 @@ ghost use Rattle.semantics.specs.Call.{call_of};
 ghost use Rattle.semantics.specs.Perform.{perform, refused};
 ghost use Rattle.semantics.specs.Run.{is_refused};
 
-use crate::core::probe_prepared;
+use crate::accepted::probe_prepared;
 use prepared_checks::probe_fault;
 use prepared_propagation::reasons::NO_ROW;
 use probe_call::probe_answer;

@@ -9,5 +9,5 @@ bit-requires c κs = search rules
 returns : tie.Need-returns
 returns c = rw c.bit.ensures
 
-pub ended-spec : {M : Type 1} → statement M
-ended-spec = tie.close (tie.spec bit-requires returns)
+pub ended_spec : {M : Type 1} → statement M
+ended_spec = tie.close (tie.spec bit-requires returns)

@@ -30,25 +30,25 @@ before s = state s (rows_of s.args.coefs.now s.args.rhs.now s.args.kinds.now)
 abbrev call : tie.Start → Call
 call s = call_of (before s) 4 s.args.row s.args.variable 0
 
-tightening-fault-requires : tie.Need-tightening-fault-requires
+tightening-fault-requires : tie.Need-tightening_fault-fault-requires
 tightening-fault-requires c κs = search rules
 
-same_length : tie.Need-same-length
+same_length : tie.Need-shape_of-coefs-then-fault-ne0
 same_length c = search rules
 
-same-length-2 : tie.Need-same-length-2
+same-length-2 : tie.Need-shape_of-rhs-then-fault-ne0
 same-length-2 c = search rules
 
-returns : tie.Need-returns
+returns : tie.Need-returns-then-fault-ne0
 unfolding tighten_answer
 returns c =
-    let s = c.before.before.before.before.before in
-    promised (before s) (before s) (call s) _ (perform-refused (before s) (call s) c.before.tightening-fault.ensures c.if1.true)
+    let s = c.before.before.before in
+    promised (before s) (before s) (call s) _ (perform-refused (before s) (call s) c.tightening_fault-fault.ensures c.if-fault-ne0.true)
 
 -- the call is accepted: its row lies in the matrix
-module _ (c : tie.Else1) where
+module _ (c : tie.Else-fault-ne0) where
   abbrev s : tie.Start
-  s = c.before.before.before.before.before
+  s = c.before.before.before
 
   abbrev n : ℕ
   n = s.args.n
@@ -63,7 +63,7 @@ module _ (c : tie.Else1) where
   A = rows_of s.args.coefs.now s.args.rhs.now s.args.kinds.now
 
   no-fault : call_fault (before s) (call s) ≡ 0
-  no-fault = sym c.before.tightening-fault.ensures ∙ c.if1.false
+  no-fault = sym c.tightening_fault-fault.ensures ∙ c.if-fault-ne0.false
 
   on : ValidModel (model_of n s.args.m B A) × (r < s.args.m)
   unfolding kind_of has_row
@@ -73,67 +73,67 @@ module _ (c : tie.Else1) where
   unfolding kind_of has_variable state_of call_of
   below = (accepted (before s) (call s) no-fault).variable tt
 
-tighten-coefficient-at-requires : tie.Need-tighten-coefficient-at-requires
+tighten-coefficient-at-requires : tie.Need-tighten_coefficient_at-requires
 tighten-coefficient-at-requires c κs =
     let a = c.before.before in
     let v = on a in
     ((row_in v.0 (r a) v.1, valid-row v.0 (r a) v.1 v.0.box), below a)
 
 -- what the row's own call answers and leaves
-module _ (c : tie.After-tighten-coefficient-at) where
-  abbrev a : tie.Else1
+module _ (c : tie.After-tighten_coefficient_at) where
+  abbrev a : tie.Else-fault-ne0
   a = c.before.before.before
 
   abbrev after : State
-  after = state (s a) (rows_of c.tighten-coefficient-at.new.1.0 c.tighten-coefficient-at.new.1.1.0 (s a).args.kinds.now)
+  after = state (s a) (rows_of c.tighten_coefficient_at.new.coefs c.tighten_coefficient_at.new.rhs (s a).args.kinds.now)
 
-  done : {x : Answer} → x ≡ tightened (tightening_outcome c.tighten-coefficient-at.result) → performed x after ≡ perform (before (s a)) (call (s a))
+  done : {x : Answer} → x ≡ tightened (tightening_outcome c.tighten_coefficient_at.result) → performed x after ≡ perform (before (s a)) (call (s a))
   unfolding act kind_of call_of state_of
   done e =
       row-changed (n a) (s a).args.m (B a) (A a) (r a) (tighten_row_of (n a) (row_at (n a) (A a) (r a)) (B a) (s a).args.variable)
-      tightened (call (s a)) refl (no-fault a) e c.tighten-coefficient-at.ensures
+      tightened (call (s a)) refl (no-fault a) e c.tighten_coefficient_at.ensures
 
-enum_told : tie.Need-enum-told
+enum_told : tie.Need-enum_told-1
 enum_told c = search rules
 
-enum-told-2 : tie.Need-enum-told-2
+enum-told-2 : tie.Need-enum_told-in-Tightened
 enum-told-2 c = search rules
 
-enum-told-3 : tie.Need-enum-told-3
+enum-told-3 : tie.Need-enum_told-in-Unchanged
 enum-told-3 c = search rules
 
-same-length-3 : tie.Need-same-length-3
+same-length-3 : tie.Need-shape_of-coefs-in-Infeasible
 same-length-3 c = search rules
 
-same-length-4 : tie.Need-same-length-4
+same-length-4 : tie.Need-shape_of-rhs-in-Infeasible
 same-length-4 c = search rules
 
-returns-2 : tie.Need-returns-2
+returns-2 : tie.Need-returns-in-Infeasible
 unfolding tighten_answer tightening_outcome
-returns-2 c = let d = c.before.before.before.before in promised (before (s (a d))) (after d) (call (s (a d))) _ (done d (rw c.enum_told.given.1))
+returns-2 c = let d = c.before.before.before in promised (before (s (a d))) (after d) (call (s (a d))) _ (done d (rw c.in-Infeasible.is))
 
-same-length-5 : tie.Need-same-length-5
+same-length-5 : tie.Need-shape_of-coefs-in-Tightened
 same-length-5 c = search rules
 
-same-length-6 : tie.Need-same-length-6
+same-length-6 : tie.Need-shape_of-rhs-in-Tightened
 same-length-6 c = search rules
 
-returns-3 : tie.Need-returns-3
+returns-3 : tie.Need-returns-in-Tightened
 unfolding tighten_answer tightening_outcome
-returns-3 c = let d = c.before.before.before.before in promised (before (s (a d))) (after d) (call (s (a d))) _ (done d (rw c.enum-told2.given.1))
+returns-3 c = let d = c.before.before.before in promised (before (s (a d))) (after d) (call (s (a d))) _ (done d (rw c.in-Tightened.is))
 
-same-length-7 : tie.Need-same-length-7
+same-length-7 : tie.Need-shape_of-coefs-in-Unchanged
 same-length-7 c = search rules
 
-same-length-8 : tie.Need-same-length-8
+same-length-8 : tie.Need-shape_of-rhs-in-Unchanged
 same-length-8 c = search rules
 
-returns-4 : tie.Need-returns-4
+returns-4 : tie.Need-returns-in-Unchanged
 unfolding tighten_answer tightening_outcome
-returns-4 c = let d = c.before.before.before.before in promised (before (s (a d))) (after d) (call (s (a d))) _ (done d (rw c.enum-told3.given.1))
+returns-4 c = let d = c.before.before.before in promised (before (s (a d))) (after d) (call (s (a d))) _ (done d (rw c.in-Unchanged.is))
 
-pub tighten-coefficient-spec : {M : Type 1} → statement M
-tighten-coefficient-spec =
+pub tighten_coefficient_spec : {M : Type 1} → statement M
+tighten_coefficient_spec =
     tie.close
     (tie.spec
     tightening-fault-requires

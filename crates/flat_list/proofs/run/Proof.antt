@@ -14,41 +14,41 @@ use Rattle.flat_list.proofs.run.Tie as tie
 abbrev first : tie.Start → State
 first s = let a = s.args in state_of a.n a.m a.bounds.now (rows_of a.coefs.now a.rhs.now a.kinds.now) a.table.now
 
-list-fault-requires : tie.Need-list-fault-requires
+list-fault-requires : tie.Need-list_fault-fault-requires
 list-fault-requires c κs = search rules
 
-same_length : tie.Need-same-length
+same_length : tie.Need-shape_of-bounds-then-fault-ne0
 same_length c = search rules
 
-same-length-2 : tie.Need-same-length-2
+same-length-2 : tie.Need-shape_of-table-then-fault-ne0
 same-length-2 c = search rules
 
-returns : tie.Need-returns
+returns : tie.Need-returns-then-fault-ne0
 unfolding list_run list_answer
 returns c =
-    let s = c.before.before.before.before.before.before.before in
-    let e = c.before.list-fault.ensures in
-    list-promised (first s) s.args.calls.now (record { answer = refused_list c.before.list-fault.result; state = first s })
-    (sym (list-refused (first s) s.args.calls.now (λ z. c.if1.true (e ∙ z)) ∙ rw e))
+    let s = c.before.before.before.before.before in
+    let e = c.list_fault-fault.ensures in
+    list-promised (first s) s.args.calls.now (record { answer = refused_list c.list_fault-fault.result; state = first s })
+    (sym (list-refused (first s) s.args.calls.now (λ z. c.if-fault-ne0.true (e ∙ z)) ∙ rw e))
 
-slice-aggregate-run-records : tie.Need-slice-aggregate-run-records
+slice-aggregate-run-records : tie.Need-slice_bounds-run_records-end
 slice-aggregate-run-records c = search rules
 
-run-records-requires : tie.Need-run-records-requires
+run-records-requires : tie.Need-run_records-requires
 run-records-requires c κs = search rules
 
-same-length-3 : tie.Need-same-length-3
+same-length-3 : tie.Need-shape_of-bounds
 same-length-3 c = search rules
 
-same-length-4 : tie.Need-same-length-4
+same-length-4 : tie.Need-shape_of-table
 same-length-4 c = search rules
 
-returns-2 : tie.Need-returns-2
+returns-2 : tie.Need-returns
 unfolding list_run list_answer ran_to
 returns-2 c =
     let p = c.before.before.before.before in
-    let s = p.before.before.before.before.before.before.before.before.before.before.before in
-    list-promised (first s) s.args.calls.now _ p.run-records.ensures.0
+    let s = p.before.before.before.before.before.before.before.before.before in
+    list-promised (first s) s.args.calls.now _ p.run_records.ensures.0
 
 pub run_spec : {M : Type 1} → statement M
 run_spec =

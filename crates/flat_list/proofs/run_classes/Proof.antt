@@ -14,63 +14,63 @@ use Rattle.flat_list.proofs.run_classes.Tie as tie
 abbrev first : tie.Start → State
 first s = let a = s.args in state_of a.n a.m a.bounds.now (rows_of a.coefs.now a.rhs.now a.kinds.now) a.table.now
 
-classes-fault-requires : tie.Need-classes-fault-requires
+classes-fault-requires : tie.Need-classes_fault-fault-requires
 classes-fault-requires c κs = search rules
 
-same_length : tie.Need-same-length
+same_length : tie.Need-shape_of-bounds-then-fault-ne0
 same_length c = search rules
 
-same-length-2 : tie.Need-same-length-2
+same-length-2 : tie.Need-shape_of-table-then-fault-ne0
 same-length-2 c = search rules
 
-same-length-3 : tie.Need-same-length-3
+same-length-3 : tie.Need-shape_of-classes-then-fault-ne0
 same-length-3 c = search rules
 
-returns : tie.Need-returns
+returns : tie.Need-returns-then-fault-ne0
 unfolding classes_run list_run list_answer
 returns c =
-    let s = c.before.before.before.before.before.before.before.before.before in
+    let s = c.before.before.before.before.before.before in
     let a = s.args in
-    let e = c.before.classes-fault.ensures in
+    let e = c.classes_fault-fault.ensures in
     classes-promised (first s) a.calls.now a.classes.now _
-    (rw e (classes-refused (first s) a.calls.now a.classes.now (λ z. c.if1.true (e ∙ z))))
+    (rw e (classes-refused (first s) a.calls.now a.classes.now (λ z. c.if-fault-ne0.true (e ∙ z))))
 
 -- the list is run
-accepted : (c : tie.Else1) → let s = c.before.before.before.before.before.before.before.before.before in
+accepted : (c : tie.Else-fault-ne0) → let s = c.before.before.before.before.before.before in
     classes_fault (first s) s.args.calls.now s.args.classes.now ≡ 0
-accepted c = sym c.before.classes-fault.ensures ∙ c.if1.false
+accepted c = sym c.classes_fault-fault.ensures ∙ c.if-fault-ne0.false
 
-run-records-requires : tie.Need-run-records-requires
+run-records-requires : tie.Need-run_records-requires
 run-records-requires c κs =
     let e = c.before.before.before in
-    let s = e.before.before.before.before.before.before.before.before.before in
+    let s = e.before.before.before.before.before.before in
     let a = s.args in
     let z = accepted e in (
       classes-listed (first s) a.calls.now a.classes.now z,
       omega (arith, (classes-accepted (first s) a.calls.now a.classes.now z).1),
     )
 
-same-length-4 : tie.Need-same-length-4
+same-length-4 : tie.Need-shape_of-bounds
 same-length-4 c = search rules
 
-same-length-5 : tie.Need-same-length-5
+same-length-5 : tie.Need-shape_of-table
 same-length-5 c = search rules
 
-same-length-6 : tie.Need-same-length-6
+same-length-6 : tie.Need-shape_of-classes
 same-length-6 c = search rules
 
-returns-2 : tie.Need-returns-2
+returns-2 : tie.Need-returns
 unfolding classes_run list_run list_answer ran_to
 returns-2 c =
     let p = c.before.before.before.before.before in
     let e = p.before.before.before.before in
-    let s = e.before.before.before.before.before.before.before.before.before in
+    let s = e.before.before.before.before.before.before in
     let a = s.args in
     classes-promised (first s) a.calls.now a.classes.now _
-    (classes-ran (first s) a.calls.now a.classes.now (accepted e) p.run-records.ensures.0 p.run-records.ensures.1)
+    (classes-ran (first s) a.calls.now a.classes.now (accepted e) p.run_records.ensures.0 p.run_records.ensures.1)
 
-pub run-classes-spec : {M : Type 1} → statement M
-run-classes-spec =
+pub run_classes_spec : {M : Type 1} → statement M
+run_classes_spec =
     tie.close
     (tie.spec
     classes-fault-requires

@@ -12,48 +12,48 @@ use Rattle.plan_replies.proofs.put_lengths.Tie as tie
 clear-requires : tie.Need-clear-requires
 clear-requires c κs = search rules
 
-slice-write-answer : tie.Need-slice-write-answer
+slice-write-answer : tie.Need-bounds-answer-0
 slice-write-answer c = search rules
 
-slice-write-answer-2 : tie.Need-slice-write-answer-2
+slice-write-answer-2 : tie.Need-bounds-answer-1
 slice-write-answer-2 c = search rules
 
-slice-write-answer-3 : tie.Need-slice-write-answer-3
+slice-write-answer-3 : tie.Need-bounds-answer-2
 slice-write-answer-3 c = simp length-set (omega arith)
 
-slice-write-answer-4 : tie.Need-slice-write-answer-4
+slice-write-answer-4 : tie.Need-bounds-answer-3
 slice-write-answer-4 c = simp length-set (omega arith)
 
-slice-write-answer-5 : tie.Need-slice-write-answer-5
+slice-write-answer-5 : tie.Need-bounds-answer-4
 slice-write-answer-5 c = simp length-set (omega arith)
 
-slice-write-answer-6 : tie.Need-slice-write-answer-6
+slice-write-answer-6 : tie.Need-bounds-answer-5
 slice-write-answer-6 c = simp length-set (omega arith)
 
-slice-write-answer-7 : tie.Need-slice-write-answer-7
+slice-write-answer-7 : tie.Need-bounds-answer-6
 slice-write-answer-7 c = simp length-set (omega arith)
 
-slice-write-answer-8 : tie.Need-slice-write-answer-8
+slice-write-answer-8 : tie.Need-bounds-answer-7
 slice-write-answer-8 c = simp length-set (omega arith)
 
-slice-write-answer-9 : tie.Need-slice-write-answer-9
+slice-write-answer-9 : tie.Need-bounds-answer-8
 slice-write-answer-9 c = simp length-set (omega arith)
 
-slice-write-answer-10 : tie.Need-slice-write-answer-10
+slice-write-answer-10 : tie.Need-bounds-answer-9
 slice-write-answer-10 c = simp length-set (omega arith)
 
-slice-write-answer-11 : tie.Need-slice-write-answer-11
+slice-write-answer-11 : tie.Need-bounds-answer-10
 slice-write-answer-11 c = simp length-set (omega arith)
 
-same_length : tie.Need-same-length
+same_length : tie.Need-shape_of-answer
 same_length c = search rules
 
 returns : tie.Need-returns
 unfolding lengths_reply written lengths_of
-returns c = rw (c.before.before.clear.ensures, c.before.before.before.before.before.requires) refl
+returns c = rw (c.clear.ensures, c.requires) refl
 
-pub put-lengths-spec : {M : Type 1} → statement M
-put-lengths-spec =
+pub put_lengths_spec : {M : Type 1} → statement M
+put_lengths_spec =
     tie.close
     (tie.spec
     clear-requires

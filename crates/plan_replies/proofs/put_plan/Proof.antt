@@ -6,27 +6,27 @@ use borrow.Author.Rules.{rules}
 use Rattle.plan_replies.proofs.put_plan.Statement.{statement}
 use Rattle.plan_replies.proofs.put_plan.Tie as tie
 
-enum-known-a : tie.Need-enum-known-a
+enum-known-a : tie.Need-enum_known-a
 enum-known-a c = search rules
 
-enum-known-a-2 : tie.Need-enum-known-a-2
+enum-known-a-2 : tie.Need-enum_known-a-in-Needed-1
 enum-known-a-2 c = search rules
 
-put-lengths-requires : tie.Need-put-lengths-requires
+put-lengths-requires : tie.Need-put_lengths-requires
 put-lengths-requires c κs = search rules
 
-returns : tie.Need-returns
+returns : tie.Need-returns-in-Refused
 unfolding plan_reply lengths_answer returned written
-returns c = rw c.before.a.given.1 (refl, refl)
+returns c = rw c.in-Refused.is (refl, refl)
 
-same_length : tie.Need-same-length
+same_length : tie.Need-shape_of-answer
 same_length c = search rules
 
-returns-2 : tie.Need-returns-2
+returns-2 : tie.Need-returns-in-Needed
 unfolding plan_reply lengths_reply lengths_answer returned written
-returns-2 c = rw c.before.before.before.before.before.a2.given.1 (refl, c.before.before.put-lengths.ensures)
+returns-2 c = rw c.in-Needed.is (refl, c.put_lengths.ensures)
 
-pub put-plan-spec : {M : Type 1} → statement M
-put-plan-spec =
+pub put_plan_spec : {M : Type 1} → statement M
+put_plan_spec =
     tie.close
     (tie.spec enum-known-a enum-known-a-2 put-lengths-requires returns same_length returns-2)

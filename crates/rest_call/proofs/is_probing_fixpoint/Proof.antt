@@ -19,57 +19,57 @@ use Rattle.rest_call.proofs.is_probing_fixpoint.Tie as tie
 abbrev state : tie.Start → State
 state s = state_of s.args.n s.args.m s.args.bounds.now (rows_of s.args.coefs.now s.args.rhs.now s.args.kinds.now) []
 
-model-fault-requires : tie.Need-model-fault-requires
+model-fault-requires : tie.Need-model_fault-fault-requires
 model-fault-requires c κs = search rules
 
-fault-is : (c : tie.After-model-fault) → c.model-fault.result ≡ rest_fault (state c.before.before)
+fault-is : (c : tie.After-model_fault-fault) → c.model_fault-fault.result ≡ rest_fault (state c.before.before)
 unfolding rest_fault state_of
-fault-is c = c.model-fault.ensures
+fault-is c = c.model_fault-fault.ensures
 
-returns : tie.Need-returns
+returns : tie.Need-returns-then-fault-ne0
 unfolding rest_verdict
-returns c = rest-promised (state c.before.before.before) (rest-refused (state c.before.before.before) (fault-is c.before) c.if1.true)
+returns c = rest-promised (state c.before.before.before) (rest-refused (state c.before.before.before) (fault-is c.before) c.if-fault-ne0.true)
 
 -- the model is accepted
-no-fault : (c : tie.Else1) → rest_fault (state c.before.before.before) ≡ 0
-no-fault c = sym (fault-is c.before) ∙ c.if1.false
+no-fault : (c : tie.Else-fault-ne0) → rest_fault (state c.before.before.before) ≡ 0
+no-fault c = sym (fault-is c.before) ∙ c.if-fault-ne0.false
 
-test-rest-requires : tie.Need-test-rest-requires
+test-rest-requires : tie.Need-test_rest-requires
 unfolding rest_fault state_of
 test-rest-requires c κs =
-    let a = c.before.before.before.args in (fault-none (model_of a.n a.m a.bounds.now (rows_of a.coefs.now a.rhs.now a.kinds.now))).0 (no-fault c)
+    let a = c.args in (fault-none (model_of a.n a.m a.bounds.now (rows_of a.coefs.now a.rhs.now a.kinds.now))).0 (no-fault c)
 
 -- what the test found
-found : (c : tie.After-test-rest) {v : Rest} → c.test-rest.result ≡ v → let s = state c.before.before.before.before in let w = tested (rest_answer_of v) in
+found : (c : tie.After-test_rest) {v : Rest} → c.test_rest.result ≡ v → let s = state c.before.before.before.before in let w = tested (rest_answer_of v) in
     (w ≡ rest s) × (((w ≡ tested at_rest) ↔ ((rest_fault s ≡ 0) × AtRest s)) × NoMeans s w)
 unfolding state_of
 found c e =
     let s = state c.before.before.before.before in
-    rest-promised s (rest-tested s (no-fault c.before) (ap rest_answer_of (sym e) ∙ c.test-rest.ensures))
+    rest-promised s (rest-tested s (no-fault c.before) (ap rest_answer_of (sym e) ∙ c.test_rest.ensures))
 
-enum_told : tie.Need-enum-told
+enum_told : tie.Need-enum_told-1
 enum_told c = search rules
 
-enum-known-r : tie.Need-enum-known-r
+enum-known-r : tie.Need-enum_known-r
 enum-known-r c = search rules
 
-enum-known-k : tie.Need-enum-known-k
+enum-known-k : tie.Need-enum_known-k
 enum-known-k c = search rules
 
-returns-2 : tie.Need-returns-2
+returns-2 : tie.Need-returns-in-AtRest
 unfolding rest_verdict rest_answer_of
-returns-2 c = found c.before.before c.enum_told.given.1
+returns-2 c = found c.before c.in-AtRest.is
 
-returns-3 : tie.Need-returns-3
+returns-3 : tie.Need-returns-in-ByRow
 unfolding rest_verdict rest_answer_of
-returns-3 c = found c.before.before.before c.before.r.given.1
+returns-3 c = found c.before c.in-ByRow.is
 
-returns-4 : tie.Need-returns-4
+returns-4 : tie.Need-returns-in-ByVariable
 unfolding rest_verdict rest_answer_of
-returns-4 c = found c.before.before.before c.before.k.given.1
+returns-4 c = found c.before c.in-ByVariable.is
 
-pub is-probing-fixpoint-spec : {M : Type 1} → statement M
-is-probing-fixpoint-spec =
+pub is_probing_fixpoint_spec : {M : Type 1} → statement M
+is_probing_fixpoint_spec =
     tie.close
     (tie.spec
     model-fault-requires

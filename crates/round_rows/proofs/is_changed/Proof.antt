@@ -26,15 +26,15 @@ not-changed Changed h =
     (⊎_elim (λ e. let z : ◌≡◌ {A = ℕ} 2 1 = e in absurd (omega arith)) (λ e. let z : ◌≡◌ {A = ℕ} 2 3 = e in absurd (omega arith))) h
 not-changed Unchanged h = refl
 
-enum_told : tie.Need-enum-told
+enum_told : tie.Need-enum_told-1
 enum_told c = search rules
 
-returns : tie.Need-returns
-returns c = not-changed c.before.args.class c.match.keys2
+returns : tie.Need-returns-in_default
+returns c = not-changed c.args.class c.in_default.in_default-own.keys2
 
-returns-2 : tie.Need-returns-2
+returns-2 : tie.Need-returns
 unfolding is_change class_is
-returns-2 c = rw c.enum_told.given.1
+returns-2 c = rw c.in-Changed.is
 
-pub is-changed-spec : {M : Type 1} → statement M
-is-changed-spec = tie.close (tie.spec enum_told returns returns-2)
+pub is_changed_spec : {M : Type 1} → statement M
+is_changed_spec = tie.close (tie.spec enum_told returns returns-2)

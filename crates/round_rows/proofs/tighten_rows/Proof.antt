@@ -9,60 +9,60 @@ use Rattle.rounds.proofs.RoundLaws.{AnyTurns, all-turns, any-lengths, any-valid,
 use Rattle.round_rows.proofs.tighten_rows.Statement.{statement}
 use Rattle.round_rows.proofs.tighten_rows.Tie as tie
 
-abbrev invariant-loop : tie.invariant-loop
+abbrev invariant-loop : tie.invariant-loop-r
 invariant-loop n m bounds coefs₀ rhs₀ kinds changed₀ r₀ coefs rhs changed r =
     AnyTurns m tighten_row n m bounds (rows_of coefs₀ rhs₀ kinds) (rows_of coefs rhs kinds) changed r
 
-abbrev decreases-loop : tie.decreases-loop
+abbrev decreases-loop : tie.decreases-loop-r
 decreases-loop n m bounds coefs₀ rhs₀ kinds changed₀ r₀ coefs rhs changed r = m - r
 
-loop-holds : tie.Need-loop-init invariant-loop decreases-loop
+loop-holds : tie.Need-loop-r-init invariant-loop decreases-loop
 unfolding state_of
 loop-holds c = let s = c.before in record { beside = λ t w. no-turn s.args.m tighten_row (record { model = s.requires; table = w }) }
 
-cast-loop : tie.Need-overflow-cast-loop invariant-loop decreases-loop
-cast-loop c = omega (arith, any-within c.loop.invariant)
+cast-loop : tie.Need-overflow_cast-r invariant-loop decreases-loop
+cast-loop c = omega (arith, any-within c.loop-r.invariant)
 
-tighten-row-requires : tie.Need-tighten-row-requires invariant-loop decreases-loop
-tighten-row-requires c κs = let t = c.before.before in (t.loop-test.true, any-valid t.before.loop.invariant)
+tighten-row-requires : tie.Need-tighten_row-requires invariant-loop decreases-loop
+tighten-row-requires c κs = let t = c.before.before in (t.loop-r-test.true, any-valid t.loop-r.invariant)
 
-add_r : tie.Need-overflow-add-r invariant-loop decreases-loop
+add_r : tie.Need-overflow_add-r invariant-loop decreases-loop
 add_r c =
-    let t = c.before.before.before.before.before.before in omega (arith, t.loop-test.true, (any-valid t.before.loop.invariant).few_rows)
+    let t = c.before.before.before.before.before.before in omega (arith, t.loop-r-test.true, (any-valid t.loop-r.invariant).few_rows)
 
-loop-less : tie.Need-loop-smaller invariant-loop decreases-loop
+loop-less : tie.Need-loop-r-smaller invariant-loop decreases-loop
 loop-less c = omega arith
 
-loop-again : tie.Need-loop-preserved invariant-loop decreases-loop
+loop-again : tie.Need-loop-r-preserved invariant-loop decreases-loop
 unfolding state_of
 loop-again c =
     let d = c.before.before.before in
     let t = d.before.before.before in
-    let l = t.before.loop in
-    let flag = ⊎_elim (λ w. flag-raised l.changed w.0.taken w.1) (λ w. flag-kept l.changed w.0.left w.1) c.if1.branch in
+    let l = t.loop-r in
+    let flag = ⊎_elim (λ w. flag-raised l.changed w.if-tighten_row.true w.changed-is) (λ w. flag-kept l.changed w.if-tighten_row.false w.changed-is) c.if-tighten_row.branch-raw in
     record {
-      beside = λ u v. turn t.before.before.before.args.m tighten_row (l.invariant.beside u v) t.loop-test.true
-          (record { left = d.tighten-row.ensures.left u v; changed = d.tighten-row.ensures.changed u v }) flag;
+      beside = λ u v. turn t.args.m tighten_row (l.invariant.beside u v) t.loop-r-test.true
+          (record { left = d.tighten_row.ensures.left u v; changed = d.tighten_row.ensures.changed u v }) flag;
     }
 
-same_length : tie.Need-same-length invariant-loop decreases-loop
+same_length : tie.Need-shape_of-coefs invariant-loop decreases-loop
 unfolding state_of
-same_length c = (any-lengths c.before.loop.invariant).coefs
+same_length c = (any-lengths c.loop-r.invariant).coefs
 
-same-length-2 : tie.Need-same-length-2 invariant-loop decreases-loop
+same-length-2 : tie.Need-shape_of-rhs invariant-loop decreases-loop
 unfolding state_of
-same-length-2 c = (any-lengths c.before.loop.invariant).rhs
+same-length-2 c = (any-lengths c.loop-r.invariant).rhs
 
 returns : tie.Need-returns invariant-loop decreases-loop
 unfolding state_of tightenings
 returns c =
     let s = c.before.before.before in
-    let w = c.before.loop.invariant in
-    let h = c.loop-test.false in
+    let w = c.loop-r.invariant in
+    let h = c.loop-r-test.false in
     record { left = λ t v. (all-turns s.args.m tighten_row (w.beside t v) h).left; changed = λ t v. (all-turns s.args.m tighten_row (w.beside t v) h).changed }
 
-pub tighten-rows-spec : {M : Type 1} → statement M
-tighten-rows-spec =
+pub tighten_rows_spec : {M : Type 1} → statement M
+tighten_rows_spec =
     tie.close
     (tie.spec
     invariant-loop

@@ -7,13 +7,13 @@ use Rattle.replies.specs.Replies.{wrong_length}
 use Rattle.book_replies.proofs.books.trailer_fault.Statement.{statement}
 use Rattle.book_replies.proofs.books.trailer_fault.Tie as tie
 
-returns : tie.Need-returns
+returns : tie.Need-returns-then-bytes-lt-TRAILER
 unfolding wrong_length
-returns c = fails _ 1 _ (lt-leb _ _ c.if1.true)
+returns c = fails _ 1 _ (lt-leb _ _ c.if-bytes-lt-TRAILER.true)
 
-returns-2 : tie.Need-returns-2
+returns-2 : tie.Need-returns
 unfolding wrong_length
-returns-2 c = past _ 1 _ (le-leb _ _ c.if1.false) (fails false 5 _ refl)
+returns-2 c = past _ 1 _ (le-leb _ _ c.if-bytes-lt-TRAILER.false) (fails false 5 _ refl)
 
-pub trailer-fault-spec : {M : Type 1} → statement M
-trailer-fault-spec = tie.close (tie.spec returns returns-2)
+pub trailer_fault_spec : {M : Type 1} → statement M
+trailer_fault_spec = tie.close (tie.spec returns returns-2)

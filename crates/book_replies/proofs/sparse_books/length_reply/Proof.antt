@@ -6,19 +6,19 @@ use borrow.Author.Rules.{rules}
 use Rattle.book_replies.proofs.sparse_books.length_reply.Statement.{statement}
 use Rattle.book_replies.proofs.sparse_books.length_reply.Tie as tie
 
-enum-known-a : tie.Need-enum-known-a
+enum-known-a : tie.Need-enum_known-a
 enum-known-a c = search rules
 
-enum-known-a-2 : tie.Need-enum-known-a-2
+enum-known-a-2 : tie.Need-enum_known-a-in-Bytes-1
 enum-known-a-2 c = search rules
 
-returns : tie.Need-returns
+returns : tie.Need-returns-in-Refused
 unfolding length_reply length_answer reply_of
-returns c = rw c.before.a.given.1
+returns c = rw c.in-Refused.is
 
-returns-2 : tie.Need-returns-2
+returns-2 : tie.Need-returns-in-Bytes
 unfolding length_reply length_answer reply_of
-returns-2 c = rw c.before.a2.given.1
+returns-2 c = rw c.in-Bytes.is
 
-pub length-reply-spec : {M : Type 1} → statement M
-length-reply-spec = tie.close (tie.spec enum-known-a enum-known-a-2 returns returns-2)
+pub length_reply_spec : {M : Type 1} → statement M
+length_reply_spec = tie.close (tie.spec enum-known-a enum-known-a-2 returns returns-2)

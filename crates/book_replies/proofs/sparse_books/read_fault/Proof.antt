@@ -9,16 +9,16 @@ use borrow.Author.Rules.{rules}
 use Rattle.book_replies.proofs.sparse_books.read_fault.Statement.{statement}
 use Rattle.book_replies.proofs.sparse_books.read_fault.Tie as tie
 
-layout-fault-requires : tie.Need-layout-fault-requires
+layout-fault-requires : tie.Need-layout_fault-layout-requires
 layout-fault-requires c κs = search rules
 
-returns : tie.Need-returns
+returns : tie.Need-returns-then-layout-ne0
 unfolding wrong_length
-returns c = stops _ _ c.before.layout-fault.ensures c.if1.true
+returns c = stops _ _ c.layout_fault-layout.ensures c.if-layout-ne0.true
 
-returns-2 : tie.Need-returns-2
+returns-2 : tie.Need-returns
 unfolding wrong_length
-returns-2 c = goes (sparse_layout_checks _) _ (sparse-layout-numbered _) c.before.layout-fault.ensures c.if1.false (fails false 5 _ refl)
+returns-2 c = goes (sparse_layout_checks _) _ (sparse-layout-numbered _) c.layout_fault-layout.ensures c.if-layout-ne0.false (fails false 5 _ refl)
 
-pub read-fault-spec : {M : Type 1} → statement M
-read-fault-spec = tie.close (tie.spec layout-fault-requires returns returns-2)
+pub read_fault_spec : {M : Type 1} → statement M
+read_fault_spec = tie.close (tie.spec layout-fault-requires returns returns-2)

@@ -9,18 +9,18 @@ use Rattle.replies.specs.Replies.{wrong_length}
 use Rattle.replies.proofs.reply.answer_fault.Statement.{statement}
 use Rattle.replies.proofs.reply.answer_fault.Tie as tie
 
-size-fault-requires : tie.Need-size-fault-requires
+size-fault-requires : tie.Need-size_fault-size-requires
 size-fault-requires c κs = search rules
 
-returns : tie.Need-returns
+returns : tie.Need-returns-then-size-ne0
 unfolding wrong_length
-returns c = let a = c.before.before.args in stops (size_checks a.n a.m) (must false 5 ∷ []) c.before.size-fault.ensures c.if1.true
+returns c = let a = c.args in stops (size_checks a.n a.m) (must false 5 ∷ []) c.size_fault-size.ensures c.if-size-ne0.true
 
-returns-2 : tie.Need-returns-2
+returns-2 : tie.Need-returns
 unfolding wrong_length size_checks first
 returns-2 c =
-    let a = c.before.before.args in
-    goes (size_checks a.n a.m) (must false 5 ∷ []) tt c.before.size-fault.ensures c.if1.false refl
+    let a = c.args in
+    goes (size_checks a.n a.m) (must false 5 ∷ []) tt c.size_fault-size.ensures c.if-size-ne0.false refl
 
-pub answer-fault-spec : {M : Type 1} → statement M
-answer-fault-spec = tie.close (tie.spec size-fault-requires returns returns-2)
+pub answer_fault_spec : {M : Type 1} → statement M
+answer_fault_spec = tie.close (tie.spec size-fault-requires returns returns-2)

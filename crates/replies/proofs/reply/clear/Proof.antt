@@ -9,46 +9,46 @@ use native.Mathlib.Omega.{arith}
 use Rattle.replies.proofs.reply.clear.Statement.{statement}
 use Rattle.replies.proofs.reply.clear.Tie as tie
 
-abbrev invariant-loop : tie.invariant-loop
+abbrev invariant-loop : tie.invariant-loop-i
 invariant-loop answer₀ i₀ answer i = (i ≤ length answer₀) × (length answer ≡ length answer₀) × (take i answer ≡ replicate i 0)
 
-abbrev decreases-loop : tie.decreases-loop
+abbrev decreases-loop : tie.decreases-loop-i
 decreases-loop answer₀ i₀ answer i = length answer₀ - i
 
-loop-holds : tie.Need-loop-init invariant-loop decreases-loop
+loop-holds : tie.Need-loop-i-init invariant-loop decreases-loop
 loop-holds c = (omega arith, refl, refl)
 
-mul-answer : tie.Need-overflow-mul-answer invariant-loop decreases-loop
+mul-answer : tie.Need-offset_bounds-answer-i invariant-loop decreases-loop
 mul-answer c = omega arith
 
-slice-write-answer : tie.Need-slice-write-answer invariant-loop decreases-loop
+slice-write-answer : tie.Need-bounds-answer-i invariant-loop decreases-loop
 slice-write-answer c = omega arith
 
-add-i : tie.Need-overflow-add-i invariant-loop decreases-loop
+add-i : tie.Need-overflow_add-i invariant-loop decreases-loop
 add-i c = omega arith
 
-loop-less : tie.Need-loop-smaller invariant-loop decreases-loop
+loop-less : tie.Need-loop-i-smaller invariant-loop decreases-loop
 loop-less c = omega arith
 
-loop-again : tie.Need-loop-preserved invariant-loop decreases-loop
+loop-again : tie.Need-loop-i-preserved invariant-loop decreases-loop
 loop-again c =
-    let xs = c.before.loop.answer in
-    let i = c.before.loop.i in (
+    let xs = c.loop-i.answer in
+    let i = c.loop-i.i in (
       omega arith,
-      length-set xs i 0 ∙ c.before.loop.invariant.1,
+      length-set xs i 0 ∙ c.loop-i.invariant.1,
       ap (λ (k : ℕ). take k (set xs i 0)) (add-one i) ∙ take-suc-set xs i 0 (omega arith)
-          ∙ ap (λ (ys : List ℕ). ys ++ (0 ∷ [])) c.before.loop.invariant.2 ∙ replicate-append-replicate i 1 0,
+          ∙ ap (λ (ys : List ℕ). ys ++ (0 ∷ [])) c.loop-i.invariant.2 ∙ replicate-append-replicate i 1 0,
     )
 
-same_length : tie.Need-same-length invariant-loop decreases-loop
+same_length : tie.Need-shape_of-answer invariant-loop decreases-loop
 same_length c = omega arith
 
 returns : tie.Need-returns invariant-loop decreases-loop
 returns c =
-    let xs = c.before.loop.answer in
-    let i = c.before.loop.i in
-    let end : i ≡ length c.before.before.args.answer.now = omega arith in
-    sym (take_all i xs (omega arith)) ∙ c.before.loop.invariant.2 ∙ ap (λ (k : ℕ). replicate k 0) end
+    let xs = c.loop-i.answer in
+    let i = c.loop-i.i in
+    let end : i ≡ length c.args.answer.now = omega arith in
+    sym (take_all i xs (omega arith)) ∙ c.loop-i.invariant.2 ∙ ap (λ (k : ℕ). replicate k 0) end
 
 pub clear_spec : {M : Type 1} → statement M
 clear_spec =

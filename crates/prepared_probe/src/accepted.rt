@@ -1,5 +1,5 @@
 // A prepared probe that is accepted: its two sides, and what is kept of what they come to.
-ghost use Rattle.core.specs.Prelude.{◌≡◌, ◌*◌, ◌<◌, ◌≤◌, ◌||◌, T, length};
+ghost use Rattle.std.specs.Prelude.{◌≡◌, ◌*◌, ◌<◌, ◌≤◌, ◌||◌, T, length};
 ghost use Rattle.model.specs.Box.{NonEmpty, is_empty, is_free};
 ghost use Rattle.model.specs.Rows.{Rows};
 ghost use Rattle.model.specs.Valid.{ValidBox, ValidTable};

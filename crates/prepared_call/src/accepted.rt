@@ -1,6 +1,6 @@
 // A prepared propagate call that is accepted: from the box that the workspace knows to the lent one, the passes, and
 // what is kept of them.
-ghost use Rattle.core.specs.Prelude.{◌≡◌, length};
+ghost use Rattle.std.specs.Prelude.{◌≡◌, length};
 ghost use Rattle.prepared_checks.specs.Checks.{Accepting};
 ghost use Rattle.prepared_call.specs.Core.{Keeping, Kept, Ran, Running};
 ghost use Rattle.prepared_call.specs.PreparedCall.{PropagateAccepted};
