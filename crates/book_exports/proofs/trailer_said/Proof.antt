@@ -7,33 +7,33 @@ use Rattle.exports.proofs.BookLaws.{book-refused, book-replied}
 use Rattle.book_exports.proofs.trailer_said.Statement.{statement}
 use Rattle.book_exports.proofs.trailer_said.Tie as tie
 
-trailer-fault-requires : tie.Need-trailer-fault-requires
+trailer-fault-requires : tie.Need-trailer_fault-requires
 trailer-fault-requires c κs = search rules
 
-returns : tie.Need-returns
+returns : tie.Need-returns-then-answer-ne-ANSWER
 unfolding trailer_export
-returns c = let s = c.before.before.before.before in book-refused s.args.answer.now _ _ c.before.if1.true c.trailer-fault.ensures
+returns c = let s = c.before.before.before.before in book-refused s.args.answer.now _ _ c.if-answer-ne-ANSWER.true c.trailer_fault.ensures
 
 trailer-requires : tie.Need-trailer-requires
 trailer-requires c κs = search rules
 
-sizes-reply-requires : tie.Need-sizes-reply-requires
+sizes-reply-requires : tie.Need-sizes_reply-requires
 sizes-reply-requires c κs = search rules
 
 put-requires : tie.Need-put-requires
 put-requires c κs = search rules
 
-same_length : tie.Need-same-length
+same_length : tie.Need-shape_of-answer
 same_length c = search rules
 
-returns-2 : tie.Need-returns-2
+returns-2 : tie.Need-returns
 unfolding trailer_export
 returns-2 c =
     let s = c.before.before.before.before.before.before.before.before.before in
-    book-replied s.args.answer.now _ c.before.before.before.before.before.before.if1.false c.before.before.put.ensures (c.before.before.before.before.sizes-reply.ensures ∙ ap book_reply c.before.before.before.before.before.trailer.ensures)
+    book-replied s.args.answer.now _ c.if-answer-ne-ANSWER.false c.put.ensures (c.sizes_reply.ensures ∙ ap book_reply c.trailer.ensures)
 
-pub trailer-said-spec : {M : Type 1} → statement M
-trailer-said-spec =
+pub trailer_said_spec : {M : Type 1} → statement M
+trailer_said_spec =
     tie.close
     (tie.spec
     trailer-fault-requires

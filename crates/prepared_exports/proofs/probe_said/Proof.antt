@@ -21,11 +21,11 @@ use Rattle.prepared_exports.proofs.probe_said.Tie as tie
 abbrev number : tie.Start → ℕ
 number s = let a = s.args in probe_fault a.workspace.now a.bounds.now a.table.now a.reasons.now a.variable a.budget
 
-returns : tie.Need-returns
+returns : tie.Need-returns-then-answer-ne-ANSWER
 returns c =
     let s = c.before.before.before.before.before in
     let A = s.args.answer.now in
-    let wrong = c.if1.true in
+    let wrong = c.if-answer-ne-ANSWER.true in
     record {
       refused = λ h. (sym (fault-short A (number s) wrong), refl, refl, refl, refl, refl);
       accepted = λ z. absurd (short-refused A (number s) wrong z);
@@ -37,22 +37,22 @@ returns c =
 probe-requires : tie.Need-probe-requires
 probe-requires c κs = search rules
 
-put-probe-requires : tie.Need-put-probe-requires
+put-probe-requires : tie.Need-put_probe-requires
 put-probe-requires c κs = search rules
 
-same_length : tie.Need-same-length
+same_length : tie.Need-shape_of-workspace
 same_length c = search rules
 
-same-length-2 : tie.Need-same-length-2
+same-length-2 : tie.Need-shape_of-bounds
 same-length-2 c = search rules
 
-same-length-3 : tie.Need-same-length-3
+same-length-3 : tie.Need-shape_of-table
 same-length-3 c = search rules
 
-same-length-4 : tie.Need-same-length-4
+same-length-4 : tie.Need-shape_of-reasons
 same-length-4 c = search rules
 
-same-length-5 : tie.Need-same-length-5
+same-length-5 : tie.Need-shape_of-answer
 same-length-5 c = search rules
 
 -- what the definition tells, where the workspace is prepared for the rows M
@@ -75,16 +75,16 @@ same_by p M P (no n) =
     let e = (p.probe.ensures.0 n).0 in
     rows-refusal e p.probe.result.row0 p.probe.result.row1 ∙ sym (rows-refusal e (told p M).row0 (told p M).row1)
 
-returns-2 : tie.Need-returns-2
+returns-2 : tie.Need-returns
 unfolding performed
 returns-2 c =
     let p = c.before.before.before.before.before.before.before.before.before.before.before in
     let s = p.before.before.before.before.before.before.before.before.before.before in
     let A = s.args.answer.now in
-    let put = c.before.before.put-probe.ensures in
+    let put = c.put_probe.ensures in
     let r = p.probe.result in
     let a = probe_answer r.answer in
-    let whole = fault-whole A (number s) p.before.before.before.before.before.if1.false in
+    let whole = fault-whole A (number s) p.if-answer-ne-ANSWER.false in
     record {
       refused =
           λ h.
@@ -102,8 +102,8 @@ returns-2 c =
       prepared = p.probe.ensures.1.1.1.1;
     }
 
-pub probe-said-spec : {M : Type 1} → statement M
-probe-said-spec =
+pub probe_said_spec : {M : Type 1} → statement M
+probe_said_spec =
     tie.close
     (tie.spec
     returns

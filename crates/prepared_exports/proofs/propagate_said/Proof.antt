@@ -22,11 +22,11 @@ use Rattle.prepared_exports.proofs.propagate_said.Tie as tie
 abbrev number : tie.Start → ℕ
 number s = propagate_fault s.args.workspace.now s.args.bounds.now s.args.reasons.now s.args.budget
 
-returns : tie.Need-returns
+returns : tie.Need-returns-then-answer-ne-ANSWER
 returns c =
     let s = c.before.before.before.before in
     let A = s.args.answer.now in
-    let wrong = c.if1.true in
+    let wrong = c.if-answer-ne-ANSWER.true in
     record {
       refused = λ h. (sym (fault-short A (number s) wrong), refl, refl, refl, refl);
       accepted = λ z. absurd (short-refused A (number s) wrong z);
@@ -38,22 +38,22 @@ returns c =
 propagate-requires : tie.Need-propagate-requires
 propagate-requires c κs = search rules
 
-prepared-reply-requires : tie.Need-prepared-reply-requires
+prepared-reply-requires : tie.Need-prepared_reply-requires
 prepared-reply-requires c κs = search rules
 
 put-requires : tie.Need-put-requires
 put-requires c κs = search rules
 
-same_length : tie.Need-same-length
+same_length : tie.Need-shape_of-workspace
 same_length c = search rules
 
-same-length-2 : tie.Need-same-length-2
+same-length-2 : tie.Need-shape_of-bounds
 same-length-2 c = search rules
 
-same-length-3 : tie.Need-same-length-3
+same-length-3 : tie.Need-shape_of-reasons
 same-length-3 c = search rules
 
-same-length-4 : tie.Need-same-length-4
+same-length-4 : tie.Need-shape_of-answer
 same-length-4 c = search rules
 
 -- the row that the definition tells, where the workspace is prepared for the rows M
@@ -76,17 +76,17 @@ same_row : (p : tie.After-propagate) (M : Rows) → let s = p.before.before.befo
     → prepared_reply (prepared_answer p.propagate.result) (infeasible_row p.propagate.result) ≡ prepared_reply (prepared_answer p.propagate.result) (told p M)
 same_row p M P = let s = p.before.before.before.before.before.before.before.before in same_by p M P (ℕ_discrete (number s) 0)
 
-returns-2 : tie.Need-returns-2
+returns-2 : tie.Need-returns
 unfolding performed
 returns-2 c =
     let p = c.before.before.before.before.before.before.before.before.before.before in
     let s = p.before.before.before.before.before.before.before.before in
     let A = s.args.answer.now in
-    let put = c.before.before.put.ensures in
-    let e = c.before.before.before.before.prepared-reply.ensures in
+    let put = c.put.ensures in
+    let e = c.prepared_reply.ensures in
     let a = prepared_answer p.propagate.result in
     let row = infeasible_row p.propagate.result in
-    let whole = fault-whole A (number s) p.before.before.before.before.if1.false in
+    let whole = fault-whole A (number s) p.if-answer-ne-ANSWER.false in
     record {
       refused =
           λ h.
@@ -103,8 +103,8 @@ returns-2 c =
       prepared = p.propagate.ensures.1.1.1;
     }
 
-pub propagate-said-spec : {M : Type 1} → statement M
-propagate-said-spec =
+pub propagate_said_spec : {M : Type 1} → statement M
+propagate_said_spec =
     tie.close
     (tie.spec
     returns
