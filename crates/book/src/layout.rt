@@ -108,7 +108,8 @@ pub fn head_fault(book: &[u8]) -> u32
     let trailer = &book[len - TRAILER..];
     let given = given_length_fault(trailer, len);
     let layout = layout_fault(trailer);
-    if given != 0 {
+    let is_refused = given != 0;
+    if is_refused {
         return given;
     }
     layout
@@ -121,7 +122,8 @@ pub fn trailer(bytes: &[u8]) -> SizesAnswer
     if bytes.len() < TRAILER {
         return SizesAnswer::Refused(1);
     }
-    if TRAILER < bytes.len() {
+    let is_longer = TRAILER < bytes.len();
+    if is_longer {
         return SizesAnswer::Refused(5);
     }
     let fault = layout_fault(bytes);

@@ -45,7 +45,8 @@ fn still(n: usize, table: &[u8], flag: u8, r: usize, q: usize) -> u8
     requires r_bound { (r < 2 * n) × (q < 2 * n) }
     ensures { result ≡ still_of flag (joined n table.now r q) }
 {
-    if flag == 0 {
+    let is_out = flag == 0;
+    if is_out {
         return 0;
     }
     if is_joined(n, table, r, q) {

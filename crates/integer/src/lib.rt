@@ -11,7 +11,8 @@ pub fn floor_div(p: i64, g: i64) -> i64
     requires { pos 0 <ℤ g }
     ensures { result ≡ floor_div p g }
 {
-    if p >= 0 { p / g } else { (p + 1) / g - 1 }
+    let is_natural = p >= 0;
+    if is_natural { p / g } else { (p + 1) / g - 1 }
 }
 
 // ceiling (p / g), the mirror of floor_div.
@@ -19,5 +20,10 @@ pub fn ceil_div(p: i64, g: i64) -> i64
     requires { pos 0 <ℤ g }
     ensures { result ≡ ceil_div p g }
 {
-    if p <= 0 { p / g } else { (p - 1) / g + 1 }
+    let is_at_most_zero = p <= 0;
+    if is_at_most_zero {
+        p / g
+    } else {
+        (p - 1) / g + 1
+    }
 }

@@ -47,10 +47,12 @@ pub fn length_fault(
     if !is_product(coefs.len(), m, n) {
         return 5;
     }
-    if rhs.len() != m {
+    let rhs_differ = rhs.len() != m;
+    if rhs_differ {
         return 5;
     }
-    if kinds.len() != m {
+    let kinds_differ = kinds.len() != m;
+    if kinds_differ {
         return 5;
     }
     0

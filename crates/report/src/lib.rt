@@ -35,7 +35,8 @@ pub fn next_line(first: usize, table: &[u8], i: usize) -> usize
     }
     let mut byte = i - first;
     while byte < table.len() {
-        if table[byte] == 1 {
+        let is_recorded = table[byte] == 1;
+        if is_recorded {
             return first + byte;
         }
         byte += 1;

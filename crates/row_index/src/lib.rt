@@ -33,7 +33,8 @@ fn fill_steps(n: usize, coefs: &[i32], start: usize, across: &mut [u8])
     while j > 0 {
         j -= 1;
         across[start + j] = gap;
-        if coefs[start + j] != 0 {
+        let is_nonzero = coefs[start + j] != 0;
+        if is_nonzero {
             gap = 1;
         } else {
             gap += 1;

@@ -56,7 +56,8 @@ pub fn tighten_coefficient(
     if boxes::is_empty(bounds) {
         return CoefficientTightening::Infeasible;
     }
-    if kind == 1 {
+    let is_equality = kind == 1;
+    if is_equality {
         return CoefficientTightening::Unchanged;
     }
     if coefs[k] == 0 {
@@ -68,11 +69,13 @@ pub fn tighten_coefficient(
         return CoefficientTightening::Unchanged;
     }
     let a = coefs[k] as i64;
-    if a > 0 {
+    let is_positive = a > 0;
+    if is_positive {
         if rhs <= most - a {
             return CoefficientTightening::Unchanged;
         }
-        if most - a < MIN_RHS {
+        let is_too_low = most - a < MIN_RHS;
+        if is_too_low {
             return CoefficientTightening::Unchanged;
         }
         coefs[k] = (most - rhs) as i32;

@@ -15,17 +15,17 @@ div-result c =
     let fg = c.before.ranges.g in
     (of_z-pos w64 c.before.requires, simp to_z-of_z (quot_fits _ c.before.requires fp))
 
-positive : (c : tie.Else-p-le0) → pos 0 <ℤ c.before.args.p
+positive : (c : tie.Else-is_at_most_zero) → pos 0 <ℤ c.before.args.p
 positive c =
     let fp = c.before.ranges.p in
-    le-false c.before.args.p (pos 0) (simp to_z-of_z at c.if-p-le0.false)
+    le-false c.before.args.p (pos 0) (simp to_z-of_z at c.if-is_at_most_zero.false)
 
-previous-fits : (c : tie.Else-p-le0) → SFits w64 (c.before.args.p -ℤ pos 1)
+previous-fits : (c : tie.Else-is_at_most_zero) → SFits w64 (c.before.args.p -ℤ pos 1)
 previous-fits c =
     let p = c.before.args.p in
     fits w64 _ (omega (zarith, positive c, sub_parts p (pos 1), c.before.ranges.p))
 
-last_fits : (c : tie.Else-p-le0) → SFits w64 (quot_z (c.before.args.p -ℤ pos 1) c.before.args.g +ℤ pos 1)
+last_fits : (c : tie.Else-is_at_most_zero) → SFits w64 (quot_z (c.before.args.p -ℤ pos 1) c.before.args.g +ℤ pos 1)
 last_fits c =
     let p = c.before.args.p in
     let q = quot_z (p -ℤ pos 1) c.before.args.g in
@@ -36,7 +36,7 @@ sub-result c =
     let fp = c.before.ranges.p in
     simp to_z-of_z (previous-fits c)
 
-div-result-2 : tie.Need-nonzero_div-result-else-p-le0
+div-result-2 : tie.Need-nonzero_div-result-else-is_at_most_zero
 div-result-2 c =
     let fp = c.before.ranges.p in
     let fg = c.before.ranges.g in
@@ -51,15 +51,15 @@ add-result c =
     let fq = quot_fits _ c.before.requires fn in
     simp to_z-of_z (last_fits c)
 
-returns : tie.Need-returns-then-p-le0
+returns : tie.Need-returns-then-is_at_most_zero
 returns c =
     let fp = c.before.ranges.p in
     let fg = c.before.ranges.g in
     let fq = quot_fits _ c.before.requires fp in
-    let h : c.before.args.p ≤ℤ pos 0 = le-true c.before.args.p (pos 0) (simp to_z-of_z at c.if-p-le0.true) in
+    let h : c.before.args.p ≤ℤ pos 0 = le-true c.before.args.p (pos 0) (simp to_z-of_z at c.if-is_at_most_zero.true) in
     simp to_z-of_z (quot-ceil h c.before.requires)
 
-returns-2 : tie.Need-returns-else-p-le0
+returns-2 : tie.Need-returns-else-is_at_most_zero
 returns-2 c =
     let fp = c.before.ranges.p in
     let fg = c.before.ranges.g in

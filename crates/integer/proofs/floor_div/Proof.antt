@@ -16,17 +16,17 @@ div-result c =
     let fg = c.before.ranges.g in
     (of_z-pos w64 c.before.requires, simp to_z-of_z (quot_fits _ c.before.requires fp))
 
-negative : (c : tie.Else-p-ge0) → c.before.args.p <ℤ pos 0
+negative : (c : tie.Else-is_natural) → c.before.args.p <ℤ pos 0
 negative c =
     let fp = c.before.ranges.p in
-    le-false (pos 0) c.before.args.p (simp to_z-of_z at c.if-p-ge0.false)
+    le-false (pos 0) c.before.args.p (simp to_z-of_z at c.if-is_natural.false)
 
-next_fits : (c : tie.Else-p-ge0) → SFits w64 (c.before.args.p +ℤ pos 1)
+next_fits : (c : tie.Else-is_natural) → SFits w64 (c.before.args.p +ℤ pos 1)
 next_fits c =
     let p = c.before.args.p in
     fits w64 _ (omega (zarith, negative c, add_parts p (pos 1), c.before.ranges.p))
 
-last_fits : (c : tie.Else-p-ge0) → SFits w64 (quot_z (c.before.args.p +ℤ pos 1) c.before.args.g -ℤ pos 1)
+last_fits : (c : tie.Else-is_natural) → SFits w64 (quot_z (c.before.args.p +ℤ pos 1) c.before.args.g -ℤ pos 1)
 last_fits c =
     let p = c.before.args.p in
     let q = quot_z (p +ℤ pos 1) c.before.args.g in
@@ -37,7 +37,7 @@ add-result c =
     let fp = c.before.ranges.p in
     simp to_z-of_z (next_fits c)
 
-div-result-2 : tie.Need-nonzero_div-result-else-p-ge0
+div-result-2 : tie.Need-nonzero_div-result-else-is_natural
 div-result-2 c =
     let fp = c.before.ranges.p in
     let fg = c.before.ranges.g in
@@ -52,15 +52,15 @@ sub-result c =
     let fq = quot_fits _ c.before.requires fn in
     simp to_z-of_z (last_fits c)
 
-returns : tie.Need-returns-then-p-ge0
+returns : tie.Need-returns-then-is_natural
 returns c =
     let fp = c.before.ranges.p in
     let fg = c.before.ranges.g in
     let fq = quot_fits _ c.before.requires fp in
-    let h : pos 0 ≤ℤ c.before.args.p = le-true (pos 0) c.before.args.p (simp to_z-of_z at c.if-p-ge0.true) in
+    let h : pos 0 ≤ℤ c.before.args.p = le-true (pos 0) c.before.args.p (simp to_z-of_z at c.if-is_natural.true) in
     simp to_z-of_z (quot-floor h c.before.requires)
 
-returns-2 : tie.Need-returns-else-p-ge0
+returns-2 : tie.Need-returns-else-is_natural
 returns-2 c =
     let fp = c.before.ranges.p in
     let fg = c.before.ranges.g in

@@ -30,10 +30,10 @@ is-product-requires-2 c κs = search rules
 returns-2 : tie.Need-returns-then-not-is_product-2
 returns-2 c = refused _ (λ h. eqb-false _ _ (told-false _ c.before.is_product-2.ensures c.if-not-is_product-2.true-raw) h.1)
 
-returns-3 : tie.Need-returns-then-rhs-m
+returns-3 : tie.Need-returns-then-rhs_differ
 returns-3 c = refused _ (λ h. omega arith)
 
-returns-4 : tie.Need-returns-then-kinds-m
+returns-4 : tie.Need-returns-then-kinds_differ
 returns-4 c = refused _ (λ h. omega arith)
 
 returns-5 : tie.Need-returns
@@ -43,8 +43,8 @@ returns-5 c =
     accepted _ (
       eqb-true _ _ (told-true _ after1.is_product.ensures after2.before.if-not-is_product.false-raw),
       eqb-true _ _ (told-true _ after2.is_product-2.ensures c.before.before.if-not-is_product-2.false-raw),
-      c.before.if-rhs-m.false,
-      c.if-kinds-m.false,
+      c.before.if-rhs_differ.false,
+      c.if-kinds_differ.false,
     )
 
 pub length_fault_spec : {M : Type 1} → statement M

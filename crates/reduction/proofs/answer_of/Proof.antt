@@ -7,36 +7,36 @@ use Rattle.reduction.specs.Output.{text_of}
 use Rattle.reduction.proofs.answer_of.Statement.{statement}
 use Rattle.reduction.proofs.answer_of.Tie as tie
 
-enum-known-rounds : tie.Need-enum-known-rounds
+enum-known-rounds : tie.Need-enum_known-rounds
 enum-known-rounds c = search rules
 
-enum_told : tie.Need-enum-told
+enum_told : tie.Need-enum_told-1
 enum_told c = search rules
 
-enum-known-rounds-2 : tie.Need-enum-known-rounds-2
+enum-known-rounds-2 : tie.Need-enum_known-rounds-in-NothingChanged-1
 enum-known-rounds-2 c = search rules
 
-enum-known-rounds-3 : tie.Need-enum-known-rounds-3
+enum-known-rounds-3 : tie.Need-enum_known-rounds-in-AtLimit-1
 enum-known-rounds-3 c = search rules
 
-returns : tie.Need-returns
+returns : tie.Need-returns-in-Refused
 unfolding answer_text text_of rounds_answer
-returns c = λ form s. ap (λ r. text_of form (rounds_answer r) s) (sym c.before.rounds.given.1)
+returns c = λ form s. ap (λ r. text_of form (rounds_answer r) s) (sym c.in-Refused.is)
 
-returns-2 : tie.Need-returns-2
+returns-2 : tie.Need-returns-in-Infeasible
 unfolding answer_text text_of rounds_answer
-returns-2 c = λ form s. ap (λ r. text_of form (rounds_answer r) s) (sym c.enum_told.given.1)
+returns-2 c = λ form s. ap (λ r. text_of form (rounds_answer r) s) (sym c.in-Infeasible.is)
 
-returns-3 : tie.Need-returns-3
+returns-3 : tie.Need-returns-in-NothingChanged
 unfolding answer_text text_of rounds_answer
-returns-3 c = λ form s. ap (λ r. text_of form (rounds_answer r) s) (sym c.before.rounds2.given.1)
+returns-3 c = λ form s. ap (λ r. text_of form (rounds_answer r) s) (sym c.in-NothingChanged.is)
 
-returns-4 : tie.Need-returns-4
+returns-4 : tie.Need-returns-in-AtLimit
 unfolding answer_text text_of rounds_answer
-returns-4 c = λ form s. ap (λ r. text_of form (rounds_answer r) s) (sym c.before.rounds3.given.1)
+returns-4 c = λ form s. ap (λ r. text_of form (rounds_answer r) s) (sym c.in-AtLimit.is)
 
-pub answer-of-spec : {M : Type 1} → statement M
-answer-of-spec =
+pub answer_of_spec : {M : Type 1} → statement M
+answer_of_spec =
     tie.close
     (tie.spec
     enum-known-rounds

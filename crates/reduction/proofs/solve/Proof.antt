@@ -18,73 +18,73 @@ use Rattle.reduction.proofs.solve.Tie as tie
 read-requires : tie.Need-read-requires
 read-requires c κs = search rules
 
-enum-known-number : tie.Need-enum-known-number
+enum-known-number : tie.Need-enum_known-number
 enum-known-number c = search rules
 
-same_length : tie.Need-same-length
+same_length : tie.Need-shape_of-bounds-in-Refused
 same_length c = search rules
 
-same-length-2 : tie.Need-same-length-2
+same-length-2 : tie.Need-shape_of-coefs-in-Refused
 same-length-2 c = search rules
 
-same-length-3 : tie.Need-same-length-3
+same-length-3 : tie.Need-shape_of-rhs-in-Refused
 same-length-3 c = search rules
 
-same-length-4 : tie.Need-same-length-4
+same-length-4 : tie.Need-shape_of-kinds-in-Refused
 same-length-4 c = search rules
 
-returns : tie.Need-returns
+returns : tie.Need-returns-in-Refused
 unfolding answer_text sizes_answer state_of
 returns c =
-    let d = c.before.before.before.before.before.before.before.before in
-    ((λ form. refused-output d.before.before.before.before.before.before.before.before.requires form _ _ (ap sizes_answer (sym c.before.number.given.1) ∙ d.read.ensures.0)), ((λ form. output-means form _ _), tt))
+    let d = c.before.before.before.before.before.before in
+    ((λ form. refused-output d.requires form _ _ (ap sizes_answer (sym c.in-Refused.is) ∙ d.read.ensures.0)), ((λ form. output-means form _ _), tt))
 
-enum_told : tie.Need-enum-told
+enum_told : tie.Need-enum_told-1
 enum_told c = search rules
 
 run-requires : tie.Need-run-requires
 run-requires c κs = search rules
 
-answer-of-requires : tie.Need-answer-of-requires
+answer-of-requires : tie.Need-answer_of-requires
 answer-of-requires c κs = search rules
 
-same-length-5 : tie.Need-same-length-5
+same-length-5 : tie.Need-shape_of-bounds
 same-length-5 c = search rules
 
-same-length-6 : tie.Need-same-length-6
+same-length-6 : tie.Need-shape_of-coefs
 same-length-6 c = search rules
 
-same-length-7 : tie.Need-same-length-7
+same-length-7 : tie.Need-shape_of-rhs
 same-length-7 c = search rules
 
-same-length-8 : tie.Need-same-length-8
+same-length-8 : tie.Need-shape_of-kinds
 same-length-8 c = search rules
 
-same-length-9 : tie.Need-same-length-9
+same-length-9 : tie.Need-shape_of-table
 same-length-9 c = search rules
 
-returns-2 : tie.Need-returns-2
+returns-2 : tie.Need-returns
 unfolding rounds_text sizes_answer state_of
 returns-2 c =
     let run = c.before.before.before.before.before.before.before.before in
-    let read = run.before.before.before.before.before.before.before.before.before.before.before.before.before in
-    let a = read.before.before.before.before.before.before.before.before.args in
-    let h = read.before.before.before.before.before.before.before.before.requires in
-    let e = ap sizes_answer (sym run.before.before.before.before.before.before.enum_told.given.1) ∙ read.read.ensures.0 in
-    let left = run.run.new.1.1 in
+    let read = run.before.before.before.before.before.before.before.before.before.before.before.before in
+    let a = read.args in
+    let h = read.requires in
+    let e = ap sizes_answer (sym run.in_default.is) ∙ read.read.ensures.0 in
+    let left = run.run.new in
     let state = accepted-state h _ _ e read.read.ensures.1.0 read.read.ensures.1.1.0 read.read.ensures.1.1.1.0 read.read.ensures.1.1.1.1.0 in (
-      (λ form. c.answer-of.ensures form (state_of a.n a.m left.0 (rows_of left.1.0 left.1.1.0 left.1.1.1.0) left.1.1.1.1.0)
+      (λ form. c.answer_of.ensures form (state_of a.n a.m left.bounds (rows_of left.coefs left.rhs left.kinds) left.table)
           ∙ ap₂ (text_of form) run.run.ensures.0 run.run.ensures.1.0
           ∙ ap (rounds_text form a.limit) state
           ∙ sym (accepted-output h _ _ e form a.limit)),
       (
         (λ form. output-means form _ _),
-        leaves-valid c.answer-of.result (subst ValidState (sym (run.run.ensures.1.0 ∙ ap (λ s. ran s (run_rounds a.limit s).calls) state)) (accepted-valid h _ _ e a.limit)),
+        leaves-valid c.answer_of.result (subst ValidState (sym (run.run.ensures.1.0 ∙ ap (λ s. ran s (run_rounds a.limit s).calls) state)) (accepted-valid h _ _ e a.limit)),
       ),
     )
 
-pub solve-spec : {M : Type 1} → statement M
-solve-spec =
+pub solve_spec : {M : Type 1} → statement M
+solve_spec =
     tie.close
     (tie.spec
     read-requires

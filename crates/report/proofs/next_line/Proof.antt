@@ -38,7 +38,7 @@ shared-slice-read-if2 c = search rules
 add-result : tie.Need-overflow_add-result invariant-loop decreases-loop
 add-result c = omega arith
 
-returns-2 : tie.Need-returns-then-table-byte-eq1 invariant-loop decreases-loop
+returns-2 : tie.Need-returns-then-is_recorded invariant-loop decreases-loop
 returns-2 c = let i = c.before.before.before.loop-byte.invariant in ((i.0, omega arith), i.2)
 
 add-byte : tie.Need-overflow_add-byte invariant-loop decreases-loop
@@ -51,7 +51,7 @@ loop-again : tie.Need-loop-byte-preserved invariant-loop decreases-loop
 loop-again c =
     let h = c.before.before.before in
     let a = h.before.before.args in
-    (omega arith, omega arith, one_more a.first a.table.now a.i h.loop-byte.byte h.loop-byte.invariant.2 c.if-table-byte-eq1.false)
+    (omega arith, omega arith, one_more a.first a.table.now a.i h.loop-byte.byte h.loop-byte.invariant.2 c.if-is_recorded.false)
 
 add-result-2 : tie.Need-overflow_add-result-2 invariant-loop decreases-loop
 add-result-2 c = omega arith

@@ -15,66 +15,66 @@ use Rattle.rounds_call.proofs.run.Tie as tie
 abbrev entry : tie.Start → State
 entry s = let a = s.args in state_of a.n a.m a.bounds.now (rows_of a.coefs.now a.rhs.now a.kinds.now) a.table.now
 
-model-table-fault-requires : tie.Need-model-table-fault-requires
+model-table-fault-requires : tie.Need-model_table_fault-fault-requires
 model-table-fault-requires c κs = tt
 
-same_length : tie.Need-same-length
+same_length : tie.Need-shape_of-bounds-then-fault-ne0
 same_length c = omega arith
 
-same-length-2 : tie.Need-same-length-2
+same-length-2 : tie.Need-shape_of-coefs-then-fault-ne0
 same-length-2 c = omega arith
 
-same-length-3 : tie.Need-same-length-3
+same-length-3 : tie.Need-shape_of-rhs-then-fault-ne0
 same-length-3 c = omega arith
 
-same-length-4 : tie.Need-same-length-4
+same-length-4 : tie.Need-shape_of-kinds-then-fault-ne0
 same-length-4 c = omega arith
 
-same-length-5 : tie.Need-same-length-5
+same-length-5 : tie.Need-shape_of-table-then-fault-ne0
 same-length-5 c = omega arith
 
-returns : tie.Need-returns
+returns : tie.Need-returns-then-fault-ne0
 unfolding rounds_answer rounds_fault state_of
 returns c =
-    let s = c.before.before.before.before.before.before.before.before.before in
-    refuses s.args.limit (entry s) c.before.model-table-fault.ensures c.if1.true
+    let s = c.before.before.before.before in
+    refuses s.args.limit (entry s) c.model_table_fault-fault.ensures c.if-fault-ne0.true
 
 -- the checks passed
-module _ (c : tie.Else1) where
+module _ (c : tie.Else-fault-ne0) where
   abbrev start : tie.Start
-  start = c.before.before.before.before.before.before.before.before.before
+  start = c.before.before.before.before
 
   accepted : rounds_fault (entry start) ≡ 0
   unfolding rounds_fault state_of
-  accepted = sym c.before.model-table-fault.ensures ∙ c.if1.false
+  accepted = sym c.model_table_fault-fault.ensures ∙ c.if-fault-ne0.false
 
   valid : ValidState (entry start)
   unfolding rounds_fault
   valid = accepted-valid (entry start) accepted
 
-make-rounds-requires : tie.Need-make-rounds-requires
+make-rounds-requires : tie.Need-make_rounds-requires
 make-rounds-requires c κs = valid c.before.before.before.before.before
 
-same-length-6 : tie.Need-same-length-6
+same-length-6 : tie.Need-shape_of-bounds
 same-length-6 c = search rules
 
-same-length-7 : tie.Need-same-length-7
+same-length-7 : tie.Need-shape_of-coefs
 same-length-7 c = search rules
 
-same-length-8 : tie.Need-same-length-8
+same-length-8 : tie.Need-shape_of-rhs
 same-length-8 c = search rules
 
-same-length-9 : tie.Need-same-length-9
+same-length-9 : tie.Need-shape_of-kinds
 same-length-9 c = search rules
 
-same-length-10 : tie.Need-same-length-10
+same-length-10 : tie.Need-shape_of-table
 same-length-10 c = search rules
 
-returns-2 : tie.Need-returns-2
+returns-2 : tie.Need-returns
 returns-2 c =
     let d = c.before.before.before.before.before.before.before in
     let e = d.before.before.before.before.before.before in
-    finished (start e).args.limit (entry (start e)) (accepted e) d.make-rounds.ensures.0 d.make-rounds.ensures.1
+    finished (start e).args.limit (entry (start e)) (accepted e) d.make_rounds.ensures.0 d.make_rounds.ensures.1
 
 pub run_spec : {M : Type 1} → statement M
 run_spec =

@@ -51,7 +51,7 @@ module _ (c : tie.After-round-last invariant-loop decreases-loop) where
   new =
       let a = (first earlier).args in
       let l = c.round-last.new in
-      state_of a.n a.m l.rhs (rows_of l.kinds l.1.1.1.1.0 l.1.1.1.1.1.0) l.1.1.1.1.1.1.0
+      state_of a.n a.m l.bounds (rows_of l.coefs l.rhs l.kinds) l.table
 
   made : Leads old (round old) new c.round-last.result.changed
   made = record { left = c.round-last.ensures.0; changed = c.round-last.ensures.1.0 }

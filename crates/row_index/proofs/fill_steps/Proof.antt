@@ -50,7 +50,7 @@ add-across c = omega arith
 slice-write-across : tie.Need-bounds-across-start invariant-loop decreases-loop
 slice-write-across c = omega arith
 
-add-if1 : tie.Need-overflow_add-start invariant-loop decreases-loop
+add-if1 : tie.Need-overflow_add-is_nonzero invariant-loop decreases-loop
 add-if1 c = omega arith
 
 mul-if1 : tie.Need-offset_bounds-coefs-start invariant-loop decreases-loop
@@ -59,10 +59,10 @@ mul-if1 c = omega arith
 shared-slice-copy-out-if1 : tie.Need-bounds-coefs-start invariant-loop decreases-loop
 shared-slice-copy-out-if1 c = omega arith
 
-loop-less : tie.Need-loop-j-smaller-then-coefs-start-ne0 invariant-loop decreases-loop
+loop-less : tie.Need-loop-j-smaller-then-is_nonzero invariant-loop decreases-loop
 loop-less c = omega arith
 
-loop-again : tie.Need-loop-j-preserved-then-coefs-start-ne0 invariant-loop decreases-loop
+loop-again : tie.Need-loop-j-preserved-then-is_nonzero invariant-loop decreases-loop
 loop-again c =
     let h = c.before.before.before in
     let s = h.before in
@@ -97,12 +97,12 @@ loop-again-2 c =
     let i = h.loop-j.invariant in
     let t : 0 < j = omega arith in
     let room : s.args.start + s.args.n ≤ length S = omega arith in
-    let f : SFits w32 (at s.args.coefs.now (s.args.start + (j - 1))) = record { sfits = c.before.t12-1.given } in (
+    let f : SFits w32 (at s.args.coefs.now (s.args.start + (j - 1))) = record { sfits = c.before.is_nonzero-1.given } in (
       omega arith,
       omega arith,
       omega arith,
       simp length-set i.3,
-      zeros-more gap j t i.0 room i.1 i.2 i.4 i.5 (eq-read w32 f (sfits_lit {z = pos 0} tt) c.if-coefs-start-ne0.false),
+      zeros-more gap j t i.0 room i.1 i.2 i.4 i.5 (eq-read w32 f (sfits_lit {z = pos 0} tt) c.if-is_nonzero.false),
       good_more gap j t i.0 room i.1 i.2 i.4 i.5,
       (λ q k. get_or-set_other S (s.args.start + (j - 1)) q gap 0 (⊎_elim (λ l. omega arith) (λ l. omega arith) k) ∙ i.6 q k),
     )

@@ -42,17 +42,17 @@ returns c =
     let e = sym (c.before.is_empty.ensures _ s.requires.0.coefs.some s.requires.0.coefs.box) ∙ c.if-is_empty.true in
     rw (tighten-kinded-empty _ (row_with _ _ s.args.kind) _ s.args.k e) (refl, refl)
 
-returns-2 : tie.Need-returns-then-kind-eq1
+returns-2 : tie.Need-returns-then-is_equality
 unfolding tighten_row_of tightening_outcome is_equality
 returns-2 c =
     let s = c.before.before.before in
     let e = sym (c.before.before.is_empty.ensures _ s.requires.0.coefs.some s.requires.0.coefs.box) ∙ c.before.if-is_empty.false in
-    rw (c.if-kind-eq1.true, e) (refl, refl)
+    rw (c.if-is_equality.true, e) (refl, refl)
 
 mul-if3 : tie.Need-offset_bounds-coefs-k
 mul-if3 c = search rules
 
-slice-copy-out-if3 : tie.Need-slice_copy_out-t-13
+slice-copy-out-if3 : tie.Need-slice_copy_out-t-16
 slice-copy-out-if3 c = search rules
 
 -- a coefficient of 0 stays: no b lies between L and L - 0
@@ -69,10 +69,10 @@ returns-3 c =
     let e = c.before.before in
     let s = e.before.before.before in
     let A = s.args.coefs.now in
-    let f : SFits w32 (at A s.args.k) = record { sfits = c.before.t13-1.given } in
+    let f : SFits w32 (at A s.args.k) = record { sfits = c.before.t16-1.given } in
     let z = eq-read w32 f (sfits_lit {z = pos 0} tt) c.if-coefs-k-eq0.true in
     let n = sym (e.before.before.is_empty.ensures _ s.requires.0.coefs.some s.requires.0.coefs.box) ∙ e.before.if-is_empty.false in
-    rw (le-kind s.args.kind e.if-kind-eq1.false, n, z, stays-zero A s.args.k (max_activity (length A) A s.args.bounds.now) s.args.b.now) (refl, refl)
+    rw (le-kind s.args.kind e.if-is_equality.false, n, z, stays-zero A s.args.k (max_activity (length A) A s.args.bounds.now) s.args.b.now) (refl, refl)
 
 maximum-activity-requires : tie.Need-maximum_activity-most-requires
 maximum-activity-requires c κs = search rules
@@ -116,7 +116,7 @@ module _ (c : tie.After-rhs-1) where
       ∙ c.before.before.before.before.before.if-is_empty.false
 
   le : eqb s.args.kind 1 ≡ false
-  le = le-kind s.args.kind c.before.before.before.before.if-kind-eq1.false
+  le = le-kind s.args.kind c.before.before.before.before.if-is_equality.false
 
   L-small : Within 5_000_000_000_000 L
   L-small = max-activity-small s.requires.0.coefs
@@ -174,8 +174,8 @@ broken c = gt-read (most-is c.before) (rhs-is c.before) c.if-most-rhs.false
 
 -- ---- a above 0
 
-positive : (c : tie.Then-a-gt0) → pos 0 <ℤ a c.before.before.before
-positive c = lt-read refl (coef-is c.before.before.before) c.if-a-gt0.true
+positive : (c : tie.Then-is_positive) → pos 0 <ℤ a c.before.before.before
+positive c = lt-read refl (coef-is c.before.before.before) c.if-is_positive.true
 
 sub-if6 : tie.Need-overflow_sub-most
 sub-if6 c = let r = c.before.before.before in fits_read (less-a r) (within-fits w64 tt (within-sub (L-small r) (a_small r)))
@@ -190,7 +190,7 @@ returns-5 c =
     let h = le_read (rhs-is r) (read w64 (sub-if6 c.before) (less-a r)) c.if-rhs-most.true in
     rw (le r, some r, stays-loose-pos (A r) (k r) _ _ _ (positive c.before) h) (refl, refl)
 
-sub-if7 : tie.Need-overflow_sub-most-then-a-gt0
+sub-if7 : tie.Need-overflow_sub-is_too_low
 sub-if7 c = sub-if6 c.before
 
 module _ (c : tie.Else-rhs-most) where
@@ -200,19 +200,19 @@ module _ (c : tie.Else-rhs-most) where
   needed : (L row -ℤ a row) <ℤ b row
   needed = gt-read (rhs-is row) (read w64 (sub-if6 c.before) (less-a row)) c.if-rhs-most.false
 
-same-length-3 : tie.Need-shape_of-coefs-then-most-a-lt-MIN_RHS
+same-length-3 : tie.Need-shape_of-coefs-then-is_too_low
 same-length-3 c = search rules
 
-returns-6 : tie.Need-returns-then-most-a-lt-MIN_RHS
+returns-6 : tie.Need-returns-then-is_too_low
 unfolding tighten_row_of tighten_coefficient tightening_outcome is_equality
 returns-6 c =
     let e = c.before in
     let r = row e in
-    let h : (L r -ℤ a r) <ℤ min_rhs = lt-read (read w64 (sub-if7 e) (less-a r)) refl c.if-most-a-lt-MIN_RHS.true in
+    let h : (L r -ℤ a r) <ℤ min_rhs = lt-read (read w64 (sub-if7 e) (less-a r)) refl c.if-is_too_low.true in
     rw (le r, some r, stays-limit (A r) (k r) _ _ _ (positive e.before) (broken e.before.before.before) (needed e) h) (refl, refl)
 
-in-range : (c : tie.Else-most-a-lt-MIN_RHS) → min_rhs ≤ℤ (L (row c.before) -ℤ a (row c.before))
-in-range c = ge-read (read w64 (sub-if7 c.before) (less-a (row c.before))) refl c.if-most-a-lt-MIN_RHS.false
+in-range : (c : tie.Else-is_too_low) → min_rhs ≤ℤ (L (row c.before) -ℤ a (row c.before))
+in-range c = ge-read (read w64 (sub-if7 c.before) (less-a (row c.before))) refl c.if-is_too_low.false
 
 sub-coefs : tie.Need-overflow_sub-coefs
 sub-coefs c = let r = row c.before in fits_read (over-b r) (within-fits w64 tt (within-sub (L-small r) (b-small r)))
@@ -223,7 +223,7 @@ cast-coefs c =
     let r = row e in
     fits_read (read w64 (sub-coefs c) (over-b r)) (within-fits w32 tt (new-coef-pos _ _ _ (a_small r) (broken e.before.before.before) (needed e)))
 
-mul-b : tie.Need-offset_bounds-coefs-k-then-a-gt0
+mul-b : tie.Need-offset_bounds-coefs-k-then-is_positive
 mul-b c = search rules
 
 slice-set-from-b : tie.Need-bounds-coefs-k
@@ -237,10 +237,10 @@ cast-b c =
     let r = row c.before in
     fits_read (read w64 (sub-b c) (less-a r)) (within-fits w32 tt (new-rhs (b-small r) (in-range c) (needed c.before)))
 
-same-length-4 : tie.Need-shape_of-coefs-then-a-gt0
+same-length-4 : tie.Need-shape_of-coefs-then-is_positive
 same-length-4 c = search rules
 
-returns-7 : tie.Need-returns-then-a-gt0
+returns-7 : tie.Need-returns-then-is_positive
 unfolding tighten_row_of tighten_coefficient tightening_outcome is_equality
 returns-7 c =
     let e = c.before in
@@ -251,8 +251,8 @@ returns-7 c =
 
 -- ---- a at most 0
 
-not-positive : (c : tie.Else-a-gt0) → a c.before.before.before ≤ℤ pos 0
-not-positive c = ge-read refl (coef-is c.before.before.before) c.if-a-gt0.false
+not-positive : (c : tie.Else-is_positive) → a c.before.before.before ≤ℤ pos 0
+not-positive c = ge-read refl (coef-is c.before.before.before) c.if-is_positive.false
 
 add-if8 : tie.Need-overflow_add-most
 add-if8 c = let r = c.before.before.before in fits_read (plus-a r) (within-fits w64 tt (within-add (L-small r) (a_small r)))

@@ -43,16 +43,16 @@ given c =
 layout : (c : tie.After-layout_fault-layout) → c.layout_fault-layout.result ≡ first (layout_checks (trailer_of c.before.before.before.before.before.args.book.now))
 layout c = c.layout_fault-layout.ensures ∙ ap (λ (t : List ℕ). first (layout_checks t)) (trailer-part c.before.before.before.before.before.args.book.now)
 
-returns-2 : tie.Need-returns-then-given-ne0
+returns-2 : tie.Need-returns-then-is_refused
 unfolding head_checks
-returns-2 c = past _ 1 _ (le-leb _ _ c.before.before.before.before.if-len-lt-TRAILER.false) (stops _ _ (given c.before.before) c.if-given-ne0.true)
+returns-2 c = past _ 1 _ (le-leb _ _ c.before.before.before.before.if-len-lt-TRAILER.false) (stops _ _ (given c.before.before) c.if-is_refused.true)
 
 returns-3 : tie.Need-returns
 unfolding head_checks given_length_checks
 returns-3 c =
     let bs = c.before.before.before.before.before.before.args.book.now in
     past _ 1 _ (le-leb _ _ c.before.before.before.before.if-len-lt-TRAILER.false)
-    (goes (given_length_checks (trailer_of bs) (length bs)) (layout_checks (trailer_of bs)) tt (given c.before.before) c.if-given-ne0.false (layout c.before))
+    (goes (given_length_checks (trailer_of bs) (length bs)) (layout_checks (trailer_of bs)) tt (given c.before.before) c.if-is_refused.false (layout c.before))
 
 pub head_fault_spec : {M : Type 1} → statement M
 head_fault_spec =

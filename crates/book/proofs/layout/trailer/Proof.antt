@@ -15,10 +15,10 @@ returns : tie.Need-returns-then-bytes-lt-TRAILER
 unfolding sizes_answer trailer_call trailer_checks
 returns c = refused-by (fails _ 1 _ (lt-leb _ _ c.if-bytes-lt-TRAILER.true)) (λ z. omega arith) _
 
-returns-2 : tie.Need-returns-then-bytes-gt-TRAILER
+returns-2 : tie.Need-returns-then-is_longer
 unfolding sizes_answer trailer_call trailer_checks
 returns-2 c =
-    refused-by (past _ 1 _ (le-leb _ _ c.before.if-bytes-lt-TRAILER.false) (fails _ 5 _ (lt-leb _ _ c.if-bytes-gt-TRAILER.true))) (λ z. omega arith) _
+    refused-by (past _ 1 _ (le-leb _ _ c.before.if-bytes-lt-TRAILER.false) (fails _ 5 _ (lt-leb _ _ c.if-is_longer.true))) (λ z. omega arith) _
 
 layout-fault-requires : tie.Need-layout_fault-fault-requires
 layout-fault-requires c κs = search rules
@@ -26,7 +26,7 @@ layout-fault-requires c κs = search rules
 -- what is left of the checks is what `layout_fault` answers for
 checked : (c : tie.After-layout_fault-fault) → c.layout_fault-fault.result ≡ first (trailer_checks c.before.before.before.before.args.bytes.now)
 unfolding trailer_checks
-checked c = past _ 1 _ (le-leb _ _ c.before.before.if-bytes-lt-TRAILER.false) (past _ 5 _ (le-leb _ _ c.before.if-bytes-gt-TRAILER.false) c.layout_fault-fault.ensures)
+checked c = past _ 1 _ (le-leb _ _ c.before.before.if-bytes-lt-TRAILER.false) (past _ 5 _ (le-leb _ _ c.before.if-is_longer.false) c.layout_fault-fault.ensures)
 
 returns-3 : tie.Need-returns-then-fault-ne0
 unfolding sizes_answer trailer_call

@@ -15,38 +15,38 @@ state s B = state_of s.args.n s.args.m B (rows_of s.args.coefs.now s.args.rhs.no
 abbrev before : tie.Start → State
 before s = state s s.args.bounds.now
 
-answer-fault-requires : tie.Need-answer-fault-requires
+answer-fault-requires : tie.Need-answer_fault-requires
 answer-fault-requires c κs = search rules
 
-returns : tie.Need-returns
+returns : tie.Need-returns-then-answer-ne-ANSWER
 unfolding state_of
 returns c =
-    let s = c.before.before.before.before in call-refused s.args.answer.now (before s) 2 0 0 s.args.budget c.before.if1.true c.answer-fault.ensures
+    let s = c.before.before.before.before in call-refused s.args.answer.now (before s) 2 0 0 s.args.budget c.if-answer-ne-ANSWER.true c.answer_fault.ensures
 
 propagate-requires : tie.Need-propagate-requires
 propagate-requires c κs = search rules
 
-propagate-reply-requires : tie.Need-propagate-reply-requires
+propagate-reply-requires : tie.Need-propagate_reply-requires
 propagate-reply-requires c κs = search rules
 
 put-requires : tie.Need-put-requires
 put-requires c κs = search rules
 
-same_length : tie.Need-same-length
+same_length : tie.Need-shape_of-bounds
 same_length c = search rules
 
-same-length-2 : tie.Need-same-length-2
+same-length-2 : tie.Need-shape_of-answer
 same-length-2 c = search rules
 
-returns-2 : tie.Need-returns-2
+returns-2 : tie.Need-returns
 returns-2 c =
     let p = c.before.before.before.before.before.before in
     let s = p.before.before.before.before.before in
-    call-replied s.args.answer.now (before s) (state s p.propagate.new.1.1.0) 2 0 0 s.args.budget (propagate_answer p.propagate.result) p.before.before.if1.false
-    c.before.before.put.ensures c.before.before.before.before.propagate-reply.ensures p.propagate.ensures.0
+    call-replied s.args.answer.now (before s) (state s p.propagate.new.bounds) 2 0 0 s.args.budget (propagate_answer p.propagate.result) p.if-answer-ne-ANSWER.false
+    c.put.ensures c.propagate_reply.ensures p.propagate.ensures.0
 
-pub astrolabe-propagate-spec : {M : Type 1} → statement M
-astrolabe-propagate-spec =
+pub astrolabe_propagate_spec : {M : Type 1} → statement M
+astrolabe_propagate_spec =
     tie.close
     (tie.spec
     answer-fault-requires

@@ -15,38 +15,38 @@ state s B = state_of s.args.n s.args.m B (rows_of s.args.coefs.now s.args.rhs.no
 abbrev before : tie.Start → State
 before s = state s s.args.bounds.now
 
-answer-fault-requires : tie.Need-answer-fault-requires
+answer-fault-requires : tie.Need-answer_fault-requires
 answer-fault-requires c κs = search rules
 
-returns : tie.Need-returns
+returns : tie.Need-returns-then-answer-ne-ANSWER
 unfolding state_of
 returns c =
-    let s = c.before.before.before.before in call-refused s.args.answer.now (before s) 1 s.args.row 0 0 c.before.if1.true c.answer-fault.ensures
+    let s = c.before.before.before.before in call-refused s.args.answer.now (before s) 1 s.args.row 0 0 c.if-answer-ne-ANSWER.true c.answer_fault.ensures
 
-propagate-row-requires : tie.Need-propagate-row-requires
+propagate-row-requires : tie.Need-propagate_row-requires
 propagate-row-requires c κs = search rules
 
-row-reply-requires : tie.Need-row-reply-requires
+row-reply-requires : tie.Need-row_reply-requires
 row-reply-requires c κs = search rules
 
 put-requires : tie.Need-put-requires
 put-requires c κs = search rules
 
-same_length : tie.Need-same-length
+same_length : tie.Need-shape_of-bounds
 same_length c = search rules
 
-same-length-2 : tie.Need-same-length-2
+same-length-2 : tie.Need-shape_of-answer
 same-length-2 c = search rules
 
-returns-2 : tie.Need-returns-2
+returns-2 : tie.Need-returns
 returns-2 c =
     let p = c.before.before.before.before.before.before in
     let s = p.before.before.before.before.before in
-    call-replied s.args.answer.now (before s) (state s p.propagate-row.new.1.1.0) 1 s.args.row 0 0 (row_answer p.propagate-row.result) p.before.before.if1.false
-    c.before.before.put.ensures c.before.before.before.before.row-reply.ensures p.propagate-row.ensures.0
+    call-replied s.args.answer.now (before s) (state s p.propagate_row.new.bounds) 1 s.args.row 0 0 (row_answer p.propagate_row.result) p.if-answer-ne-ANSWER.false
+    c.put.ensures c.row_reply.ensures p.propagate_row.ensures.0
 
-pub astrolabe-propagate-row-spec : {M : Type 1} → statement M
-astrolabe-propagate-row-spec =
+pub astrolabe_propagate_row_spec : {M : Type 1} → statement M
+astrolabe_propagate_row_spec =
     tie.close
     (tie.spec
     answer-fault-requires

@@ -16,49 +16,49 @@ state s B A t = state_of s.args.n s.args.m B A t
 abbrev before : tie.Start → State
 before s = state s s.args.bounds.now (rows_of s.args.coefs.now s.args.rhs.now s.args.kinds.now) s.args.table.now
 
-answer-fault-requires : tie.Need-answer-fault-requires
+answer-fault-requires : tie.Need-answer_fault-requires
 answer-fault-requires c κs = search rules
 
-returns : tie.Need-returns
+returns : tie.Need-returns-then-answer-ne-ANSWER
 unfolding state_of
-returns c = let s = c.before.before.before.before.before in rounds-refused s.args.answer.now (before s) s.args.limit c.before.if1.true c.answer-fault.ensures
+returns c = let s = c.before.before.before.before.before in rounds-refused s.args.answer.now (before s) s.args.limit c.if-answer-ne-ANSWER.true c.answer_fault.ensures
 
 run-requires : tie.Need-run-requires
 run-requires c κs = search rules
 
-rounds-reply-requires : tie.Need-rounds-reply-requires
+rounds-reply-requires : tie.Need-rounds_reply-requires
 rounds-reply-requires c κs = search rules
 
 put-requires : tie.Need-put-requires
 put-requires c κs = search rules
 
-same_length : tie.Need-same-length
+same_length : tie.Need-shape_of-bounds
 same_length c = search rules
 
-same-length-2 : tie.Need-same-length-2
+same-length-2 : tie.Need-shape_of-coefs
 same-length-2 c = search rules
 
-same-length-3 : tie.Need-same-length-3
+same-length-3 : tie.Need-shape_of-rhs
 same-length-3 c = search rules
 
-same-length-4 : tie.Need-same-length-4
+same-length-4 : tie.Need-shape_of-kinds
 same-length-4 c = search rules
 
-same-length-5 : tie.Need-same-length-5
+same-length-5 : tie.Need-shape_of-table
 same-length-5 c = search rules
 
-same-length-6 : tie.Need-same-length-6
+same-length-6 : tie.Need-shape_of-answer
 same-length-6 c = search rules
 
-returns-2 : tie.Need-returns-2
+returns-2 : tie.Need-returns
 returns-2 c =
     let p = c.before.before.before.before.before.before.before.before.before.before.before.before in
     let s = p.before.before.before.before.before.before.before.before.before.before in
-    rounds-replied s.args.answer.now (before s) (state s p.run.new.1.1.0 (rows_of p.run.new.1.1.1.0 p.run.new.1.1.1.1.0 p.run.new.1.1.1.1.1.0) p.run.new.1.1.1.1.1.1.0) s.args.limit (rounds_answer p.run.result) p.before.before.before.before.before.before.if1.false c.before.before.put.ensures c.before.before.before.before.rounds-reply.ensures
+    rounds-replied s.args.answer.now (before s) (state s p.run.new.bounds (rows_of p.run.new.coefs p.run.new.rhs p.run.new.kinds) p.run.new.table) s.args.limit (rounds_answer p.run.result) p.if-answer-ne-ANSWER.false c.put.ensures c.rounds_reply.ensures
     p.run.ensures.0 p.run.ensures.1.0
 
-pub astrolabe-rounds-spec : {M : Type 1} → statement M
-astrolabe-rounds-spec =
+pub astrolabe_rounds_spec : {M : Type 1} → statement M
+astrolabe_rounds_spec =
     tie.close
     (tie.spec
     answer-fault-requires

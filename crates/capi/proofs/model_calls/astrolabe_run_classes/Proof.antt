@@ -15,46 +15,46 @@ state s B A t = state_of s.args.n s.args.m B A t
 abbrev before : tie.Start → State
 before s = state s s.args.bounds.now (rows_of s.args.coefs.now s.args.rhs.now s.args.kinds.now) s.args.table.now
 
-answer-fault-requires : tie.Need-answer-fault-requires
+answer-fault-requires : tie.Need-answer_fault-requires
 answer-fault-requires c κs = search rules
 
-returns : tie.Need-returns
+returns : tie.Need-returns-then-answer-ne-ANSWER
 unfolding state_of
 returns c = let s = c.before.before.before.before.before.before.before in
-    classes-refused s.args.answer.now (before s) s.args.calls.now s.args.classes.now c.before.if1.true c.answer-fault.ensures
+    classes-refused s.args.answer.now (before s) s.args.calls.now s.args.classes.now c.if-answer-ne-ANSWER.true c.answer_fault.ensures
 
-run-classes-requires : tie.Need-run-classes-requires
+run-classes-requires : tie.Need-run_classes-requires
 run-classes-requires c κs = search rules
 
-run-reply-requires : tie.Need-run-reply-requires
+run-reply-requires : tie.Need-run_reply-requires
 run-reply-requires c κs = search rules
 
 put-requires : tie.Need-put-requires
 put-requires c κs = search rules
 
-same_length : tie.Need-same-length
+same_length : tie.Need-shape_of-bounds
 same_length c = search rules
 
-same-length-2 : tie.Need-same-length-2
+same-length-2 : tie.Need-shape_of-table
 same-length-2 c = search rules
 
-same-length-3 : tie.Need-same-length-3
+same-length-3 : tie.Need-shape_of-classes
 same-length-3 c = search rules
 
-same-length-4 : tie.Need-same-length-4
+same-length-4 : tie.Need-shape_of-answer
 same-length-4 c = search rules
 
-returns-2 : tie.Need-returns-2
+returns-2 : tie.Need-returns
 returns-2 c =
     let p = c.before.before.before.before.before.before.before.before.before.before in
     let s = p.before.before.before.before.before.before.before.before.before.before in
     classes-replied s.args.answer.now (before s) s.args.calls.now s.args.classes.now
-    (state s p.run-classes.new.1.1.0 (rows_of s.args.coefs.now s.args.rhs.now s.args.kinds.now) p.run-classes.new.1.1.1.1.1.1.0)
-    p.run-classes.new.1.1.1.1.1.1.1.1.0 p.run-classes.result p.before.before.before.before.if1.false
-    c.before.before.put.ensures c.before.before.before.before.run-reply.ensures p.run-classes.ensures.0
+    (state s p.run_classes.new.bounds (rows_of s.args.coefs.now s.args.rhs.now s.args.kinds.now) p.run_classes.new.table)
+    p.run_classes.new.classes p.run_classes.result p.if-answer-ne-ANSWER.false
+    c.put.ensures c.run_reply.ensures p.run_classes.ensures.0
 
-pub astrolabe-run-classes-spec : {M : Type 1} → statement M
-astrolabe-run-classes-spec =
+pub astrolabe_run_classes_spec : {M : Type 1} → statement M
+astrolabe_run_classes_spec =
     tie.close
     (tie.spec
     answer-fault-requires

@@ -7,19 +7,19 @@ use Rattle.replies.specs.Replies.{returned}
 use Rattle.capi.proofs.pages.astrolabe_write_pages.Statement.{statement}
 use Rattle.capi.proofs.pages.astrolabe_write_pages.Tie as tie
 
-write-pages-requires : tie.Need-write-pages-requires
+write-pages-requires : tie.Need-write_pages-requires
 write-pages-requires c κs = search rules
 
-pages-number-requires : tie.Need-pages-number-requires
+pages-number-requires : tie.Need-pages_number-requires
 pages-number-requires c κs = search rules
 
-same_length : tie.Need-same-length
+same_length : tie.Need-shape_of-pages
 same_length c = search rules
 
 returns : tie.Need-returns
 returns c =
-    let p = c.before.before.before in (c.pages-number.ensures ∙ ap (λ (a : Answer). returned (page_reply a)) p.write-pages.ensures.0, p.write-pages.ensures.1)
+    let p = c.before.before.before in (c.pages_number.ensures ∙ ap (λ (a : Answer). returned (page_reply a)) p.write_pages.ensures.0, p.write_pages.ensures.1)
 
-pub astrolabe-write-pages-spec : {M : Type 1} → statement M
-astrolabe-write-pages-spec =
+pub astrolabe_write_pages_spec : {M : Type 1} → statement M
+astrolabe_write_pages_spec =
     tie.close (tie.spec write-pages-requires pages-number-requires same_length returns)

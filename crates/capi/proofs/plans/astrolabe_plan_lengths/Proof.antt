@@ -7,30 +7,30 @@ use borrow.Author.Rules.{rules}
 use Rattle.capi.proofs.plans.astrolabe_plan_lengths.Statement.{statement}
 use Rattle.capi.proofs.plans.astrolabe_plan_lengths.Tie as tie
 
-trailer-fault-requires : tie.Need-trailer-fault-requires
+trailer-fault-requires : tie.Need-trailer_fault-requires
 trailer-fault-requires c κs = search rules
 
-returns : tie.Need-returns
+returns : tie.Need-returns-then-answer-ne-ANSWER
 unfolding lengths_export
-returns c = let s = c.before.before.before.before in book-refused s.args.answer.now _ _ c.before.if1.true c.trailer-fault.ensures
+returns c = let s = c.before.before.before.before in book-refused s.args.answer.now _ _ c.if-answer-ne-ANSWER.true c.trailer_fault.ensures
 
 lengths-requires : tie.Need-lengths-requires
 lengths-requires c κs = search rules
 
-put-plan-requires : tie.Need-put-plan-requires
+put-plan-requires : tie.Need-put_plan-requires
 put-plan-requires c κs = search rules
 
-same_length : tie.Need-same-length
+same_length : tie.Need-shape_of-answer
 same_length c = search rules
 
-returns-2 : tie.Need-returns-2
+returns-2 : tie.Need-returns
 unfolding lengths_export
 returns-2 c =
     let s = c.before.before.before.before.before.before.before.before in
-    book-replied s.args.answer.now _ c.before.before.before.before.before.if1.false c.before.before.put-plan.ensures (ap plan_reply c.before.before.before.before.lengths.ensures)
+    book-replied s.args.answer.now _ c.if-answer-ne-ANSWER.false c.put_plan.ensures (ap plan_reply c.lengths.ensures)
 
-pub astrolabe-plan-lengths-spec : {M : Type 1} → statement M
-astrolabe-plan-lengths-spec =
+pub astrolabe_plan_lengths_spec : {M : Type 1} → statement M
+astrolabe_plan_lengths_spec =
     tie.close
     (tie.spec
     trailer-fault-requires

@@ -6,19 +6,19 @@ use Rattle.replies.specs.Replies.{book_reply, returned}
 use Rattle.capi.proofs.sparse_books.astrolabe_book_to_sparse.Statement.{statement}
 use Rattle.capi.proofs.sparse_books.astrolabe_book_to_sparse.Tie as tie
 
-to-sparse-requires : tie.Need-to-sparse-requires
+to-sparse-requires : tie.Need-to_sparse-requires
 to-sparse-requires c κs = search rules
 
-write-number-requires : tie.Need-write-number-requires
+write-number-requires : tie.Need-write_number-requires
 write-number-requires c κs = search rules
 
-same_length : tie.Need-same-length
+same_length : tie.Need-shape_of-to
 same_length c = search rules
 
 returns : tie.Need-returns
 returns c =
-    let p = c.before.before.before in (c.write-number.ensures ∙ ap (λ (a : Answer). returned (book_reply a)) p.to-sparse.ensures.0, p.to-sparse.ensures.1.0)
+    let p = c.before.before.before in (c.write_number.ensures ∙ ap (λ (a : Answer). returned (book_reply a)) p.to_sparse.ensures.0, p.to_sparse.ensures.1.0)
 
-pub astrolabe-book-to-sparse-spec : {M : Type 1} → statement M
-astrolabe-book-to-sparse-spec =
+pub astrolabe_book_to_sparse_spec : {M : Type 1} → statement M
+astrolabe_book_to_sparse_spec =
     tie.close (tie.spec to-sparse-requires write-number-requires same_length returns)

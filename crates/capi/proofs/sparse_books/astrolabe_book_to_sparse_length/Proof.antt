@@ -8,33 +8,33 @@ use borrow.Author.Rules.{rules}
 use Rattle.capi.proofs.sparse_books.astrolabe_book_to_sparse_length.Statement.{statement}
 use Rattle.capi.proofs.sparse_books.astrolabe_book_to_sparse_length.Tie as tie
 
-read-fault-requires : tie.Need-read-fault-requires
+read-fault-requires : tie.Need-read_fault-requires
 read-fault-requires c κs = search rules
 
-returns : tie.Need-returns
+returns : tie.Need-returns-then-answer-ne-ANSWER
 unfolding to_sparse_length_export
-returns c = let s = c.before.before.before.before in book-refused s.args.answer.now _ _ c.before.if1.true c.read-fault.ensures
+returns c = let s = c.before.before.before.before in book-refused s.args.answer.now _ _ c.if-answer-ne-ANSWER.true c.read_fault.ensures
 
-to-sparse-length-requires : tie.Need-to-sparse-length-requires
+to-sparse-length-requires : tie.Need-to_sparse_length-requires
 to-sparse-length-requires c κs = search rules
 
-length-reply-requires : tie.Need-length-reply-requires
+length-reply-requires : tie.Need-length_reply-requires
 length-reply-requires c κs = search rules
 
 put-requires : tie.Need-put-requires
 put-requires c κs = search rules
 
-same_length : tie.Need-same-length
+same_length : tie.Need-shape_of-answer
 same_length c = search rules
 
-returns-2 : tie.Need-returns-2
+returns-2 : tie.Need-returns
 unfolding to_sparse_length_export
 returns-2 c =
     let s = c.before.before.before.before.before.before.before.before.before in
-    book-replied s.args.answer.now _ c.before.before.before.before.before.before.if1.false c.before.before.put.ensures (c.before.before.before.before.length-reply.ensures ∙ ap length_reply c.before.before.before.before.before.to-sparse-length.ensures)
+    book-replied s.args.answer.now _ c.if-answer-ne-ANSWER.false c.put.ensures (c.length_reply.ensures ∙ ap length_reply c.to_sparse_length.ensures)
 
-pub astrolabe-book-to-sparse-length-spec : {M : Type 1} → statement M
-astrolabe-book-to-sparse-length-spec =
+pub astrolabe_book_to_sparse_length_spec : {M : Type 1} → statement M
+astrolabe_book_to_sparse_length_spec =
     tie.close
     (tie.spec
     read-fault-requires

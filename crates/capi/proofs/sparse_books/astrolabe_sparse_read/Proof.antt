@@ -7,15 +7,15 @@ use Rattle.exports.proofs.BookLaws.{book-refused, book-replied, lent-after, lent
 use Rattle.capi.proofs.sparse_books.astrolabe_sparse_read.Statement.{statement}
 use Rattle.capi.proofs.sparse_books.astrolabe_sparse_read.Tie as tie
 
-read-fault-requires : tie.Need-read-fault-requires
+read-fault-requires : tie.Need-read_fault-requires
 read-fault-requires c κs = search rules
 
-returns : tie.Need-returns
+returns : tie.Need-returns-then-answer-ne-ANSWER
 unfolding sparse_read_export
 returns c =
     let s = c.before.before.before.before.before in
-    let wrong = c.before.if1.true in (
-      book-refused s.args.answer.now _ _ wrong c.read-fault.ensures,
+    let wrong = c.if-answer-ne-ANSWER.true in (
+      book-refused s.args.answer.now _ _ wrong c.read_fault.ensures,
       (
         lent-stays s.args.answer.now s.args.bounds.now _ wrong,
         (
@@ -28,34 +28,34 @@ returns c =
 read-requires : tie.Need-read-requires
 read-requires c κs = search rules
 
-sizes-reply-requires : tie.Need-sizes-reply-requires
+sizes-reply-requires : tie.Need-sizes_reply-requires
 sizes-reply-requires c κs = search rules
 
 put-requires : tie.Need-put-requires
 put-requires c κs = search rules
 
-same_length : tie.Need-same-length
+same_length : tie.Need-shape_of-bounds
 same_length c = search rules
 
-same-length-2 : tie.Need-same-length-2
+same-length-2 : tie.Need-shape_of-coefs
 same-length-2 c = search rules
 
-same-length-3 : tie.Need-same-length-3
+same-length-3 : tie.Need-shape_of-rhs
 same-length-3 c = search rules
 
-same-length-4 : tie.Need-same-length-4
+same-length-4 : tie.Need-shape_of-kinds
 same-length-4 c = search rules
 
-same-length-5 : tie.Need-same-length-5
+same-length-5 : tie.Need-shape_of-answer
 same-length-5 c = search rules
 
-returns-2 : tie.Need-returns-2
+returns-2 : tie.Need-returns
 unfolding sparse_read_export
 returns-2 c =
     let p = c.before.before.before.before.before.before.before.before.before.before in
     let s = p.before.before.before.before.before.before.before.before.before in
-    let right = p.before.before.before.before.before.if1.false in (
-      book-replied s.args.answer.now _ right c.before.before.put.ensures (c.before.before.before.before.sizes-reply.ensures ∙ ap book_reply p.read.ensures.0),
+    let right = p.if-answer-ne-ANSWER.false in (
+      book-replied s.args.answer.now _ right c.put.ensures (c.sizes_reply.ensures ∙ ap book_reply p.read.ensures.0),
       (
         lent-after s.args.answer.now s.args.bounds.now right p.read.ensures.1.0,
         (
@@ -68,8 +68,8 @@ returns-2 c =
       ),
     )
 
-pub astrolabe-sparse-read-spec : {M : Type 1} → statement M
-astrolabe-sparse-read-spec =
+pub astrolabe_sparse_read_spec : {M : Type 1} → statement M
+astrolabe_sparse_read_spec =
     tie.close
     (tie.spec
     read-fault-requires

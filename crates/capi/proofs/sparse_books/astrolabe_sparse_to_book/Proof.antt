@@ -6,19 +6,19 @@ use Rattle.replies.specs.Replies.{book_reply, returned}
 use Rattle.capi.proofs.sparse_books.astrolabe_sparse_to_book.Statement.{statement}
 use Rattle.capi.proofs.sparse_books.astrolabe_sparse_to_book.Tie as tie
 
-to-first-requires : tie.Need-to-first-requires
+to-first-requires : tie.Need-to_first-requires
 to-first-requires c κs = search rules
 
-write-number-requires : tie.Need-write-number-requires
+write-number-requires : tie.Need-write_number-requires
 write-number-requires c κs = search rules
 
-same_length : tie.Need-same-length
+same_length : tie.Need-shape_of-to
 same_length c = search rules
 
 returns : tie.Need-returns
 returns c =
-    let p = c.before.before.before in (c.write-number.ensures ∙ ap (λ (a : Answer). returned (book_reply a)) p.to-first.ensures.0, p.to-first.ensures.1.0)
+    let p = c.before.before.before in (c.write_number.ensures ∙ ap (λ (a : Answer). returned (book_reply a)) p.to_first.ensures.0, p.to_first.ensures.1.0)
 
-pub astrolabe-sparse-to-book-spec : {M : Type 1} → statement M
-astrolabe-sparse-to-book-spec =
+pub astrolabe_sparse_to_book_spec : {M : Type 1} → statement M
+astrolabe_sparse_to_book_spec =
     tie.close (tie.spec to-first-requires write-number-requires same_length returns)

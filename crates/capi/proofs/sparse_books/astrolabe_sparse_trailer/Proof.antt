@@ -10,34 +10,34 @@ use Rattle.exports.proofs.BookLaws.{book-refused, book-replied}
 use Rattle.capi.proofs.sparse_books.astrolabe_sparse_trailer.Statement.{statement}
 use Rattle.capi.proofs.sparse_books.astrolabe_sparse_trailer.Tie as tie
 
-returns : tie.Need-returns
+returns : tie.Need-returns-then-bytes-lt-TRAILER
 unfolding sparse_trailer_export wrong_length
-returns c = let s = c.before.before.before.before in book-refused s.args.answer.now _ _ c.before.if1.true (fails _ 1 _ (lt-leb _ _ c.if2.true))
+returns c = let s = c.before.before.before.before in book-refused s.args.answer.now _ _ c.if-answer-ne-ANSWER.true (fails _ 1 _ (lt-leb _ _ c.if-bytes-lt-TRAILER.true))
 
-returns-2 : tie.Need-returns-2
+returns-2 : tie.Need-returns-then-answer-ne-ANSWER
 unfolding sparse_trailer_export wrong_length
-returns-2 c = let s = c.before.before.before.before in book-refused s.args.answer.now _ _ c.before.if1.true (past _ 1 _ (le-leb _ _ c.if2.false) (fails false 5 _ refl))
+returns-2 c = let s = c.before.before.before.before in book-refused s.args.answer.now _ _ c.if-answer-ne-ANSWER.true (past _ 1 _ (le-leb _ _ c.if-bytes-lt-TRAILER.false) (fails false 5 _ refl))
 
 trailer-requires : tie.Need-trailer-requires
 trailer-requires c κs = search rules
 
-sizes-reply-requires : tie.Need-sizes-reply-requires
+sizes-reply-requires : tie.Need-sizes_reply-requires
 sizes-reply-requires c κs = search rules
 
 put-requires : tie.Need-put-requires
 put-requires c κs = search rules
 
-same_length : tie.Need-same-length
+same_length : tie.Need-shape_of-answer
 same_length c = search rules
 
-returns-3 : tie.Need-returns-3
+returns-3 : tie.Need-returns
 unfolding sparse_trailer_export
 returns-3 c =
     let s = c.before.before.before.before.before.before.before.before.before in
-    book-replied s.args.answer.now _ c.before.before.before.before.before.before.if1.false c.before.before.put.ensures (c.before.before.before.before.sizes-reply.ensures ∙ ap book_reply c.before.before.before.before.before.trailer.ensures)
+    book-replied s.args.answer.now _ c.if-answer-ne-ANSWER.false c.put.ensures (c.sizes_reply.ensures ∙ ap book_reply c.trailer.ensures)
 
-pub astrolabe-sparse-trailer-spec : {M : Type 1} → statement M
-astrolabe-sparse-trailer-spec =
+pub astrolabe_sparse_trailer_spec : {M : Type 1} → statement M
+astrolabe_sparse_trailer_spec =
     tie.close
     (tie.spec
     returns

@@ -9,16 +9,16 @@ use Rattle.capi.proofs.sparse_books.astrolabe_sparse_write.Tie as tie
 write-requires : tie.Need-write-requires
 write-requires c κs = search rules
 
-write-number-requires : tie.Need-write-number-requires
+write-number-requires : tie.Need-write_number-requires
 write-number-requires c κs = search rules
 
-same_length : tie.Need-same-length
+same_length : tie.Need-shape_of-book
 same_length c = search rules
 
 returns : tie.Need-returns
 returns c =
-    let p = c.before.before.before in (c.write-number.ensures ∙ ap (λ (a : Answer). returned (book_reply a)) p.write.ensures.0, p.write.ensures.1.0)
+    let p = c.before.before.before in (c.write_number.ensures ∙ ap (λ (a : Answer). returned (book_reply a)) p.write.ensures.0, p.write.ensures.1.0)
 
-pub astrolabe-sparse-write-spec : {M : Type 1} → statement M
-astrolabe-sparse-write-spec =
+pub astrolabe_sparse_write_spec : {M : Type 1} → statement M
+astrolabe_sparse_write_spec =
     tie.close (tie.spec write-requires write-number-requires same_length returns)

@@ -15,46 +15,46 @@ state s A ties = tied_state_of s.args.n s.args.m s.args.bounds.now A s.args.tabl
 abbrev before : tie.Start → TiedState
 before s = state s (rows_of s.args.coefs.now s.args.rhs.now s.args.kinds.now) s.args.ties.now
 
-answer-fault-requires : tie.Need-answer-fault-requires
+answer-fault-requires : tie.Need-answer_fault-requires
 answer-fault-requires c κs = search rules
 
-returns : tie.Need-returns
+returns : tie.Need-returns-then-answer-ne-ANSWER
 unfolding tied_state_of state_of
 returns c =
-    let s = c.before.before.before.before.before.before in tie-refused s.args.answer.now (before s) s.args.k s.args.j c.before.if1.true c.answer-fault.ensures
+    let s = c.before.before.before.before.before.before in tie-refused s.args.answer.now (before s) s.args.k s.args.j c.if-answer-ne-ANSWER.true c.answer_fault.ensures
 
 tie-requires : tie.Need-tie-requires
 tie-requires c κs = search rules
 
-tie-reply-requires : tie.Need-tie-reply-requires
+tie-reply-requires : tie.Need-tie_reply-requires
 tie-reply-requires c κs = search rules
 
 put-requires : tie.Need-put-requires
 put-requires c κs = search rules
 
-same_length : tie.Need-same-length
+same_length : tie.Need-shape_of-coefs
 same_length c = search rules
 
-same-length-2 : tie.Need-same-length-2
+same-length-2 : tie.Need-shape_of-rhs
 same-length-2 c = search rules
 
-same-length-3 : tie.Need-same-length-3
+same-length-3 : tie.Need-shape_of-ties
 same-length-3 c = search rules
 
-same-length-4 : tie.Need-same-length-4
+same-length-4 : tie.Need-shape_of-answer
 same-length-4 c = search rules
 
-returns-2 : tie.Need-returns-2
+returns-2 : tie.Need-returns
 unfolding tied_state_of
 returns-2 c =
     let p = c.before.before.before.before.before.before.before.before.before in
     let s = p.before.before.before.before.before.before.before.before.before in
-    let after = state s (rows_of p.tie.new.1.1.1.0 p.tie.new.1.1.1.1.0 s.args.kinds.now) p.tie.new.1.1.1.1.1.1.1.0 in
-    tie-replied s.args.answer.now (before s) s.args.k s.args.j after p.tie.result p.before.before.before.before.if1.false
-    c.before.before.put.ensures c.before.before.before.before.tie-reply.ensures p.tie.ensures.0
+    let after = state s (rows_of p.tie.new.coefs p.tie.new.rhs s.args.kinds.now) p.tie.new.ties in
+    tie-replied s.args.answer.now (before s) s.args.k s.args.j after p.tie.result p.if-answer-ne-ANSWER.false
+    c.put.ensures c.tie_reply.ensures p.tie.ensures.0
 
-pub astrolabe-tie-spec : {M : Type 1} → statement M
-astrolabe-tie-spec =
+pub astrolabe_tie_spec : {M : Type 1} → statement M
+astrolabe_tie_spec =
     tie.close
     (tie.spec
     answer-fault-requires

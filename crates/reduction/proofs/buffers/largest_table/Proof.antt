@@ -8,5 +8,5 @@ returns : tie.Need-returns
 unfolding zeros
 returns c = refl
 
-pub largest-table-spec : {M : Type 1} → statement M
-largest-table-spec = tie.close (tie.spec returns)
+pub largest_table_spec : {M : Type 1} → statement M
+largest_table_spec = tie.close (tie.spec returns)
