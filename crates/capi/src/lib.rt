@@ -8,7 +8,7 @@ pub mod allocations;
 pub mod books;
 pub mod clique_rows;
 pub mod model_calls;
-pub mod pages;
+pub mod paper;
 pub mod plans;
 pub mod prepared;
 pub mod sparse_books;

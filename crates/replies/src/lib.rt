@@ -3,6 +3,6 @@
 #![tactic(auto)]
 
 pub mod clique_rows;
-pub mod pages;
+pub mod paper;
 pub mod reply;
 pub mod tied;

@@ -1,11 +1,11 @@
--- `capi::pages::astrolabe_page_count`: a wrong answer length after 3, or the answer of the open call, written. Assumes nothing.
+-- `capi::paper::astrolabe_page_count`: a wrong answer length after 3, or the answer of the open call, written. Assumes nothing.
 use borrow.Author.Rules.{rules}
 use mathlib.Core.Path.{◌∙◌, ap}
 use Rattle.replies.specs.PageReplies.{page_reply}
 use Rattle.exports.specs.PageExports.{count_export}
 use Rattle.exports.proofs.BookLaws.{book-refused, book-replied}
-use Rattle.capi.proofs.pages.astrolabe_page_count.Statement.{statement}
-use Rattle.capi.proofs.pages.astrolabe_page_count.Tie as tie
+use Rattle.capi.proofs.paper.astrolabe_page_count.Statement.{statement}
+use Rattle.capi.proofs.paper.astrolabe_page_count.Tie as tie
 
 answer-fault-requires : tie.Need-answer_fault-requires
 answer-fault-requires c κs = search rules

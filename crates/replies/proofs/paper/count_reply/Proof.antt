@@ -1,10 +1,10 @@
--- `replies::pages::count_reply`: each case has its numbers. Assumes nothing.
+-- `replies::paper::count_reply`: each case has its numbers. Assumes nothing.
 use borrow.Author.Rules.{rules}
 use Rattle.page_call.specs.Answers.{count_answer}
 use Rattle.replies.specs.PageReplies.{page_reply}
 use Rattle.replies.specs.Replies.{reply_of}
-use Rattle.replies.proofs.pages.count_reply.Statement.{statement}
-use Rattle.replies.proofs.pages.count_reply.Tie as tie
+use Rattle.replies.proofs.paper.count_reply.Statement.{statement}
+use Rattle.replies.proofs.paper.count_reply.Tie as tie
 
 enum-known-a : tie.Need-enum_known-a
 enum-known-a c = search rules

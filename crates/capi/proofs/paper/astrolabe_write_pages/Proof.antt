@@ -1,11 +1,11 @@
--- `capi::pages::astrolabe_write_pages`: the number of the open call, and its pages. Assumes nothing.
+-- `capi::paper::astrolabe_write_pages`: the number of the open call, and its pages. Assumes nothing.
 use borrow.Author.Rules.{rules}
 use mathlib.Core.Path.{◌∙◌, ap}
 use Rattle.page_call.specs.Answers.{Answer}
 use Rattle.replies.specs.PageReplies.{page_reply}
 use Rattle.replies.specs.Replies.{returned}
-use Rattle.capi.proofs.pages.astrolabe_write_pages.Statement.{statement}
-use Rattle.capi.proofs.pages.astrolabe_write_pages.Tie as tie
+use Rattle.capi.proofs.paper.astrolabe_write_pages.Statement.{statement}
+use Rattle.capi.proofs.paper.astrolabe_write_pages.Tie as tie
 
 write-pages-requires : tie.Need-write_pages-requires
 write-pages-requires c κs = search rules

@@ -1,10 +1,10 @@
--- `replies::pages::pages_number`: each case has its number. Assumes nothing.
+-- `replies::paper::pages_number`: each case has its number. Assumes nothing.
 use borrow.Author.Rules.{rules}
 use Rattle.page_call.specs.Answers.{pages_answer}
 use Rattle.replies.specs.PageReplies.{page_reply}
 use Rattle.replies.specs.Replies.{returned}
-use Rattle.replies.proofs.pages.pages_number.Statement.{statement}
-use Rattle.replies.proofs.pages.pages_number.Tie as tie
+use Rattle.replies.proofs.paper.pages_number.Statement.{statement}
+use Rattle.replies.proofs.paper.pages_number.Tie as tie
 
 enum-known-a : tie.Need-enum_known-a
 enum-known-a c = search rules

@@ -7,7 +7,7 @@ ghost use Rattle.exports.specs.Exports.{book_exported};
 ghost use Rattle.exports.specs.PageExports.{count_export};
 
 use page_call::{page_count, write_pages};
-use replies::pages::{count_reply, pages_number};
+use replies::paper::{count_reply, pages_number};
 use replies::reply::{ANSWER, answer_fault, put};
 
 // The number of pages of a table: {pages}. Refused by 3, 5, 10.
