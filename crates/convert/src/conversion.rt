@@ -87,7 +87,8 @@ pub fn convert(start: &[u8], tail: &[u8], len: usize, to: &mut [u8]) -> Answer
         return first_edition(&start[..len], to);
     }
     let book = &start[..len];
-    if sparse_fault(book) == 0 {
+    let is_sparse = sparse_fault(book) == 0;
+    if is_sparse {
         return first_edition(book, to);
     }
     sparse_edition(book, to)

@@ -30,7 +30,8 @@ fn hear(kind: u8, a: i32, r: usize, rise: &mut [u32], fall: &mut [u32])
         insert(r, fall);
         return;
     }
-    if a > 0 {
+    let is_positive = a > 0;
+    if is_positive {
         insert(r, rise);
         return;
     }

@@ -34,13 +34,16 @@ pub fn sizes(tail: &[u8], len: usize) -> SizesAnswer
     ensures right { (bs : List ℕ) → len ≡ length bs → tail.now ≡ last_bytes bs → sizes_answer result ≡ head_call bs }
     ensures sized { (n m : ℕ) → sizes_answer result ≡ sizes_are n m → SizedBook n m len }
 {
-    if len < TRAILER {
+    let is_short = len < TRAILER;
+    if is_short {
         return SizesAnswer::Refused(1);
     }
     if tail.len() != TRAILER {
         return SizesAnswer::Refused(5);
     }
-    if length_given(tail) != len {
+    let given = length_given(tail);
+    let is_other = given != len;
+    if is_other {
         return SizesAnswer::Refused(2);
     }
     trailer(tail)

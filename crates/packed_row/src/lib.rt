@@ -34,7 +34,8 @@ fn coef(word: u32) -> i32
     ensures { result ≡ coef_of word }
 {
     let c = word / 128;
-    if RAISED_COEF < c {
+    let is_out = RAISED_COEF < c;
+    if is_out {
         return 0;
     }
     (c as i32) - MAX_COEF

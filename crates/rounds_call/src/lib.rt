@@ -49,7 +49,8 @@ pub fn run(
         EndsAtRest r' (rounds_answer result) }
 {
     let fault = model_checks::model_table_fault(n, m, bounds, coefs, rhs, kinds, table, true);
-    if fault != 0 {
+    let is_refused = fault != 0;
+    if is_refused {
         return RoundsAnswer::Refused(fault);
     }
     make_rounds(n, m, bounds, coefs, rhs, kinds, table, limit)

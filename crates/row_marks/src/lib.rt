@@ -64,7 +64,10 @@ pub fn has_moved(old: &[i32], new: &[i32], j: usize) -> bool
     if old[2 * j] != new[2 * j] {
         return true;
     }
-    if old[2 * j + 1] != new[2 * j + 1] {
+    let old_upper = old[2 * j + 1];
+    let new_upper = new[2 * j + 1];
+    let upper_moved = old_upper != new_upper;
+    if upper_moved {
         return true;
     }
     false
@@ -77,7 +80,8 @@ pub fn next_row(m: usize, marks: &[u8], r: usize) -> usize
 {
     let mut s = r;
     while s < m {
-        if marks[s] != 1 {
+        let is_open = marks[s] != 1;
+        if is_open {
             return s;
         }
         s += 1;

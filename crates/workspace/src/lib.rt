@@ -47,7 +47,8 @@ pub fn is_ours(ws: &[u32]) -> bool
     if ws.len() != WORKSPACE_LEN {
         return false;
     }
-    if ws[0] != OUR_MARK {
+    let is_foreign = ws[0] != OUR_MARK;
+    if is_foreign {
         return false;
     }
     if ws[1] < 1 {

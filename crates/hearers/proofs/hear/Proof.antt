@@ -45,18 +45,18 @@ returns-2 c =
     let first = c.insert.ensures in
     ((λ t. first.0), ((λ t. second.0), λ i n. (first.1 i n, second.1 i n)))
 
-insert-requires-3 : tie.Need-insert-requires-then-a-gt0
+insert-requires-3 : tie.Need-insert-requires-then-is_positive
 insert-requires-3 c κs = search rules
 
-same-length-3 : tie.Need-shape_of-rise-then-a-gt0
+same-length-3 : tie.Need-shape_of-rise-then-is_positive
 same-length-3 c = search rules
 
-returns-3 : tie.Need-returns-then-a-gt0
+returns-3 : tie.Need-returns-then-is_positive
 returns-3 c =
-    let put = c.insert-then-a-gt0.ensures in
+    let put = c.insert-then-is_positive.ensures in
     let f = c.before.before.before.before in
     let s = start f.before in
-    let above : pos 0 <ℤ s.args.a = lt-read refl (to_z-of_z {w = w32} s.ranges.a) f.if-a-gt0.true in
+    let above : pos 0 <ℤ s.args.a = lt-read refl (to_z-of_z {w = w32} s.ranges.a) f.if-is_positive.true in
     let deaf : hears_fall (eqb s.args.kind 1) s.args.a ≡ false = rw (not-equality s.args.kind f.if-kind-eq1.false) (fall-above (omega zarith)) in
     ((λ t. put.0), ((λ t. absurd (true≢false (sym t ∙ deaf))), λ i n. (put.1 i n, refl)))
 
@@ -71,7 +71,7 @@ returns-4 c =
     let put = c.insert-2.ensures in
     let f = c.before.before.before.before in
     let s = start f.before in
-    let below = ge-read refl (to_z-of_z {w = w32} s.ranges.a) f.if-a-gt0.false in
+    let below = ge-read refl (to_z-of_z {w = w32} s.ranges.a) f.if-is_positive.false in
     let deaf : hears_rise (eqb s.args.kind 1) s.args.a ≡ false = rw (not-equality s.args.kind f.if-kind-eq1.false) (rise-below below) in
     ((λ t. absurd (true≢false (sym t ∙ deaf))), ((λ t. put.0), λ i n. (refl, put.1 i n)))
 

@@ -14,14 +14,14 @@ use Rattle.packed_row.proofs.PackedLaws.{coef-in, coef-inside, coef-outside}
 use Rattle.packed_row.proofs.coef.Statement.{statement}
 use Rattle.packed_row.proofs.coef.Tie as tie
 
-returns : tie.Need-returns-then-c-gt-RAISED_COEF
-returns c = sym (coef-outside c.args.word c.if-c-gt-RAISED_COEF.true)
+returns : tie.Need-returns-then-is_out
+returns c = sym (coef-outside c.args.word c.if-is_out.true)
 
 cast-result : tie.Need-overflow_cast-result
 cast-result c = search rules
 
 -- in range
-module _ (c : tie.Else-c-gt-RAISED_COEF) where
+module _ (c : tie.Else-is_out) where
   in-range : c.args.word / 128 ≤ 2_000_000
   in-range = omega arith
 

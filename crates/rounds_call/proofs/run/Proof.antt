@@ -18,35 +18,35 @@ entry s = let a = s.args in state_of a.n a.m a.bounds.now (rows_of a.coefs.now a
 model-table-fault-requires : tie.Need-model_table_fault-fault-requires
 model-table-fault-requires c κs = tt
 
-same_length : tie.Need-shape_of-bounds-then-fault-ne0
+same_length : tie.Need-shape_of-bounds-then-is_refused
 same_length c = omega arith
 
-same-length-2 : tie.Need-shape_of-coefs-then-fault-ne0
+same-length-2 : tie.Need-shape_of-coefs-then-is_refused
 same-length-2 c = omega arith
 
-same-length-3 : tie.Need-shape_of-rhs-then-fault-ne0
+same-length-3 : tie.Need-shape_of-rhs-then-is_refused
 same-length-3 c = omega arith
 
-same-length-4 : tie.Need-shape_of-kinds-then-fault-ne0
+same-length-4 : tie.Need-shape_of-kinds-then-is_refused
 same-length-4 c = omega arith
 
-same-length-5 : tie.Need-shape_of-table-then-fault-ne0
+same-length-5 : tie.Need-shape_of-table-then-is_refused
 same-length-5 c = omega arith
 
-returns : tie.Need-returns-then-fault-ne0
+returns : tie.Need-returns-then-is_refused
 unfolding rounds_answer rounds_fault state_of
 returns c =
     let s = c.before.before.before.before in
-    refuses s.args.limit (entry s) c.model_table_fault-fault.ensures c.if-fault-ne0.true
+    refuses s.args.limit (entry s) c.model_table_fault-fault.ensures c.if-is_refused.true
 
 -- the checks passed
-module _ (c : tie.Else-fault-ne0) where
+module _ (c : tie.Else-is_refused) where
   abbrev start : tie.Start
   start = c.before.before.before.before
 
   accepted : rounds_fault (entry start) ≡ 0
   unfolding rounds_fault state_of
-  accepted = sym c.model_table_fault-fault.ensures ∙ c.if-fault-ne0.false
+  accepted = sym c.model_table_fault-fault.ensures ∙ c.if-is_refused.false
 
   valid : ValidState (entry start)
   unfolding rounds_fault

@@ -29,10 +29,10 @@ shared-slice-copy-out-if1-2 c = search rules
 returns : tie.Need-returns-then-old-j
 returns c = λ e. absurd (true≢false e)
 
-mul-if2 : tie.Need-overflow_mul-j-3
+mul-if2 : tie.Need-overflow_mul-old_upper
 mul-if2 c = search rules
 
-add-if2 : tie.Need-overflow_add-j
+add-if2 : tie.Need-overflow_add-old_upper
 add-if2 c = search rules
 
 mul-if2-2 : tie.Need-offset_bounds-old-j-2
@@ -41,10 +41,10 @@ mul-if2-2 c = search rules
 shared-slice-copy-out-if2 : tie.Need-bounds-old-j-2
 shared-slice-copy-out-if2 c = search rules
 
-mul-if2-3 : tie.Need-overflow_mul-j-4
+mul-if2-3 : tie.Need-overflow_mul-new_upper
 mul-if2-3 c = search rules
 
-add-if2-2 : tie.Need-overflow_add-j-2
+add-if2-2 : tie.Need-overflow_add-new_upper
 add-if2-2 c = search rules
 
 mul-if2-4 : tie.Need-offset_bounds-new-j-2
@@ -53,15 +53,15 @@ mul-if2-4 c = search rules
 shared-slice-copy-out-if2-2 : tie.Need-bounds-new-j-2
 shared-slice-copy-out-if2-2 c = search rules
 
-returns-2 : tie.Need-returns-then-old-j-2
+returns-2 : tie.Need-returns-then-upper_moved
 returns-2 c = λ e. absurd (true≢false e)
 
 returns-3 : tie.Need-returns
 returns-3 c =
     let first = c.before.before.before in
     λ _. (
-      sym (eq-read w32 (record { sfits = first.t7-1.given }) (record { sfits = first.t11-1.given }) first.if-old-j.false),
-      sym (eq-read w32 (record { sfits = c.t11-2-1.given }) (record { sfits = c.t7-2-1.given }) c.if-old-j-2.false),
+      sym (eq-read w32 (record { sfits = first.t10-1.given }) (record { sfits = first.t14-1.given }) first.if-old-j.false),
+      sym (eq-read w32 (record { sfits = c.old_upper-1.given }) (record { sfits = c.new_upper-1.given }) c.if-upper_moved.false),
     )
 
 pub has_moved_spec : {M : Type 1} → statement M

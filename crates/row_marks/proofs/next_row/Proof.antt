@@ -28,7 +28,7 @@ loop-holds c = (omega arith, c.requires.0, λ i a b. omega arith)
 shared-slice-read-if1 : tie.Need-bounds-marks-s invariant-loop decreases-loop
 shared-slice-read-if1 c = search rules
 
-returns : tie.Need-returns-then-marks-s-ne1 invariant-loop decreases-loop
+returns : tie.Need-returns-then-is_open invariant-loop decreases-loop
 returns c = c.loop-s.invariant
 
 add-s : tie.Need-overflow_add-s invariant-loop decreases-loop
@@ -40,7 +40,7 @@ loop-less c = omega arith
 loop-again : tie.Need-loop-s-preserved invariant-loop decreases-loop
 loop-again c =
     let i = c.loop-s.invariant in
-    (omega arith, omega arith, one_more c.args.marks.now _ _ i.2 c.if-marks-s-ne1.false)
+    (omega arith, omega arith, one_more c.args.marks.now _ _ i.2 c.if-is_open.false)
 
 returns-2 : tie.Need-returns invariant-loop decreases-loop
 returns-2 c =

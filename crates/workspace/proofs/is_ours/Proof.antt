@@ -37,15 +37,15 @@ returns c = rw (eq_no c.if-ws-ne-WORKSPACE_LEN.true)
 shared-slice-read-if2 : tie.Need-bounds-ws-0
 shared-slice-read-if2 c = search rules
 
-returns-2 : tie.Need-returns-then-ws-ne-OUR_MARK
+returns-2 : tie.Need-returns-then-is_foreign
 unfolding is_ours
-returns-2 c = rw (eq_yes c.if-ws-ne-WORKSPACE_LEN.false, eq_no c.if-ws-ne-OUR_MARK.true)
+returns-2 c = rw (eq_yes c.if-ws-ne-WORKSPACE_LEN.false, eq_no c.if-is_foreign.true)
 
 shared-slice-read-if3 : tie.Need-bounds-ws-1
 shared-slice-read-if3 c = search rules
 
 -- where the first two tests passed
-module _ (e : tie.Else-ws-ne-OUR_MARK) where
+module _ (e : tie.Else-is_foreign) where
   abbrev W : List ℕ
   W = e.args.ws.now
 
@@ -53,7 +53,7 @@ module _ (e : tie.Else-ws-ne-OUR_MARK) where
   length-is = eq_yes e.if-ws-ne-WORKSPACE_LEN.false
 
   mark-is : eqb (get_or W 0 0) our_mark ≡ true
-  mark-is = eq_yes e.if-ws-ne-OUR_MARK.false
+  mark-is = eq_yes e.if-is_foreign.false
 
 returns-3 : tie.Need-returns-then-ws-lt1
 unfolding is_ours

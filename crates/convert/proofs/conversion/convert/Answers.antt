@@ -40,23 +40,23 @@ slice_bounds-book-end c =
     let s = c.in_default.ensures.sized c.in_default.field-0 c.in_default.field-1 refl in
     sym (length-take-le _ _ (omega (arith, s.short, c.requires.max_sparse_value.0)))
 
-pub first_edition-requires-then-sparse_fault-eq0 : goal.first_edition-requires-then-sparse_fault-eq0
+pub first_edition-requires-then-is_sparse : goal.first_edition-requires-then-is_sparse
 unfolding sizes_answer
-first_edition-requires-then-sparse_fault-eq0 c =
+first_edition-requires-then-is_sparse c =
     let h = c.requires.by_index in
     let s = c.in_default.ensures.sized c.in_default.field-0 c.in_default.field-1 refl in
     let within : c.args.len ≤ length c.args.start.now = omega (arith, s.short, c.requires.max_sparse_value.0) in
     let passed = head_passed h.0 _ _ (c.in_default.ensures.right h.0 h.1.size h.1.end) in
     (rw (held_whole h.1 within) (first-framed h.0 passed), c.requires.max_sparse_value.1)
 
-pub returns-then-sparse_fault-eq0-clause-bytes : goal.returns-then-sparse_fault-eq0-clause-bytes
+pub returns-then-is_sparse-clause-bytes : goal.returns-then-is_sparse-clause-bytes
 unfolding sizes_answer
-returns-then-sparse_fault-eq0-clause-bytes c = λ bs h.
+returns-then-is_sparse-clause-bytes c = λ bs h.
     let s = c.in_default.ensures.sized c.in_default.field-0 c.in_default.field-1 refl in
     let within : c.args.len ≤ length c.args.start.now = omega (arith, s.short, c.requires.max_sparse_value.0) in
     let w = held_whole h within in
-    let accepted = ap sparse_fault (sym w) ∙ sym c.sparse_fault.ensures ∙ c.if-sparse_fault-eq0.true in
-    c.first_edition-then-sparse_fault-eq0.ensures.bytes
+    let accepted = ap sparse_fault (sym w) ∙ sym c.sparse_fault-is_sparse.ensures ∙ c.if-is_sparse.true in
+    c.first_edition-then-is_sparse.ensures.bytes
     ∙ ap first_edition w
     ∙ sym (accepted-input bs accepted (omega (arith, h.size, within, c.requires.max_sparse_value.0)))
 
@@ -67,7 +67,7 @@ returns-clause-bytes c = λ bs h.
     let within : c.args.len ≤ length c.args.start.now = omega (arith, s.short, c.requires.max_sparse_value.0) in
     let w = held_whole h within in
     let passed = head_passed bs _ _ (c.in_default.ensures.right bs h.size h.end) in
-    let faulty = λ (z : sparse_fault bs ≡ 0). c.if-sparse_fault-eq0.false (c.sparse_fault.ensures ∙ ap sparse_fault w ∙ z) in
+    let faulty = λ (z : sparse_fault bs ≡ 0). c.if-is_sparse.false (c.sparse_fault-is_sparse.ensures ∙ ap sparse_fault w ∙ z) in
     c.sparse_edition.ensures.bytes
     ∙ ap sparse_edition w
     ∙ sym (first-input bs faulty (λ e. let z : ⊥ = omega (arith, passed, e) in z))
