@@ -1,6 +1,5 @@
 // A call list as records (01's run sheet): the calls that `flat_list` reads from flat numbers, one struct each.
-// No function over a slice of structs is covered, so reading a record and the loop over them are proved by hand; all
-// else is in covered functions.
+// Reading a record and the loop over them are functions of their own; what a record does is `call_record`'s.
 #![tactic(auto)]
 
 ghost use Rattle.std.specs.Prelude.{◌≡◌, ◌<◌, length, get_or};
@@ -56,8 +55,7 @@ pub fn run(
     answer
 }
 
-// Runs four records that the caller holds by value: a function that lends a slice of records is proved by hand, and a
-// caller of this one is covered.
+// Runs four records that the caller holds by value, as a list of that length.
 pub fn run_four(
     n: usize,
     m: usize,

@@ -1,5 +1,5 @@
-// Row r of a matrix, for callers with plain slices, which need no proof by hand: propagated, or tested whether that
-// would move anything, where it stands.
+// Row r of a matrix, for callers with plain slices: propagated, or tested whether that would move anything, where it
+// stands.
 #![tactic(auto)]
 
 ghost use Rattle.std.specs.Prelude.{◌≡◌};
@@ -16,7 +16,7 @@ use row::propagation::RowPropagation;
 use row_propagation::moves;
 use sweep::moves_by;
 
-// Propagates row r of the matrix through its view: for callers with plain slices, which need no proof by hand.
+// Propagates row r of the matrix through its view.
 pub fn propagate_row_at<'a, 'b, 'c, 'd>(
     n: usize,
     coefs: &'a [i32],

@@ -1,6 +1,6 @@
-// One row, read in place (01, "Row sums"): a view of its n coefficients in the matrix, with its right side and kind. No
-// function over a struct that holds a reference is covered, so each is thin and proved by hand: it takes the view apart
-// and leaves the work to a function over plain slices.
+// One row, read in place (01, "Row sums"): a view of its n coefficients in the matrix, with its right side and kind. Each
+// function over it is thin: it takes the view apart and leaves the work to a function over plain slices, where the
+// proof is.
 #![tactic(auto)]
 
 ghost use Rattle.std.specs.Prelude.{◌≡◌, length};
