@@ -1,5 +1,5 @@
 -- What the reasons mean: "which variables' bounds moved, and for each the row that moved it last; where infeasible, the row that was"
--- (issue 30). A list that the call fills says of each bound whether it is another than the one that was lent (`reasons-mean`).
+-- (D-61). A list that the call fills says of each bound whether it is another than the one that was lent (`reasons-mean`).
 use Rattle.std.specs.Prelude.{◌*◌, ◌<◌, ℕ, T, ℤ, get_or, not, List, ◌≡◌}
 use Rattle.model.specs.Box.{at}
 use Rattle.model.specs.Rows.{Rows}

@@ -1,5 +1,5 @@
 -- What the reasons of a probe mean: "which variables' bounds moved, and for each the row that moved it last; where infeasible, the row
--- that was" (issue 30), of each side, and of the box that the probe leaves (`probe-reasons-mean`).
+-- that was" (D-61), of each side, and of the box that the probe leaves (`probe-reasons-mean`).
 use Rattle.std.specs.Prelude.{◌*◌, ◌/◌, ◌<◌, ℕ, T, ℤ, get_or, not, List, ◌++◌, ◌↔◌, ◌≡◌}
 use Rattle.model.specs.Box.{at}
 use Rattle.model.specs.Rows.{Rows}

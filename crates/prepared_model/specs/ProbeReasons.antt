@@ -1,5 +1,5 @@
 -- Who moved what in the two sides of a probe: "Also told, in a lent list that may be empty: which variables' bounds moved, and for each
--- the row that moved it last; where infeasible, the row that was" (issue 30). A bound of the box that a probe leaves has a reason in each
+-- the row that moved it last; where infeasible, the row that was" (D-61). A bound of the box that a probe leaves has a reason in each
 -- side: so the two sides are told, one after the other, each as a propagation of its own (D-69).
 use Rattle.std.specs.Prelude.{◌/◌, ℕ, ℤ, replicate, cond, List, ◌++◌}
 use Rattle.model.specs.Box.{is_empty}

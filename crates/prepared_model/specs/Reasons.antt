@@ -1,5 +1,5 @@
 -- Who moved what, of the passes over all rows in their order: "which variables' bounds moved, and for each the row that moved it last;
--- where infeasible, the row that was" (issue 30). Nothing here knows which rows a prepared call looks at.
+-- where infeasible, the row that was" (D-61). Nothing here knows which rows a prepared call looks at.
 use Rattle.std.specs.Prelude.{suc, zero, ℕ, ltb, ℤ, replicate, cond, not, List}
 use Rattle.model.specs.Box.{is_empty}
 use Rattle.model.specs.Rows.{Rows, row_at}

@@ -1,5 +1,5 @@
 -- Which row moved a bound last: "Also told, in a lent list that may be empty: which variables' bounds moved, and for each the row that
--- moved it last" (issue 30). Number i of the list is of number i of the box: 2j the lower bound of variable j, 2j + 1 the upper one.
+-- moved it last" (D-61). Number i of the list is of number i of the box: 2j the lower bound of variable j, 2j + 1 the upper one.
 use Rattle.std.specs.Prelude.{◌*◌, ℕ, ℤ, get_or, length, cond, List, ◌⊎◌, ◌≡◌}
 use Rattle.integer.specs.Order.{eq_z}
 use Rattle.model.specs.Box.{at}
