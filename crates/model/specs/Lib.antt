@@ -5,5 +5,6 @@ pub mod Model
 pub mod State
 pub mod Point
 pub mod Checks
+pub mod Refusals
 pub mod Places
 pub mod Valid

@@ -4,6 +4,8 @@
 // `model_checks`.
 #![tactic(auto)]
 
+pub mod refusal;
+
 pub const MAX_VARIABLES: usize = 128;
 
 pub const MAX_ROWS: usize = 120;
