@@ -38,11 +38,8 @@ pub fn in_range(xs: &[i32], low: i32, high: i32) -> bool
     ensures { result ≡ in_range low high xs.now }
 {
     let mut ok = true;
-    let mut i = 0;
-    while i < xs.len() {
-        let x = xs[i];
+    for &x in xs {
         ok &= (low <= x) & (x <= high);
-        i += 1;
     }
     ok
 }
@@ -51,12 +48,9 @@ pub fn in_range(xs: &[i32], low: i32, high: i32) -> bool
 pub fn is_ordered(bounds: &[i32]) -> bool
     ensures { result ≡ ordered bounds.now }
 {
-    let half = bounds.len() / 2;
     let mut ok = true;
-    let mut j = 0;
-    while j < half {
+    for j in 0..bounds.len() / 2 {
         ok &= bounds[2 * j] <= bounds[2 * j + 1];
-        j += 1;
     }
     ok
 }
@@ -66,12 +60,9 @@ pub fn is_narrow(bounds: &[i32]) -> bool
     requires { in_range min_bound max_bound bounds.now ≡ true }
     ensures { result ≡ narrow bounds.now }
 {
-    let half = bounds.len() / 2;
     let mut ok = true;
-    let mut j = 0;
-    while j < half {
+    for j in 0..bounds.len() / 2 {
         ok &= bounds[2 * j + 1] - bounds[2 * j] <= MAX_WIDTH;
-        j += 1;
     }
     ok
 }
@@ -83,15 +74,13 @@ pub fn is_empty_box(n: usize, bounds: &[i32]) -> bool
     if !is_product(bounds.len(), 2, n) {
         return false;
     }
-    let mut j = 0;
-    while j < n {
+    for j in 0..n {
         if bounds[2 * j] != 1 {
             return false;
         }
         if bounds[2 * j + 1] != 0 {
             return false;
         }
-        j += 1;
     }
     true
 }
@@ -101,10 +90,8 @@ pub fn is_bits(table: &[u8]) -> bool
     ensures { result ≡ bits table.now }
 {
     let mut ok = true;
-    let mut i = 0;
-    while i < table.len() {
-        ok &= table[i] < 2;
-        i += 1;
+    for &t in table {
+        ok &= t < 2;
     }
     ok
 }

@@ -1,0 +1,16 @@
+-- `buffer_checks::in_range`: the flag is `all` of the tests made so far. Assumes nothing.
+use Prim.Native.Nat.{ℕ}
+use lib.IntN.{ℤ}
+use lib.Signed.{le_z}
+use mathlib.Core.Bool.{Bool, ◌&&◌}
+use mathlib.Core.List.{List}
+use mathlib.Core.Path.{◌≡◌}
+use Rattle.integer.specs.Index.{all}
+use Rattle.model.specs.Box.{at}
+use Rattle.buffer_checks.proofs.in_range.Given as goal
+
+abbrev pub test : List ℤ → ℤ → ℤ → ℕ → Bool
+test xs low high i = le_z low (at xs i) && le_z (at xs i) high
+
+abbrev pub invariant-loop-x : goal.invariant-loop-x
+invariant-loop-x l = l.ok ≡ all l.x-index (test l.xs l.low l.high)
