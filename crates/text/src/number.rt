@@ -1,5 +1,5 @@
 // A number in decimal, and bytes, written into a buffer at a position. Each answers the position after what it wrote.
-ghost use Rattle.std.specs.Prelude.{◌≡◌, [], ◌∷◌, ◌+◌, ◌*◌, ◌≤◌, ◌<◌, nat_abs, pos, length};
+ghost use Rattle.std.specs.Prelude.{◌≡◌, [], ◌∷◌, ◌+◌, ◌*◌, ◌≤◌, ◌<◌, pos, length};
 ghost use Rattle.text.specs.Decimal.{decimal};
 ghost use Rattle.text.specs.Fields.{field, fields, max_field, max_long_field};
 ghost use Rattle.text.specs.Text.{Wrote};
@@ -22,16 +22,6 @@ fn write_digits(x: u64, buf: &mut [u8], at: usize) -> usize
     }
     let last = write_digits(x / 10, buf, at);
     write_byte(48 + (x % 10) as u8, buf, last)
-}
-
-// |z|. The negation is made in 64 bits, since 2^31 is no i32.
-fn magnitude(z: i32) -> u32
-    ensures { result ≡ nat_abs z }
-{
-    if z < 0 {
-        return (-(z as i64)) as u32;
-    }
-    z as u32
 }
 
 // A natural number after one space.
@@ -63,9 +53,9 @@ pub fn write_integer(z: i32, buf: &mut [u8], at: usize) -> usize
     let start = write_byte(b' ', buf, at);
     if z < 0 {
         let first = write_byte(b'-', buf, start);
-        return write_digits(magnitude(z) as u64, buf, first);
+        return write_digits(z.unsigned_abs() as u64, buf, first);
     }
-    write_digits(magnitude(z) as u64, buf, start)
+    write_digits(z.unsigned_abs() as u64, buf, start)
 }
 
 // Whole numbers, each after one space.
@@ -75,10 +65,8 @@ pub fn write_integers(xs: &[i32], buf: &mut [u8], at: usize) -> usize
     ensures room { result ≤ at + max_field * length xs.now }
 {
     let mut end = at;
-    let mut j = 0;
-    while j < xs.len() {
-        end = write_integer(xs[j], buf, end);
-        j += 1;
+    for &x in xs {
+        end = write_integer(x, buf, end);
     }
     end
 }
@@ -88,11 +76,7 @@ pub fn write_text(text: &[u8], buf: &mut [u8], at: usize) -> usize
     requires { at + length text.now ≤ length buf.old }
     ensures { Wrote buf.old at text.now result buf.new }
 {
-    let mut end = at;
-    let mut i = 0;
-    while i < text.len() {
-        end = write_byte(text[i], buf, end);
-        i += 1;
-    }
+    let end = at + text.len();
+    buf[at..end].copy_from_slice(text);
     end
 }
