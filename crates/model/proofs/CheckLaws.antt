@@ -18,6 +18,9 @@ use Rattle.model.specs.Box.{NonEmpty, at, empty_box, is_empty, lower, upper, wid
 use Rattle.model.specs.Checks.{Check, bits, box_checks, first, in_range, length_checks, model_checks, model_fault, must, narrow, none, number_checks, ordered, size_checks, table, table_byte_checks, table_length_checks}
 use Rattle.model.specs.Limits.{max_bound, max_coef, max_rhs, max_rows, max_variables, max_width, min_bound, min_coef, min_rhs}
 use Rattle.model.specs.Model.{Model}
+use Rattle.model.specs.declared.refusal.Refusal.{Refusal}
+use Rattle.model.specs.Refusals.{number_of}
+use Rattle.model.proofs.RefusalLaws.{number_of-ne0}
 use Rattle.model.specs.Valid.{Between, ValidBox, ValidModel, ValidTable}
 use Rattle.model.proofs.BoxLaws.{empty-is, is_empty→eq}
 
@@ -286,3 +289,13 @@ table-chain M t fits =
     (cond (eqb (length M.box) (2 * M.n) && eqb (length M.rows.coefs) (M.m * M.n) && eqb (length M.rows.rhs) M.m
     && eqb (length M.rows.kinds) M.m) r 5) 3)
     (merge (eqb (length t) (4 * (M.n * M.n))) fits 5 (number_checks M.n M.box M.rows ++ table_byte_checks (table t)))
+
+-- ---- checks that refuse by name
+
+-- the first list refuses: its number is the answer
+pub refuses : (xs ys : List Check) (z : Refusal) → number_of z ≡ first xs → number_of z ≡ first (xs ++ ys)
+refuses xs ys z e = stops xs ys e (number_of-ne0 z)
+
+-- the first list refuses nothing: the answer is the second's
+pub accepts : {r : ℕ} (xs ys : List Check) → T (numbered xs) → 0 ≡ first xs → r ≡ first ys → r ≡ first (xs ++ ys)
+accepts xs ys t e h = goes xs ys t e refl h
