@@ -19,12 +19,9 @@ pub fn is_empty(bounds: &[i32]) -> bool
 pub fn make_empty(bounds: &mut [i32])
     ensures { (n : ℕ) → length bounds.old ≡ 2 * n → bounds.new ≡ empty_box n }
 {
-    let half = bounds.len() / 2;
-    let mut j = 0;
-    while j < half {
+    for j in 0..bounds.len() / 2 {
         bounds[2 * j] = 1;
         bounds[2 * j + 1] = 0;
-        j += 1;
     }
 }
 
@@ -44,11 +41,7 @@ pub fn copy_box(from: &[i32], to: &mut [i32])
     requires { length from.now ≡ length to.old }
     ensures { to.new ≡ from.now }
 {
-    let mut i = 0;
-    while i < from.len() {
-        to[i] = from[i];
-        i += 1;
-    }
+    to.copy_from_slice(from);
 }
 
 // Whether two boxes have the same bounds.
@@ -56,26 +49,19 @@ pub fn same_box(xs: &[i32], ys: &[i32]) -> bool
     requires { length xs.now ≡ length ys.now }
     ensures { result ≡ same_list xs.now ys.now }
 {
-    let mut i = 0;
-    while i < xs.len() {
-        if xs[i] != ys[i] {
-            return false;
-        }
-        i += 1;
-    }
-    true
+    xs == ys
 }
 
 pub fn lesser(x: i32, y: i32) -> i32
     ensures { result ≡ min_z x y }
 {
-    if x <= y { x } else { y }
+    x.min(y)
 }
 
 pub fn greater(x: i32, y: i32) -> i32
     ensures { result ≡ max_z x y }
 {
-    if x <= y { y } else { x }
+    x.max(y)
 }
 
 // The smallest box that contains both of two.
@@ -85,11 +71,8 @@ pub fn hull(zero: &[i32], one: &[i32], bounds: &mut [i32])
     ensures { (n : ℕ) → length bounds.old ≡ 2 * n → bounds.new
         ≡ hulled n zero.now one.now }
 {
-    let half = bounds.len() / 2;
-    let mut j = 0;
-    while j < half {
+    for j in 0..bounds.len() / 2 {
         bounds[2 * j] = lesser(zero[2 * j], one[2 * j]);
         bounds[2 * j + 1] = greater(zero[2 * j + 1], one[2 * j + 1]);
-        j += 1;
     }
 }
