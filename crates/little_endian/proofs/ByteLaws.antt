@@ -2,19 +2,20 @@
 -- of a signed number and the number of 32 bits.
 use Prim.Native.Nat.{◌%◌, ◌*◌, ◌+◌, ◌-◌, ◌/◌, ◌<◌, ◌^◌, ◌≤◌, suc, zero, ℕ}
 use borrow.Author.Tests.{le-ltb, lt-ltb}
-use lib.IntN.{◌+ℤ◌, ◌-ℤ◌, negsuc, pos, ℤ}
+use lib.IntN.{◌-ℤ◌, negsuc, pos, ℤ}
 use lib.ListN.{drop, get_or, length, length-take}
 use lib.Seq.{drop-cons}
-use lib.Signed.{◌<ℤ◌, ◌≤ℤ◌}
 use mathlib.Core.List.{List, [], ◌++◌, ◌∷◌}
 use mathlib.Core.Path.{◌∙◌, ◌≡◌, ap, refl, sym}
-use mir.Syntax.{w32}
-use mir.Val.{SFits, of_z}
+use mir.Facts.{of_z-to_z, sfits_to_z}
+use mir.Syntax.{w16, w32}
+use mir.Val.{Fits, SFits, of_z, to_z}
 use native.Mathlib.Decide.{dec_lt}
 use native.Mathlib.Nat.{div-div-eq-div-mul, div-lt_iff_lt-mul, div-one, mod-add-div, mul_assoc, pow-suc, pow-succ'}
 use native.Mathlib.Omega.{arith}
+use Rattle.std.specs.Int.{from_le_bytes, to_le_bytes}
 use Rattle.integer.proofs.IndexLaws.{get_d-all}
-use Rattle.integer.proofs.Parts.{zarith, zify}
+use Rattle.integer.proofs.Parts.{zify}
 use Rattle.model.specs.Box.{at}
 use Rattle.little_endian.specs.Bytes.{Bytes, bits_of, bytes_of, integer_at, integer_bytes, integers_at, integers_bytes, number_at, number_of, signed_of}
 use Rattle.little_endian.specs.Pieces.{joined, part}
@@ -140,18 +141,44 @@ bits-signed x h = go (dec_lt x 2_147_483_648)
         let e : pos x -ℤ pos 4_294_967_296 ≡ negsuc (4_294_967_295 - x) = simp zify (omega arith) in
         ap bits_of (signed_high x (omega arith) ∙ e) ∙ (let z : 4_294_967_296 - suc (4_294_967_295 - x) ≡ x = omega arith in z)
 
--- the bits as code finds them
-pub bits-low : (z : ℤ) → pos 0 ≤ℤ z → z ≡ pos (bits_of z)
-unfolding bits_of
-bits-low (pos n) h = refl
-bits-low (negsuc n) h = absurd h.le
+pub signed-machine : (x : ℕ) → Fits w32 x → signed_of x ≡ to_z w32 x
+signed-machine x h =
+    let e : bits_of (to_z w32 x) ≡ x = bits-machine (to_z w32 x) ∙ of_z-to_z h in
+    ap signed_of (sym e) ∙ signed-bits (to_z w32 x) (sfits_to_z h)
 
-pub bits-high : (z : ℤ) → SFits w32 z → z <ℤ pos 0 → z +ℤ pos 4_294_967_296 ≡ pos (bits_of z)
-unfolding bits_of
-bits-high (pos n) f h = let z : ⊥ = omega zarith in absurd z
-bits-high (negsuc n) f h =
-    let k : n < 2_147_483_648 = f.sfits in
-    simp zify (omega arith)
+-- ---- std's words for bytes
+
+pub le_bytes-two : (x : ℕ) → to_le_bytes w16 x ≡ bytes_of 2 x
+unfolding bytes_of
+le_bytes-two x = refl
+
+pub le_bytes-four : (x : ℕ) → to_le_bytes w32 x ≡ bytes_of 4 x
+unfolding bytes_of
+le_bytes-four x =
+    let two : x / 65_536 ≡ x / 256 / 256 = omega arith in
+    let three : x / 16_777_216 ≡ x / 256 / 256 / 256 = omega arith in
+    rw (two, three)
+
+pub le_number-two : (p : ℕ) (bs : List ℕ) → p + 2 ≤ length bs → from_le_bytes w16 (get_or bs p 0 ∷ get_or bs (p + 1) 0 ∷ []) ≡ number_at 2 p bs
+le_number-two p bs h =
+    omega (arith, number_at-add 1 1 p bs (omega arith), number_at-byte p bs (omega arith), number_at-byte (p + 1) bs (omega arith))
+
+pub le_number-four : (p : ℕ) (bs : List ℕ) → p + 4 ≤ length bs
+    → from_le_bytes w32 (get_or bs p 0 ∷ get_or bs (p + 1) 0 ∷ get_or bs (p + 2) 0 ∷ get_or bs (p + 3) 0 ∷ []) ≡ number_at 4 p bs
+le_number-four p bs h =
+    let three : p + 2 + 1 ≡ p + 3 = omega arith in
+    let low = number_at-add 1 1 p bs (omega arith) in
+    let high = rw three at (number_at-add 1 1 (p + 2) bs (omega arith)) in
+    omega (
+      arith,
+      number_at-add 2 2 p bs (omega arith),
+      low,
+      high,
+      number_at-byte p bs (omega arith),
+      number_at-byte (p + 1) bs (omega arith),
+      number_at-byte (p + 2) bs (omega arith),
+      number_at-byte (p + 3) bs (omega arith),
+    )
 
 -- ---- signed numbers in a list of bytes
 

@@ -10,10 +10,7 @@ use crate::{read_i32, write_i32};
 fn is_between(x: i32, low: i32, high: i32) -> bool
     ensures { result ≡ (le_z low x && le_z x high) }
 {
-    if x < low {
-        return false;
-    }
-    x <= high
+    low <= x && x <= high
 }
 
 // Whether `count` numbers from place `at` on, one every `step` bytes, lie between low and high.
@@ -22,10 +19,8 @@ pub fn are_in_range(bytes: &[u8], at: usize, step: usize, count: usize, low: i32
     ensures { result ≡ in_range low high (integers_at at step count bytes.now) }
 {
     let mut ok = true;
-    let mut k = 0;
-    while k < count {
+    for k in 0..count {
         ok &= is_between(read_i32(bytes, at + k * step), low, high);
-        k += 1;
     }
     ok
 }
@@ -35,11 +30,8 @@ pub fn read_integers(bytes: &[u8], at: usize, step: usize, xs: &mut [i32])
     requires { (i : ℕ) → i < length xs.old → at + i * step + 4 ≤ length bytes.now }
     ensures { xs.new ≡ integers_at at step (length xs.old) bytes.now }
 {
-    let mut k = 0;
-    while k < xs.len() {
-        let x = read_i32(bytes, at + k * step);
-        xs[k] = x;
-        k += 1;
+    for (k, x) in xs.iter_mut().enumerate() {
+        *x = read_i32(bytes, at + k * step);
     }
 }
 
@@ -48,9 +40,7 @@ pub fn write_integers(bytes: &mut [u8], at: usize, xs: &[i32])
     requires { at + length xs.now * 4 ≤ length bytes.old }
     ensures { bytes.new ≡ overwrite at (integers_bytes xs.now) bytes.old }
 {
-    let mut k = 0;
-    while k < xs.len() {
-        write_i32(bytes, at + k * 4, xs[k]);
-        k += 1;
+    for (k, &x) in xs.iter().enumerate() {
+        write_i32(bytes, at + k * 4, x);
     }
 }
