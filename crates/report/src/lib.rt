@@ -14,12 +14,10 @@ pub fn is_zero_row(b: i32, coefs: &[i32]) -> bool
     if b != 0 {
         return false;
     }
-    let mut j = 0;
-    while j < coefs.len() {
-        if coefs[j] != 0 {
+    for &coef in coefs {
+        if coef != 0 {
             return false;
         }
-        j += 1;
     }
     true
 }
@@ -33,13 +31,11 @@ pub fn next_line(first: usize, table: &[u8], i: usize) -> usize
     if i < first {
         return i;
     }
-    let mut byte = i - first;
-    while byte < table.len() {
+    for byte in i - first..table.len() {
         let is_recorded = table[byte] == 1;
         if is_recorded {
             return first + byte;
         }
-        byte += 1;
     }
-    first + byte
+    first + table.len()
 }

@@ -59,6 +59,7 @@ fn write_implication_at(n: usize, table: &[u8], i: usize, buf: &mut [u8], at: us
 }
 
 // Line i of the report.
+#[tactic(auto, unfolding(model::specs::State::state_of))]
 fn write_line(
     n: usize,
     m: usize,
@@ -104,6 +105,7 @@ pub fn line_count(n: usize, m: usize) -> usize
 
 // Writes the report's lines from `from` on, as many as have room, at the start of the buffer: at
 // least one where one is left.
+#[tactic(auto, unfolding(model::specs::State::state_of))]
 pub fn fill(
     n: usize,
     m: usize,
@@ -128,6 +130,7 @@ pub fn fill(
     let count = line_count(n, m);
     let mut next = from;
     let mut end = 0;
+    // A turn goes on by as many lines as `next_line` passes over, so it is no count.
     while next < count {
         if buf.len() - end < MAX_LINE {
             return Chunk { next, end };
