@@ -1,14 +1,14 @@
 -- Texts that are written piece by piece: a number made beside the buffer and copied into a field, and the pieces of a line. Each law
 -- says which text the pieces are, and where it ends.
-use Prim.Native.Nat.{◌%◌, ◌*◌, ◌+◌, ◌-◌, ◌/◌, ◌<◌, ◌≤◌, suc, zero, ℕ}
+use Prim.Native.Nat.{◌%◌, ◌*◌, ◌+◌, ◌-◌, ◌/◌, ◌<◌, ◌≤◌, suc, ℕ}
 use borrow.Author.Tests.{eq-eqb, ne_eqb}
 use lib.Dec.{eqb}
 use lib.IntN.{nat_abs, pos, ℤ}
-use lib.ListN.{drop, get_or, length, length-append, length-replicate, replicate, replicate-append-replicate, take}
+use lib.ListN.{drop, get_or, length, length-append, length-replicate, replicate-append-replicate, take}
 use lib.Seq.{drop-drop, take_at}
 use mathlib.Core.Bool.{cond}
-use mathlib.Core.List.{List, [], ◌++◌, ◌∷◌, append_assoc, append-nil}
-use mathlib.Core.Path.{◌∙◌, ◌≡◌, ap, refl, subst, sym}
+use mathlib.Core.List.{List, [], ◌++◌, ◌∷◌, append_assoc}
+use mathlib.Core.Path.{◌∙◌, ◌≡◌, ap, sym}
 use mir.Facts.{to_z_pos}
 use mir.Syntax.{w32}
 use mir.Val.{to_z}

@@ -17,12 +17,8 @@ pub fn write_spaces(count: usize, buf: &mut [u8], at: usize) -> usize
     requires { at + count ≤ length buf.old }
     ensures { Wrote buf.old at (spaces count) result buf.new }
 {
-    let mut end = at;
-    let mut i = 0;
-    while i < count {
-        end = write_byte(b' ', buf, end);
-        i += 1;
-    }
+    let end = at + count;
+    buf[at..end].fill(b' ');
     end
 }
 

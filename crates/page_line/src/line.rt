@@ -49,14 +49,12 @@ fn next_one(part: &[u8], q: usize) -> usize
     ensures same { ones_from part.now result ≡ ones_from part.now q }
     ensures one { result < length part.now → get_or part.now result 0 ≡ 1 }
 {
-    let mut i = q;
-    while i < part.len() {
+    for i in q..part.len() {
         if part[i] == 1 {
             return i;
         }
-        i += 1;
     }
-    i
+    part.len()
 }
 
 // The first literal from byte q of the variable's part of the table on, or six spaces where there is none. The answer
@@ -86,10 +84,8 @@ fn write_slots(part: &[u8], q: usize, buf: &mut [u8], at: usize) -> usize
     ensures left { ones_from part.now result ≡ drop 8 (ones_from part.now q) }
 {
     let mut next = q;
-    let mut j = 0;
-    while j < 8 {
+    for j in 0..8 {
         next = write_slot(part, next, buf, at + 6 * j);
-        j += 1;
     }
     next
 }
