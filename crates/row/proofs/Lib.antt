@@ -14,6 +14,7 @@ pub mod KindBooks
 pub mod ReachLaws
 pub mod KindMoves
 pub mod RowLoops
+pub mod Turn
 pub mod Replacement
 pub mod TighteningLaws
 pub mod RedundancyLaws

@@ -18,7 +18,8 @@ use Rattle.integer.specs.Index.{all, sum}
 use Rattle.integer.specs.Order.{max_z}
 use Rattle.integer.specs.Range.{Within}
 use Rattle.integer.proofs.IndexLaws.{sum_more}
-use Rattle.integer.proofs.Parts.{le_is, le-isn't, lt-is, lt-isn't, zarith, zify}
+use Rattle.std.specs.Int.{int_max}
+use Rattle.integer.proofs.Parts.{le-false, le-true, le_is, le-isn't, lt-false, lt-is, lt-isn't, lt-true, zarith, zify}
 use Rattle.integer.proofs.RangeLaws.{back, within-fits, within-sub}
 use Rattle.integer.proofs.Reading.{read_wide}
 use Rattle.integer.proofs.Tests.{T→false, T→true, and_i, and_l, and_r, bool-ext, cond_ind, decide, lt-or-ge, true→T}
@@ -235,3 +236,14 @@ module _ {n : ℕ} {A : List ℤ} {b : ℤ} {B : List ℤ} (v : ValidRow n A b B
 
   pub slack-read : to_z w64 (of_z w64 slack) ≡ b -ℤ min_activity n A B
   slack-read = to_z-of_z {w = w64} slack-fits ∙ slack-is
+
+-- std's `max` makes the opposite test
+pub max-is : (x y : ℤ) → int_max x y ≡ max_z x y
+unfolding max_z
+max-is x y = go (lt_z y x) (le_z x y) refl refl
+  where
+    go : (a b : Bool) → lt_z y x ≡ a → le_z x y ≡ b → cond a x y ≡ cond b y x
+    go true true e f = absurd (let l = lt-true y x e in let k = le-true x y f in omega zarith)
+    go true false e f = refl
+    go false true e f = refl
+    go false false e f = absurd (let l = lt-false y x e in let k = le-false x y f in omega zarith)

@@ -30,10 +30,8 @@ pub fn minimum_activity(coefs: &[i32], bounds: &[i32]) -> i64
     ensures { result ≡ min_activity (length coefs.now) coefs.now bounds.now }
 {
     let mut sum: i64 = 0;
-    let mut j: usize = 0;
-    while j < coefs.len() {
-        sum += term(coefs[j], bounds[2 * j], bounds[2 * j + 1]);
-        j += 1;
+    for (j, &a) in coefs.iter().enumerate() {
+        sum += term(a, bounds[2 * j], bounds[2 * j + 1]);
     }
     sum
 }
@@ -44,10 +42,8 @@ pub fn maximum_activity(coefs: &[i32], bounds: &[i32]) -> i64
     ensures { result ≡ max_activity (length coefs.now) coefs.now bounds.now }
 {
     let mut sum: i64 = 0;
-    let mut j: usize = 0;
-    while j < coefs.len() {
-        sum += term(coefs[j], bounds[2 * j + 1], bounds[2 * j]);
-        j += 1;
+    for (j, &a) in coefs.iter().enumerate() {
+        sum += term(a, bounds[2 * j + 1], bounds[2 * j]);
     }
     sum
 }
@@ -60,10 +56,7 @@ pub fn wider(widest: i64, a: i32, low: i32, high: i32) -> i64
     ensures { result ≡ max_z widest (term_width a low high) }
 {
     let width = term(a, high, low) - term(a, low, high);
-    if width <= widest {
-        return widest;
-    }
-    width
+    widest.max(width)
 }
 
 // Lmin and the width of the widest term, which together say whether a row moves anything: found in one sweep.
@@ -85,18 +78,15 @@ pub fn reach_of(coefs: &[i32], sign: i32, bounds: &[i32]) -> Reach
 {
     let mut least: i64 = 0;
     let mut widest: i64 = 0;
-    let mut j: usize = 0;
-    while j < coefs.len() {
-        let a = sign * coefs[j];
+    for (j, &coef) in coefs.iter().enumerate() {
+        let a = sign * coef;
         if a == 0 {
-            j += 1;
             continue;
         }
         let low = bounds[2 * j];
         let high = bounds[2 * j + 1];
         least += term(a, low, high);
         widest = wider(widest, a, low, high);
-        j += 1;
     }
     Reach { least, widest }
 }
