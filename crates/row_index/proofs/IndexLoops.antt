@@ -1,8 +1,7 @@
 -- What the loops that make the index need: a step more in a row, from its end, and a row or a column more.
-use Prim.Native.Nat.{◌*◌, ◌+◌, ◌-◌, ◌<◌, ◌≤◌, ℕ}
-use lib.IntN.{pos, ℤ}
-use lib.ListN.{get_or, length, set}
-use lib.Seq.{get_or-set_other, get_or-set_same}
+use Prim.Native.Nat.{◌*◌, ◌+◌, ◌<◌, ◌≤◌, ℕ}
+use lib.IntN.{ℤ}
+use lib.ListN.{get_or, length}
 use mathlib.Core.List.{List}
 use mathlib.Core.Path.{◌∙◌, ◌≡◌}
 use mathlib.Core.Logic.{◌⊎◌, inl, inr}
@@ -14,32 +13,6 @@ use Rattle.row_index.specs.Index.{ColumnSigns, GoodStep, RowSteps, sign_of}
 
 pub line-end : (r m n : ℕ) → r < m → r * n + n ≤ m * n
 line-end r m n h = omega (arith, mul-le-mul_right n h, suc-mul r n)
-
--- the steps from variable j on are good, and the next to be written is `gap`
-module _ {n : ℕ} {C : List ℤ} {start : ℕ} {S : List ℕ} (gap j : ℕ) (h : 0 < j) (l : j ≤ n) (room : start + n ≤ length S) (p : 0 < gap) (w : j + gap ≤ n + 1)
-    (z : (k : ℕ) → j ≤ k → k + 1 < j + gap → at C (start + k) ≡ pos 0)
-    (g : (i : ℕ) → j ≤ i → i < n → GoodStep n C start S i) where
-  pub good_more : (i : ℕ) → j - 1 ≤ i → i < n → GoodStep n C start (set S (start + (j - 1)) gap) i
-  good_more i a b = go (ℕ_discrete i (j - 1))
-    where
-      go : Dec (i ≡ j - 1) → GoodStep n C start (set S (start + (j - 1)) gap) i
-      go (yes e) =
-          let s : get_or (set S (start + (j - 1)) gap) (start + i) 0 ≡ gap = rw e (get_or-set_same S (start + (j - 1)) gap 0 (omega arith)) in
-          record { forward = omega arith; within = omega arith; zeros = λ k x y. z k (omega arith) (omega arith) }
-      go (no ne) =
-          let s : get_or (set S (start + (j - 1)) gap) (start + i) 0 ≡ get_or S (start + i) 0 = get_or-set_other S (start + (j - 1)) (start + i) gap 0 (omega arith) in
-          let o = g i (omega arith) b in
-          record { forward = omega (arith, o.forward); within = omega (arith, o.within); zeros = λ k x y. o.zeros k x (omega arith) }
-
-  pub zeros-more : at C (start + (j - 1)) ≡ pos 0 → (k : ℕ) → j - 1 ≤ k → k + 1 < j - 1 + (gap + 1) → at C (start + k) ≡ pos 0
-  zeros-more e k a b = go (ℕ_discrete k (j - 1))
-    where
-      go : Dec (k ≡ j - 1) → at C (start + k) ≡ pos 0
-      go (yes f) = rw f e
-      go (no ne) = z k (omega arith) (omega arith)
-
-pub zeros-none : (C : List ℤ) (start j : ℕ) → (k : ℕ) → j - 1 ≤ k → k + 1 < j - 1 + 1 → at C (start + k) ≡ pos 0
-zeros-none C start j k a b = absurd (let q : ⊥ = omega arith in q)
 
 -- a row's steps stay good where only later numbers change
 pub good-kept : {n : ℕ} {C : List ℤ} {start : ℕ} {S T : List ℕ} {j : ℕ} → get_or T (start + j) 0 ≡ get_or S (start + j) 0 → GoodStep n C start S j → GoodStep n C start T j

@@ -29,9 +29,7 @@ fn fill_steps(n: usize, coefs: &[i32], start: usize, across: &mut [u8])
     ensures others { (q : ℕ) → (q < start) ⊎ (start + n ≤ q) → get_or across.new q 0 ≡ get_or across.old q 0 }
 {
     let mut gap: u8 = 1;
-    let mut j = n;
-    while j > 0 {
-        j -= 1;
+    for j in (0..n).rev() {
         across[start + j] = gap;
         let is_nonzero = coefs[start + j] != 0;
         if is_nonzero {
@@ -61,10 +59,8 @@ fn fill_signs(n: usize, m: usize, coefs: &[i32], j: usize, start: usize, signs: 
     ensures column { (r : ℕ) → r < m → get_or signs.new (start + r) 0 ≡ sign_of (at coefs.now (r * n + j)) }
     ensures others { (q : ℕ) → (q < start) ⊎ (start + m ≤ q) → get_or signs.new q 0 ≡ get_or signs.old q 0 }
 {
-    let mut r = 0;
-    while r < m {
+    for r in 0..m {
         signs[start + r] = sign(coefs[r * n + j]);
-        r += 1;
     }
 }
 

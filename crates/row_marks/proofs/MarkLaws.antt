@@ -1,5 +1,5 @@
 -- What a row reads, and which rows stay clean when a box becomes a smaller one.
-use Prim.Native.Nat.{◌*◌, ◌+◌, ◌<◌, ◌≤◌, ℕ}
+use Prim.Native.Nat.{◌*◌, ◌+◌, ◌<◌, ℕ}
 use lib.IntN.{pos, ℤ}
 use lib.Dec.{T, eqb, eqb→eq, not_T}
 use lib.ListN.{drop, get_or}
@@ -56,18 +56,13 @@ reads_both {kind} {a} e f = go (lt-or-ge (pos 0) a) (lt-or-ge a (pos 0))
 eqb_no : {a b : ℕ} → (a ≡ b → ⊥) → eqb a b ≡ false
 eqb_no {a} {b} f = T→false (eqb a b) (not_T (eqb a b) (λ t. f (eqb→eq a b t)))
 
--- a bool as a byte
-pub byte_small : (a : Bool) → bool_byte a ≤ 1
-byte_small true = omega arith
-byte_small false = omega arith
-
 none_read : (a b d : Bool) → bool_byte a * 2 + bool_byte b + bool_byte d < 2 → (a || (b && d)) ≡ false
 none_read true b d h = absurd (let z : ⊥ = omega arith in z)
 none_read false true true h = absurd (let z : ⊥ = omega arith in z)
 none_read false true false h = refl
 none_read false false d h = refl
 
--- the sum that `kept` compares is below 2 where the row does not read the bound
+-- a bool counts as a byte: the sum that `kept` compares is below 2 where the row does not read the bound
 pub reads-not : (kind s bound : ℕ) → bool_byte (eqb s bound) * 2 + bool_byte (eqb kind 1) + bool_byte (not (eqb s 3)) < 2 → reads kind s bound ≡ false
 unfolding reads
 reads-not kind s bound h = none_read (eqb s bound) (eqb kind 1) (not (eqb s 3)) h

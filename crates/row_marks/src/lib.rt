@@ -3,7 +3,8 @@
 // moved that it reads (`kinded-kept`: the other bounds of a smaller box only leave more room). A ≤ row reads the lower
 // bound where its coefficient is above 0 and the upper one where it is below; an = row, by its two forms, reads both.
 // So a clean row's answer, Unchanged, is exact. A row that read a moved bound is dirty, 2; 0 is a row that was not
-// propagated yet.
+// propagated yet. A mark is a byte and no enum: `Clean` speaks of its numbers, and the loop over the marks is compiled
+// to vector instructions.
 #![tactic(auto)]
 
 ghost use Rattle.std.specs.Prelude.{false, true, ◌≡◌, ℕ, ◌*◌, ◌+◌, ◌<◌, ◌≤◌, length, get_or};
@@ -15,11 +16,7 @@ pub fn copy_marks(from: &[u8], to: &mut [u8])
     requires { length from.now ≡ length to.old }
     ensures { to.new ≡ from.now }
 {
-    let mut i = 0;
-    while i < from.len() {
-        to[i] = from[i];
-        i += 1;
-    }
+    to.copy_from_slice(from);
 }
 
 // The mark of a row that has just moved a bound: a ≤ row moves nothing when it is propagated again; an = row may.
@@ -48,10 +45,8 @@ pub fn unmark(m: usize, kinds: &[u8], signs: &[u8], start: usize, sign: u8, mark
     ensures { (r : ℕ) → r < m → get_or marks.new r 0 ≡ 1 → (get_or marks.old r 0 ≡ 1)
         × (reads (get_or kinds.now r 0) (get_or signs.now (start + r) 0) sign ≡ false) }
 {
-    let mut r = 0;
-    while r < m {
+    for r in 0..m {
         marks[r] = kept(kinds[r], signs[start + r], sign, marks[r]);
-        r += 1;
     }
 }
 
@@ -61,16 +56,9 @@ pub fn has_moved(old: &[i32], new: &[i32], j: usize) -> bool
     ensures { result ≡ false → (lower new.now j ≡ lower old.now j)
         × (upper new.now j ≡ upper old.now j) }
 {
-    if old[2 * j] != new[2 * j] {
-        return true;
-    }
-    let old_upper = old[2 * j + 1];
-    let new_upper = new[2 * j + 1];
-    let upper_moved = old_upper != new_upper;
-    if upper_moved {
-        return true;
-    }
-    false
+    let lower_moved = old[2 * j] != new[2 * j];
+    let upper_moved = old[2 * j + 1] != new[2 * j + 1];
+    lower_moved || upper_moved
 }
 
 // The next row to propagate, from r on: it is not clean. m if there is none.
@@ -78,13 +66,11 @@ pub fn next_row(m: usize, marks: &[u8], r: usize) -> usize
     requires { (r ≤ m) × (m ≤ length marks.now) }
     ensures { (r ≤ result) × (result ≤ m) × ((i : ℕ) → r ≤ i → i < result → get_or marks.now i 0 ≡ 1) }
 {
-    let mut s = r;
-    while s < m {
+    for s in r..m {
         let is_open = marks[s] != 1;
         if is_open {
             return s;
         }
-        s += 1;
     }
     m
 }
