@@ -89,6 +89,7 @@ pub fn remark(
         new.now j) }
     ensures signs { ColumnSigns n m coefs.now signs.new }
 {
+    // A `while`: the row's steps pass over the variables that it does not read.
     let mut j = 0;
     while j < n {
         if has_moved(old, new, j) {
