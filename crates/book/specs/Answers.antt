@@ -1,14 +1,13 @@
 -- What the calls answer and leave, by 01's numbers and values.
-use Rattle.std.specs.Prelude.{ℕ, eqb, ℤ, length, cond, List}
+use Rattle.std.specs.Prelude.{ℕ, eqb, ℤ, length, cond, List, Result, Ok, Err}
 use Rattle.model.specs.Checks.{first}
 use Rattle.model.specs.Model.{Model}
 use Rattle.model.specs.Rows.{Rows}
 use Rattle.book.specs.Book.{decode, encode, rows, variables}
 use Rattle.book.specs.BookChecks.{read_checks, trailer_checks, write_checks}
-use Rattle.book.specs.declared.layout.SizesAnswer.{SizesAnswer}
-use Rattle.book.specs.declared.layout.SizesAnswer.TheVariants as sizes
-use Rattle.book.specs.declared.writing.WriteAnswer.{WriteAnswer}
-use Rattle.book.specs.declared.writing.WriteAnswer.TheVariants as write
+use Rattle.model.specs.declared.refusal.Refusal.{Refusal}
+use Rattle.model.specs.Refusals.{number_of}
+use Rattle.book.specs.declared.layout.Sizes.{Sizes}
 
 -- refused by a check's number; accepted with n and m; written
 pub data Answer : Type 0 where
@@ -16,14 +15,14 @@ pub data Answer : Type 0 where
   sizes_are : ℕ → ℕ → Answer
   written : Answer
 
--- what the enums of the code stand for; each is injective (`sizes-injective`, `write-injective`)
-unfoldable pub sizes_answer : SizesAnswer → Answer
-sizes_answer (sizes.Refused number) = refused number
-sizes_answer (sizes.Sizes n m) = sizes_are n m
+-- what the results of the code stand for; each is injective (`sizes-injective`, `write-injective`)
+unfoldable pub sizes_answer : Result Sizes Refusal → Answer
+sizes_answer (Err r) = refused (number_of r)
+sizes_answer (Ok s) = sizes_are s.n s.m
 
-unfoldable pub write_answer : WriteAnswer → Answer
-write_answer (write.Refused number) = refused number
-write_answer write.Written = written
+unfoldable pub write_answer : Result (Unit {0}) Refusal → Answer
+write_answer (Err r) = refused (number_of r)
+write_answer (Ok x) = written
 
 -- refused where a check fails, else a
 unfoldable pub unless : ℕ → Answer → Answer

@@ -4,11 +4,13 @@ ghost use Rattle.model.specs.Checks.{first};
 ghost use Rattle.book.specs.Answers.{sizes_answer, trailer_call};
 ghost use Rattle.book.specs.Book.{book_length, row_place, trailer_bytes, trailer_of, variables, rows};
 ghost use Rattle.little_endian.specs.Bytes.{number_at};
+ghost use Rattle.model.specs.Refusals.{fault_of};
 ghost use Rattle.model.specs.Limits.{max_rows, max_variables};
 ghost use Rattle.book.specs.BookChecks.{given_length_checks, head_checks, layout_checks};
 
 use little_endian::{read_u16, read_u32, write_u16, write_u32};
-use model_checks::size_fault;
+use model::refusal::Refusal;
+use model_checks::check_size;
 
 pub const TRAILER: usize = 16;
 
@@ -17,11 +19,11 @@ pub const VARIABLES: usize = 8;
 
 pub const ROWS: usize = 10;
 
-#[derive(Clone, Copy)]
-pub enum SizesAnswer {
-    // By the number of the first check that fails.
-    Refused(u32),
-    Sizes { n: usize, m: usize },
+// How many variables and how many rows a model has.
+#[derive(Clone, Copy, PartialEq, Eq)]
+pub struct Sizes {
+    pub n: usize,
+    pub m: usize,
 }
 
 // n and m as the trailer's bytes say them.
@@ -63,77 +65,67 @@ pub fn book_length(n: usize, m: usize) -> usize
     row_place(n, m) + TRAILER
 }
 
-// Checks 3 and 4 of the trailer's bytes: the number of the first that fails, else 0.
-fn layout_fault(trailer: &[u8]) -> u32
+// Checks 3 and 4 of the trailer's bytes: refused by the first that fails.
+fn check_layout(trailer: &[u8]) -> Result<(), Refusal>
     requires { 16 ≤ length trailer.now }
-    ensures { result ≡ first (layout_checks trailer.now) }
+    ensures { fault_of result ≡ first (layout_checks trailer.now) }
 {
     let n = variables_of(trailer);
     let m = rows_of(trailer);
-    let size = size_fault(n, m);
-    if size != 0 {
-        return size;
-    }
+    check_size(n, m)?;
     if read_u32(trailer, 0) != 0 {
-        return 4;
+        return Err(Refusal::BookLayout);
     }
     if read_u32(trailer, 4) as usize != 8 * n {
-        return 4;
+        return Err(Refusal::BookLayout);
     }
     if read_u32(trailer, 12) as usize != book_length(n, m) {
-        return 4;
+        return Err(Refusal::BookLayout);
     }
-    0
+    Ok(())
 }
 
-// Check 2: 2 where the length that the trailer gives is not the book's, else 0.
-pub fn given_length_fault(trailer: &[u8], len: usize) -> u32
+// Check 2: refused where the length that the trailer gives is not the book's.
+pub fn check_given_length(trailer: &[u8], len: usize) -> Result<(), Refusal>
     requires { 16 ≤ length trailer.now }
-    ensures { result ≡ first (given_length_checks trailer.now len) }
+    ensures { fault_of result ≡ first (given_length_checks trailer.now len) }
 {
     if read_u32(trailer, 12) as usize != len {
-        return 2;
+        return Err(Refusal::BookLength);
     }
-    0
+    Ok(())
 }
 
-// Checks 1 to 4 of a book: the number of the first that fails, else 0.
-pub fn head_fault(book: &[u8]) -> u32
-    ensures { result ≡ first (head_checks book.now) }
+// Checks 1 to 4 of a book: refused by the first that fails.
+pub fn check_head(book: &[u8]) -> Result<(), Refusal>
+    ensures { fault_of result ≡ first (head_checks book.now) }
 {
     let len = book.len();
     if len < TRAILER {
-        return 1;
+        return Err(Refusal::ShortBook);
     }
     let trailer = &book[len - TRAILER..];
-    let given = given_length_fault(trailer, len);
-    let layout = layout_fault(trailer);
-    let is_refused = given != 0;
-    if is_refused {
-        return given;
-    }
-    layout
+    check_given_length(trailer, len)?;
+    check_layout(trailer)
 }
 
 // n and m of the 16 trailer bytes alone. Refused by 1, more than 16 bytes by 5, then 3 and 4.
-pub fn trailer(bytes: &[u8]) -> SizesAnswer
+pub fn trailer(bytes: &[u8]) -> Result<Sizes, Refusal>
     ensures { sizes_answer result ≡ trailer_call bytes.now }
 {
-    if bytes.len() < TRAILER {
-        return SizesAnswer::Refused(1);
+    let is_short = bytes.len() < TRAILER;
+    if is_short {
+        return Err(Refusal::ShortBook);
     }
     let is_longer = TRAILER < bytes.len();
     if is_longer {
-        return SizesAnswer::Refused(5);
+        return Err(Refusal::BufferLength);
     }
-    let fault = layout_fault(bytes);
-    if fault != 0 {
-        return SizesAnswer::Refused(fault);
-    }
-    SizesAnswer::Sizes {
+    check_layout(bytes)?;
+    Ok(Sizes {
         n: variables_of(bytes),
         m: rows_of(bytes),
-    }
+    })
 }
 
 // Writes the trailer of a book of n variables, m rows and len bytes.

@@ -8,6 +8,5 @@
 #![tactic(auto)]
 
 pub mod layout;
-pub mod writing;
 
-pub use layout::{SizesAnswer, trailer};
+pub use layout::{Sizes, trailer};
