@@ -1,5 +1,6 @@
 -- How a call counts, behind the enums that the code returns.
 use Rattle.std.specs.Prelude.{eqb, cond}
+use Rattle.model.specs.Refusals.{number_of}
 use Rattle.row.specs.Outcome.{Outcome, changed, infeasible, unchanged}
 use Rattle.semantics.specs.Run as runs
 use Rattle.propagation.specs.declared.Propagation.{Propagation}
@@ -9,7 +10,7 @@ use Rattle.call.specs.declared.CallClass.{CallClass}
 use Rattle.call.specs.declared.CallClass.TheVariants.{Refused, Infeasible, Changed, Unchanged}
 
 unfoldable pub class_is : CallClass → runs.CallClass
-class_is (Refused number) = runs.refused_call number
+class_is (Refused r) = runs.refused_call (number_of r)
 class_is Infeasible = runs.infeasible_call
 class_is Changed = runs.changed_call
 class_is Unchanged = runs.unchanged_call

@@ -6,6 +6,7 @@ ghost use Rattle.row.specs.Answers.{propagated_row_of, removal_outcome, tighteni
 ghost use Rattle.semantics.specs.Run.{count_call};
 ghost use Rattle.call.specs.Classes.{class_is, counts_of, outcome_class, propagation_class};
 
+use model::refusal::Refusal;
 use propagation::Propagation;
 use row::propagation::RowPropagation;
 use row::redundancy::RowRemoval;
@@ -34,10 +35,10 @@ pub const TIGHTEN_COEFFICIENT: u32 = 4;
 // 01's drop.
 pub const REMOVE_ROW: u32 = 5;
 
-// How a call counts: 01's refused, with the number of the check, None, changed (a bound, row or table byte), unchanged.
+// How a call counts: 01's refused, by which check, None, changed (a bound, row or table byte), unchanged.
 #[derive(Clone, Copy)]
 pub enum CallClass {
-    Refused(u32),
+    Refused(Refusal),
     Infeasible,
     Changed,
     Unchanged,
