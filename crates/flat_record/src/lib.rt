@@ -5,14 +5,16 @@
 ghost use Rattle.std.specs.Prelude.{◌≡◌, ◌/◌, ◌<◌, length, set};
 ghost use Rattle.call.specs.Calls.{call_on};
 ghost use Rattle.call.specs.Classes.{class_is};
+ghost use Rattle.model.specs.Refusals.{fault_of};
 ghost use Rattle.model.specs.Rows.{rows_of};
 ghost use Rattle.model.specs.State.{State, state_of};
 ghost use Rattle.semantics.specs.CallList.{list_fault, record_at};
 ghost use Rattle.flat_record.specs.Classes.{class_byte, classes_fault};
 
+use model::refusal::Refusal;
 use buffer_checks::is_product;
 use call::{Call, CallClass};
-use model_checks::model_table_fault;
+use model_checks::check_model_with_table;
 
 // The bytes of the classes: the places of their counts in the answer.
 const REFUSED: u8 = 0;
@@ -62,7 +64,7 @@ pub fn record_at(calls: &[u32], i: usize) -> Call
 
 // The number by which a list is refused as a whole, 0 where it is run: the model's checks, 5 of its own length too, and
 // 10.
-pub fn list_fault(
+pub fn check_list(
     n: usize,
     m: usize,
     bounds: &[i32],
@@ -71,16 +73,16 @@ pub fn list_fault(
     kinds: &[u8],
     table: &[u8],
     calls: &[u32],
-) -> u32
+) -> Result<(), Refusal>
     ensures { let A = rows_of coefs.now rhs.now kinds.now in
         let s = state_of n m bounds.now A table.now in
-        result ≡ list_fault s calls.now }
+        fault_of result ≡ list_fault s calls.now }
 {
-    model_table_fault(n, m, bounds, coefs, rhs, kinds, table, calls.len() % 4 == 0)
+    check_model_with_table(n, m, bounds, coefs, rhs, kinds, table, calls.len() % 4 == 0)
 }
 
 // As `list_fault`; by 5 too where not a byte is lent for each record of four numbers.
-pub fn classes_fault(
+pub fn check_classes(
     n: usize,
     m: usize,
     bounds: &[i32],
@@ -90,11 +92,11 @@ pub fn classes_fault(
     table: &[u8],
     calls: &[u32],
     classes: &[u8],
-) -> u32
+) -> Result<(), Refusal>
     ensures { let A = rows_of coefs.now rhs.now kinds.now in
         let s = state_of n m bounds.now A table.now in
-        result ≡ classes_fault s calls.now classes.now }
+        fault_of result ≡ classes_fault s calls.now classes.now }
 {
     let fits = is_product(calls.len(), 4, classes.len());
-    model_table_fault(n, m, bounds, coefs, rhs, kinds, table, fits)
+    check_model_with_table(n, m, bounds, coefs, rhs, kinds, table, fits)
 }

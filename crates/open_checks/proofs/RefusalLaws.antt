@@ -2,7 +2,7 @@
 use Prim.Native.Nat.{ℕ}
 use lib.Dec.{T, eqb}
 use lib.IntN.{ℤ}
-use mathlib.Core.Bool.{cond, false, not, true}
+use mathlib.Core.Bool.{cond, not, true}
 use mathlib.Core.List.{List, []}
 use mathlib.Core.Path.{◌∙◌, ◌≡◌, refl, sym}
 use Rattle.integer.proofs.Tests.{T→false, eqb-test, test-false, test-true}

@@ -5,13 +5,15 @@
 ghost use Rattle.std.specs.Prelude.{[], ◌≡◌};
 ghost use Rattle.semantics.specs.CallChecks.{call_fault};
 ghost use Rattle.semantics.specs.Call.{call_of};
+ghost use Rattle.model.specs.Refusals.{fault_of};
 ghost use Rattle.model.specs.Rows.{rows_of};
 ghost use Rattle.model.specs.State.{state_of};
 
-use call::checks::{budget_fault, probe_fields_fault, row_fault, tightening_fields_fault};
+use call::checks::{check_budget, check_probe_fields, check_row, check_tightening_fields};
+use model::refusal::Refusal;
 
 // The number by which a call that has a row alone (01's visit and drop) is refused, 0 where it is accepted.
-pub fn row_call_fault(
+pub fn check_row_call(
     n: usize,
     m: usize,
     bounds: &[i32],
@@ -19,23 +21,20 @@ pub fn row_call_fault(
     rhs: &[i32],
     kinds: &[u8],
     row: u32,
-) -> u32
+) -> Result<(), Refusal>
     ensures propagated { let A = rows_of coefs.now rhs.now kinds.now in
         let s = state_of n m bounds.now A [] in
-        result ≡ call_fault s (call_of s 1 row 0 0) }
+        fault_of result ≡ call_fault s (call_of s 1 row 0 0) }
     ensures removed { let A = rows_of coefs.now rhs.now kinds.now in
         let s = state_of n m bounds.now A [] in
-        result ≡ call_fault s (call_of s 5 row 0 0) }
+        fault_of result ≡ call_fault s (call_of s 5 row 0 0) }
 {
-    let fault = model_checks::model_fault(n, m, bounds, coefs, rhs, kinds, true);
-    if fault != 0 {
-        return fault;
-    }
-    row_fault(m, row)
+    model_checks::check_model(n, m, bounds, coefs, rhs, kinds, true)?;
+    check_row(m, row)
 }
 
 // The same of a propagation of all rows (01's settle), which has a budget alone.
-pub fn propagation_fault(
+pub fn check_propagation(
     n: usize,
     m: usize,
     bounds: &[i32],
@@ -43,20 +42,17 @@ pub fn propagation_fault(
     rhs: &[i32],
     kinds: &[u8],
     budget: u32,
-) -> u32
+) -> Result<(), Refusal>
     ensures { let A = rows_of coefs.now rhs.now kinds.now in
         let s = state_of n m bounds.now A [] in
-        result ≡ call_fault s (call_of s 2 0 0 budget) }
+        fault_of result ≡ call_fault s (call_of s 2 0 0 budget) }
 {
-    let fault = model_checks::model_fault(n, m, bounds, coefs, rhs, kinds, true);
-    if fault != 0 {
-        return fault;
-    }
-    budget_fault(budget)
+    model_checks::check_model(n, m, bounds, coefs, rhs, kinds, true)?;
+    check_budget(budget)
 }
 
 // The same of a coefficient tightening (01's sharpen).
-pub fn tightening_fault(
+pub fn check_tightening(
     n: usize,
     m: usize,
     bounds: &[i32],
@@ -65,20 +61,17 @@ pub fn tightening_fault(
     kinds: &[u8],
     row: u32,
     variable: u32,
-) -> u32
+) -> Result<(), Refusal>
     ensures { let A = rows_of coefs.now rhs.now kinds.now in
         let s = state_of n m bounds.now A [] in
-        result ≡ call_fault s (call_of s 4 row variable 0) }
+        fault_of result ≡ call_fault s (call_of s 4 row variable 0) }
 {
-    let fault = model_checks::model_fault(n, m, bounds, coefs, rhs, kinds, true);
-    if fault != 0 {
-        return fault;
-    }
-    tightening_fields_fault(n, m, bounds, row, variable)
+    model_checks::check_model(n, m, bounds, coefs, rhs, kinds, true)?;
+    check_tightening_fields(n, m, bounds, row, variable)
 }
 
 // The same of a probe, which is lent a table.
-pub fn probe_fault(
+pub fn check_probe(
     n: usize,
     m: usize,
     bounds: &[i32],
@@ -88,14 +81,11 @@ pub fn probe_fault(
     table: &[u8],
     variable: u32,
     budget: u32,
-) -> u32
+) -> Result<(), Refusal>
     ensures { let A = rows_of coefs.now rhs.now kinds.now in
         let s = state_of n m bounds.now A table.now in
-        result ≡ call_fault s (call_of s 3 0 variable budget) }
+        fault_of result ≡ call_fault s (call_of s 3 0 variable budget) }
 {
-    let fault = model_checks::model_table_fault(n, m, bounds, coefs, rhs, kinds, table, true);
-    if fault != 0 {
-        return fault;
-    }
-    probe_fields_fault(n, bounds, variable, budget)
+    model_checks::check_model_with_table(n, m, bounds, coefs, rhs, kinds, table, true)?;
+    check_probe_fields(n, bounds, variable, budget)
 }
