@@ -14,14 +14,11 @@ pub fn next_row(m: usize, set: &[u32], r: usize) -> usize
     ensures { (r ≤ result) × (result ≤ m) × ((i : ℕ) → r ≤ i → i < result → bit_at set.now i ≡ 0) }
 {
     let mut s = r;
+    // From word to word, whose rows are many: the step is not 1.
     while s < m {
         let x = set[s / 32] >> (s % 32);
         if x != 0 {
-            let t = s + (u32::trailing_zeros(x) as usize);
-            if t < m {
-                return t;
-            }
-            return m;
+            return m.min(s + x.trailing_zeros() as usize);
         }
         s = (s / 32 + 1) * 32;
     }
@@ -34,10 +31,8 @@ pub fn add(more: &[u32], set: &mut [u32])
     ensures { (r : ℕ) → r < 128 → bit_at set.new r
         ≡ max (bit_at set.old r) (bit_at more.now r) }
 {
-    let mut i = 0;
-    while i < SET_WORDS {
+    for i in 0..SET_WORDS {
         set[i] |= more[i];
-        i += 1;
     }
 }
 
