@@ -81,11 +81,7 @@ pub fn put(numbers: &[u32], place: usize, ws: &mut [u32])
     ensures numbers { take (length numbers.now) (drop place ws.new) ≡ numbers.now }
     ensures others { SameBut place (place + length numbers.now) ws.old ws.new }
 {
-    let mut i = 0;
-    while i < numbers.len() {
-        ws[place + i] = numbers[i];
-        i += 1;
-    }
+    ws[place..place + numbers.len()].copy_from_slice(numbers);
 }
 
 // Keeps the rows to look at.
@@ -112,9 +108,7 @@ pub fn keep_box(bounds: &[i32], ws: &mut [u32])
     ensures kept { (n : ℕ) → length bounds.now ≡ 2 * n → box_in n ws.new ≡ bounds.now }
     ensures others { SameBut 8 264 ws.old ws.new }
 {
-    let mut i = 0;
-    while i < bounds.len() {
-        ws[BOX_AT + i] = raised(bounds[i], RAISE);
-        i += 1;
+    for (i, &bound) in bounds.iter().enumerate() {
+        ws[BOX_AT + i] = raised(bound, RAISE);
     }
 }
