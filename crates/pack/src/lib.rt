@@ -24,10 +24,8 @@ fn pack_row(coefs: &[i32], place: usize, ws: &mut [u32])
         coefs_from (take (length C) (drop place ws.new)) 0 ≡ C }
     ensures others { SameBut place (place + length coefs.now) ws.old ws.new }
 {
-    let mut zeros: u32 = 0;
-    let mut j = coefs.len();
-    while j > 0 {
-        j -= 1;
+    let mut zeros = 0;
+    for j in (0..coefs.len()).rev() {
         let a = coefs[j];
         ws[place + j] = raised(a, MAX_COEF) * 128 + zeros;
         if a != 0 {
@@ -45,10 +43,8 @@ pub fn pack_rows(n: usize, m: usize, coefs: &[i32], ws: &mut [u32])
     ensures rows { (r : ℕ) → r < m → coefs_from (row_words n ws.new r) 0 ≡ row_of n coefs.now r }
     ensures others { SameBut 1_408 16_768 ws.old ws.new }
 {
-    let mut r = 0;
-    while r < m {
+    for r in 0..m {
         pack_row(coefficients(n, coefs, r), ROWS_AT + r * n, ws);
-        r += 1;
     }
 }
 
@@ -60,9 +56,7 @@ pub fn pack_rhs(m: usize, rhs: &[i32], kinds: &[u8], ws: &mut [u32])
         × (rhs_word_of ws.new r % 2 ≡ get_or kinds.now r 0) }
     ensures others { SameBut 264 384 ws.old ws.new }
 {
-    let mut r = 0;
-    while r < m {
-        ws[RHS_AT + r] = raised(rhs[r], MAX_RHS) * 2 + (kinds[r] as u32);
-        r += 1;
+    for r in 0..m {
+        ws[RHS_AT + r] = raised(rhs[r], MAX_RHS) * 2 + u32::from(kinds[r]);
     }
 }
