@@ -52,10 +52,8 @@ fn gather(
         × (length rise.old ≡ 4) × (length fall.old ≡ 4) }
     ensures { Column n m coefs.now kinds.now j rise.new fall.new }
 {
-    let mut r = 0;
-    while r < m {
+    for r in 0..m {
         hear(kinds[r], coefs[r * n + j], r, rise, fall);
-        r += 1;
     }
 }
 
@@ -82,9 +80,7 @@ pub fn write_columns(n: usize, m: usize, coefs: &[i32], kinds: &[u8], ws: &mut [
         ((j : ℕ) → j < n → Column n m coefs.now kinds.now j (rise_of W j) (fall_of W j)) }
     ensures others { SameBut 384 1_408 ws.old ws.new }
 {
-    let mut j = 0;
-    while j < n {
+    for j in 0..n {
         write_column(n, m, coefs, kinds, j, ws);
-        j += 1;
     }
 }

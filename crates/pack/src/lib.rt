@@ -24,7 +24,7 @@ fn pack_row(coefs: &[i32], place: usize, ws: &mut [u32])
         coefs_from (take (length C) (drop place ws.new)) 0 ≡ C }
     ensures others { SameBut place (place + length coefs.now) ws.old ws.new }
 {
-    let mut zeros = 0;
+    let mut zeros: u32 = 0;
     for j in (0..coefs.len()).rev() {
         let a = coefs[j];
         ws[place + j] = raised(a, MAX_COEF) * 128 + zeros;
