@@ -1,14 +1,13 @@
 -- What the checks of the two calls say, and what follows where none fails. By the laws of checks in turn.
 use Prim.Native.Nat.{◌*◌, ◌<◌, ◌≤◌, ℕ}
-use lib.Dec.{T, eqb}
+use lib.Dec.{T}
 use lib.IntN.{ℤ}
 use lib.ListN.{length}
-use mathlib.Core.List.{List, ◌++◌, ◌∷◌}
-use mathlib.Core.Path.{◌∙◌, ◌≡◌, ap, sym}
-use native.Mathlib.Omega.{arith}
+use mathlib.Core.List.{List}
+use mathlib.Core.Path.{◌≡◌}
 use Rattle.integer.proofs.Parts.{zarith}
 use Rattle.integer.proofs.Tests.{eqb-test}
-use Rattle.model.specs.Checks.{Check, box_checks, first, must, size_checks, table, table_byte_checks, table_length_checks}
+use Rattle.model.specs.Checks.{box_checks, first, size_checks, table, table_byte_checks, table_length_checks}
 use Rattle.model.specs.Limits.{max_bound, max_variables, min_bound}
 use Rattle.model.specs.Places.{place}
 use Rattle.model.proofs.PlaceLaws.{placed_from}

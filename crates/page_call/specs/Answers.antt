@@ -1,13 +1,11 @@
 -- What the two calls answer, and the lent buffer afterwards (02, C-23: "One call tells the number of pages; another writes them, ..,
 -- into a lent buffer of 4,860 bytes for each page").
-use Rattle.std.specs.Prelude.{ℕ, eqb, ℤ, length, cond, List}
+use Rattle.std.specs.Prelude.{ℕ, eqb, ℤ, length, cond, List, Result, Ok, Err}
 use Rattle.model.specs.Checks.{first}
 use Rattle.pages.specs.Page.{page_count, pages}
 use Rattle.pages.specs.PageChecks.{count_checks, page_checks}
-use Rattle.page_call.specs.declared.open.CountAnswer.{CountAnswer}
-use Rattle.page_call.specs.declared.open.CountAnswer.TheVariants as counts
-use Rattle.page_call.specs.declared.open.PagesAnswer.{PagesAnswer}
-use Rattle.page_call.specs.declared.open.PagesAnswer.TheVariants as writes
+use Rattle.model.specs.declared.refusal.Refusal.{Refusal}
+use Rattle.model.specs.Refusals.{number_of}
 
 -- refused by a check's number; the number of pages; the pages are written
 pub data Answer : Type 0 where
@@ -15,14 +13,14 @@ pub data Answer : Type 0 where
   pages_are : ℕ → Answer
   written : Answer
 
--- what the enums of the code stand for; each is injective (`page-answers-injective`)
-unfoldable pub count_answer : CountAnswer → Answer
-count_answer (counts.Refused number) = refused number
-count_answer (counts.Pages number) = pages_are number
+-- what the results of the code stand for; each is injective (`count-injective`, `pages-injective`)
+unfoldable pub count_answer : Result ℕ Refusal → Answer
+count_answer (Ok number) = pages_are number
+count_answer (Err r) = refused (number_of r)
 
-unfoldable pub pages_answer : PagesAnswer → Answer
-pages_answer (writes.Refused number) = refused number
-pages_answer writes.Written = written
+unfoldable pub pages_answer : Result (Unit {0}) Refusal → Answer
+pages_answer (Ok x) = written
+pages_answer (Err r) = refused (number_of r)
 
 -- refused where a check fails, else a
 unfoldable pub unless : ℕ → Answer → Answer

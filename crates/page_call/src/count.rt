@@ -13,15 +13,7 @@ const LITERALS: usize = 8;
 fn ones(part: &[u8]) -> usize
     ensures { result ≡ length (ones_from part.now 0) }
 {
-    let mut count = 0;
-    let mut q = 0;
-    while q < part.len() {
-        if part[q] == 1 {
-            count += 1;
-        }
-        q += 1;
-    }
-    count
+    part.iter().filter(|b| **b == 1).count()
 }
 
 // The lines after the first of a variable whose part of the table this is: one for every eight literals after the
@@ -43,12 +35,10 @@ fn content_lines(n: usize, table: &[u8]) -> usize
     ensures { result ≡ line_total n table.now }
 {
     let mut lines = 0;
-    let mut k = 0;
-    while k < n {
+    for k in 0..n {
         let start = (2 * k + 1) * (2 * n);
         let stop = start + 2 * n;
         lines += 1 + further_lines(&table[start..stop]);
-        k += 1;
     }
     lines
 }

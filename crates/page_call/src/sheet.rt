@@ -22,10 +22,8 @@ fn write_variable(k: usize, l: i32, u: i32, part: &[u8], line: usize, buf: &mut 
 {
     let further = further_lines(part);
     let mut q = write_first(k, l, u, part, line, buf);
-    let mut i = 0;
-    while i < further {
+    for i in 0..further {
         q = write_further(part, q, line + 1 + i, buf);
-        i += 1;
     }
     line + 1 + further
 }
@@ -38,10 +36,8 @@ fn fill_page(line: usize, buf: &mut [u8])
         Wrote buf.old (start line) text (start (filled line)) buf.new }
 {
     let end = CONTENT * ((line + (CONTENT - 1)) / CONTENT);
-    let mut next = line;
-    while next < end {
+    for next in line..end {
         write_empty(next, buf);
-        next += 1;
     }
 }
 
@@ -53,8 +49,7 @@ pub fn write_all(n: usize, bounds: &[i32], table: &[u8], buf: &mut [u8])
     ensures { buf.new ≡ pages_of n bounds.now table.now }
 {
     let mut line = 0;
-    let mut k = 0;
-    while k < n {
+    for k in 0..n {
         let start = (2 * k + 1) * (2 * n);
         let stop = start + 2 * n;
         line = write_variable(
@@ -65,7 +60,6 @@ pub fn write_all(n: usize, bounds: &[i32], table: &[u8], buf: &mut [u8])
             line,
             buf,
         );
-        k += 1;
     }
     fill_page(line, buf);
 }
