@@ -61,10 +61,8 @@ fn keep_joined(n: usize, table: &[u8], q: usize, flags: &mut [u8])
     requires q_bound { q < 2 * n }
     ensures { flags.new ≡ kept_to (2 * n) n table.now q flags.old }
 {
-    let mut r = 0;
-    while r < 2 * n {
+    for r in 0..2 * n {
         flags[r] = still(n, table, flags[r], r, q);
-        r += 1;
     }
 }
 
@@ -97,14 +95,12 @@ pub fn grow(n: usize, table: &[u8], p: usize, flags: &mut [u8], row: &mut [i32])
     take(n, table, p, flags, row);
     let mut size: usize = 1;
     let mut zeros: usize = 1 - p % 2;
-    let mut i = 0;
-    while i < 2 * n {
+    for i in 0..2 * n {
         if flags[i] == 1 {
             take(n, table, i, flags, row);
             size += 1;
             zeros += 1 - i % 2;
         }
-        i += 1;
     }
     Grown { size, zeros }
 }

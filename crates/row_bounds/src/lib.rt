@@ -84,12 +84,10 @@ pub fn tighten_bounds(coefs: &[i32], sign: i32, b: i64, least: i64, bounds: &mut
         result ≡ moved_bounds (length A) B (implied_box (length A) (signed sign A) b least B) }
 {
     let mut moved: u32 = 0;
-    let mut j: usize = 0;
-    while j < coefs.len() {
-        if tighten_bounds_at(sign * coefs[j], b, least, bounds, j) {
+    for (j, &a) in coefs.iter().enumerate() {
+        if tighten_bounds_at(sign * a, b, least, bounds, j) {
             moved += 1;
         }
-        j += 1;
     }
     moved
 }

@@ -20,13 +20,11 @@ fn clear(xs: &mut [i32]) -> bool
     ensures changed { result ≡ not (same_list xs.old (zero_row (length xs.old))) }
 {
     let mut changed = false;
-    let mut j: usize = 0;
-    while j < xs.len() {
-        if xs[j] != 0 {
-            xs[j] = 0;
+    for x in xs.iter_mut() {
+        if *x != 0 {
+            *x = 0;
             changed = true;
         }
-        j += 1;
     }
     changed
 }

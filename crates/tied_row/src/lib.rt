@@ -74,12 +74,10 @@ pub fn rows_fit(n: usize, m: usize, coefs: &[i32], rhs: &[i32], k: usize, j: usi
     requires { SmallRows n m (rows_of coefs.now rhs.now []) × ((k < n) × (j < n)) }
     ensures { result ≡ rows_fit k j w (model_of n m [] (rows_of coefs.now rhs.now [])) }
 {
-    let mut i = 0;
-    while i < m {
+    for i in 0..m {
         if !row_fits_at(n, coefs, rhs, i, k, j, w) {
             return false;
         }
-        i += 1;
     }
     true
 }
@@ -104,9 +102,7 @@ pub fn tie_rows(n: usize, m: usize, coefs: &mut [i32], rhs: &mut [i32], k: usize
     ensures rows { coefs.new ≡ tie_coefs_to m n k j w coefs.old }
     ensures rhs_tied { rhs.new ≡ tie_rhs_to m n j w coefs.old rhs.old }
 {
-    let mut i = 0;
-    while i < m {
+    for i in 0..m {
         tie_row_at(n, coefs, rhs, i, k, j, w);
-        i += 1;
     }
 }

@@ -1,10 +1,10 @@
 -- `clique_grow::is_joined`: the two bytes lie in the table, and are read as they stand. Assumes nothing.
-use Prim.Native.Nat.{◌*◌, ◌+◌, ◌<◌, ℕ}
+use Prim.Native.Nat.{◌*◌, ◌+◌, ◌<◌}
 use lib.ListN.{length}
-use mathlib.Core.Path.{◌≡◌, refl, sym}
+use mathlib.Core.Path.{sym}
 use native.Mathlib.Omega.{arith}
 use Rattle.semantics.specs.Probe.{byte_of}
-use Rattle.cliques.specs.Cliques.{joined, opposite, says, variable_of}
+use Rattle.cliques.specs.Cliques.{opposite, says, variable_of}
 use Rattle.clique_grow.proofs.CandidateLaws.{byte-lies, joined_bytes, joined-none, opposite-lt}
 use borrow.Author.Rules.{rules}
 use Rattle.clique_grow.proofs.is_joined.Statement.{statement}
