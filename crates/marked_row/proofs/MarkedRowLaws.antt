@@ -5,8 +5,8 @@ use lib.IntN.{pos, ℤ}
 use lib.Dec.{T, not_T}
 use lib.ListN.{drop, get_or, length, length-drop, set, take}
 use lib.Seq.{get_or-drop, get_or-set_other, get_or-set_same, get_or-take, length-take-le}
-use lib.Signed.{◌≤ℤ◌, ≤ℤ_refl}
-use mathlib.Core.Bool.{false, not, true, true≢false}
+use lib.Signed.{≤ℤ_refl}
+use mathlib.Core.Bool.{false, not, true≢false}
 use mathlib.Core.List.{List}
 use mathlib.Core.Path.{◌∙◌, ◌≡◌, ap, refl, sym}
 use native.Mathlib.Decide.{ℕ_discrete}

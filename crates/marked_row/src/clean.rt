@@ -82,9 +82,7 @@ pub fn find_clean(
         Clean n m A bounds.now marks.new }
     ensures steps { RowSteps n m coefs.now across.new }
 {
-    let mut r = 0;
-    while r < m {
+    for r in 0..m {
         find_clean_row(n, m, bounds, coefs, rhs, kinds, r, across, marks);
-        r += 1;
     }
 }
