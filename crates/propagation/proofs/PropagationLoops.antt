@@ -11,7 +11,7 @@ use native.Mathlib.Decide.{ℕ_discrete}
 use native.Mathlib.Numerals.{add-one}
 use native.Mathlib.Omega.{arith}
 use Rattle.integer.proofs.Parts.{zarith}
-use Rattle.model.specs.Box.{NonEmpty, at, width}
+use Rattle.model.specs.Box.{NonEmpty, width}
 use Rattle.model.specs.Rows.{Rows, row_at}
 use Rattle.model.specs.Valid.{ValidModel}
 use Rattle.model.specs.Model.{model_of}

@@ -1,17 +1,14 @@
 -- What the search for the first row that would change a box needs: what the test of a row says, and that clean rows may be passed over.
-use Prim.Native.Nat.{◌+◌, ◌<◌, ◌≤◌, ℕ}
+use Prim.Native.Nat.{◌<◌, ℕ}
 use lib.Dec.{T}
 use lib.IntN.{ℤ}
 use lib.ListN.{get_or}
 use mathlib.Core.Bool.{Bool, false, not, true}
 use mathlib.Core.List.{List}
 use mathlib.Core.Path.{◌∙◌, ◌≡◌, refl, sym}
-use native.Mathlib.Decide.{dec_lt, ℕ_discrete}
-use native.Mathlib.Omega.{arith}
 use Rattle.integer.specs.Index.{all}
-use Rattle.integer.proofs.IndexLaws.{all-at, all-i}
 use Rattle.integer.proofs.Tests.{false→T, true→T}
-use Rattle.model.specs.Box.{NonEmpty, same_list}
+use Rattle.model.specs.Box.{NonEmpty}
 use Rattle.model.specs.Rows.{Rows, row_at}
 use Rattle.model.proofs.BoxLaws.{same_list-refl, same_list→eq}
 use Rattle.row.specs.Kinds.{propagate_row_of, row_moves_of}
@@ -23,7 +20,7 @@ use Rattle.semantics.specs.FixpointTest.{first_moving, row_leaves}
 use Rattle.call_laws.proofs.LowestLaws.{lowest-all, lowest-is}
 
 module _ (n : ℕ) (A : Rows) (B : List ℤ) (h : 0 < n) (p : NonEmpty n B) where
-  row_stays : (r : ℕ) → row_moves_of n (row_at n A r) B ≡ false → T (row_leaves n A B r)
+  pub row_stays : (r : ℕ) → row_moves_of n (row_at n A r) B ≡ false → T (row_leaves n A B r)
   row_stays r e = rw (moves-none (row_at n A r) h e p) (same_list-refl B)
 
   row_moved : (r : ℕ) → row_moves_of n (row_at n A r) B ≡ true → T (not (row_leaves n A B r))
@@ -40,23 +37,9 @@ module _ (n : ℕ) (A : Rows) (B : List ℤ) (h : 0 < n) (p : NonEmpty n B) wher
   abbrev pub Passed : ℕ → Type 0
   Passed r = T (all r (row_leaves n A B))
 
-  -- and so do clean rows from r on
-  module _ (m : ℕ) {marks : List ℕ} (c : Clean n m A B marks) where
-    pub clean-passed : (r s : ℕ) → Passed r → s ≤ m → ((i : ℕ) → r ≤ i → i < s → get_or marks i 0 ≡ 1) → Passed s
-    clean-passed r s t k f = all-i s (row_leaves n A B) (λ i b. go i b (dec_lt i r))
-      where
-        go : (i : ℕ) → i < s → Dec (i < r) → T (row_leaves n A B i)
-        go i b (yes a) = all-at r (row_leaves n A B) t i a
-        go i b (no a) = rw (c.same p i (omega arith) (f i (omega arith) b)) (same_list-refl B)
-
-    -- row r, which was tested, leaves it too
-    pub tested-passed : (r s : ℕ) → Passed r → r < m → row_moves_of n (row_at n A r) B ≡ false → s ≤ m
-        → ((i : ℕ) → r + 1 ≤ i → i < s → get_or marks i 0 ≡ 1) → Passed s
-    tested-passed r s t b e = clean-passed (r + 1) s (all-i (r + 1) (row_leaves n A B) (λ i k. go i k (ℕ_discrete i r)))
-      where
-        go : (i : ℕ) → i < r + 1 → Dec (i ≡ r) → T (row_leaves n A B i)
-        go i k (yes d) = rw d (row_stays r e)
-        go i k (no d) = all-at r (row_leaves n A B) t i (omega arith)
+  -- a clean row leaves it
+  pub clean_stays : (m : ℕ) {marks : List ℕ} → Clean n m A B marks → (r : ℕ) → r < m → get_or marks r 0 ≡ 1 → T (row_leaves n A B r)
+  clean_stays m c r k f = rw (c.same p r k f) (same_list-refl B)
 
   -- the search ends at the first row that moves a bound, or at m
   pub found : (m r : ℕ) → r < m → Passed r → row_moves_of n (row_at n A r) B ≡ true → r ≡ first_moving n m A B

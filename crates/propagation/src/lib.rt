@@ -18,6 +18,7 @@ pub enum Propagation {
 }
 
 // The bounds that the rows of a propagation have moved so far, by value (02: "carries that sum for each side").
+// A struct by value and its method, not a number: the form that docs/DECISIONS.md ("Language forms by place") names.
 #[derive(Clone, Copy)]
 pub struct Tally {
     pub moved: u32,

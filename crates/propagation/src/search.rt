@@ -12,7 +12,6 @@ ghost use Rattle.propagation.specs.Results.{propagation_of};
 
 use crate::Propagation;
 use matrix_row::row_moves_at;
-use row_marks::next_row;
 
 // The lowest row whose propagation changes the box, m if there is none. Rows that are marked clean are passed over.
 pub fn first_moving(
@@ -30,12 +29,14 @@ pub fn first_moving(
     ensures { let A = rows_of coefs.now rhs.now kinds.now in
         result ≡ first_moving n m A bounds.now }
 {
-    let mut r = next_row(m, marks, 0);
-    while r < m {
+    for r in 0..m {
+        let is_clean = marks[r] == 1;
+        if is_clean {
+            continue;
+        }
         if row_moves_at(n, coefs, rhs, kinds, r, bounds) {
             return r;
         }
-        r = next_row(m, marks, r + 1);
     }
     m
 }

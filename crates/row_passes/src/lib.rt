@@ -22,7 +22,8 @@ use row_marks::next_row;
 
 // Propagates the rows by what is known of them: their index, and which of them are clean. The passes are left by their
 // label at the first row that is infeasible, which leaves the empty box; that pass counts as made. Where the budget's
-// passes are made, a last look decides whether it is spent.
+// passes are made, a last look decides whether it is spent. The nested `while`s with labels, and the tally by value, are
+// the forms that docs/DECISIONS.md ("Language forms by place") names.
 pub fn propagate_marked(
     n: usize,
     m: usize,
