@@ -26,9 +26,7 @@ pub fn first_outside(n: usize, bounds: &[i32], x: &[i32]) -> usize
     requires x_len { length x.now ≡ n }
     ensures { result ≡ lowest n (in_bounds bounds.now x.now) }
 {
-    let mut j = 0;
-    while j < n {
-        let number = x[j];
+    for (j, &number) in x.iter().enumerate() {
         let low = bounds[2 * j];
         let high = bounds[2 * j + 1];
         if number < low {
@@ -37,7 +35,6 @@ pub fn first_outside(n: usize, bounds: &[i32], x: &[i32]) -> usize
         if high < number {
             return j;
         }
-        j += 1;
     }
     n
 }
@@ -50,6 +47,7 @@ fn value_at(coefs: &[i32], steps: &[u8], x: &[i32]) -> i64
 {
     let mut sum: i64 = 0;
     let mut j: usize = 0;
+    // No `for`: a turn goes on to the row's next coefficient that is not 0 (`Steps`), not to the next place.
     while j < coefs.len() {
         sum += (coefs[j] as i64) * (x[j] as i64);
         j += steps[j] as usize;
