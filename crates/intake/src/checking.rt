@@ -6,8 +6,9 @@ ghost use Rattle.little_endian.specs.Bytes.{byte_count};
 ghost use Rattle.intake.specs.Intake.{last_bytes};
 ghost use Rattle.intake.specs.Checks.{SizedBook, TooLong, head_call, input_call, too_long};
 
-use book::{SizesAnswer, trailer};
+use book::{Sizes, trailer};
 use little_endian::BYTE;
+use model::refusal::Refusal;
 
 const TRAILER: usize = 16;
 
@@ -29,22 +30,22 @@ fn length_given(tail: &[u8]) -> usize
 }
 
 // n and m of an input of `len` bytes that ends in `tail`. Refused by 1 to 4, and by 5 where `tail` has not 16 bytes.
-pub fn sizes(tail: &[u8], len: usize) -> SizesAnswer
+pub fn sizes(tail: &[u8], len: usize) -> Result<Sizes, Refusal>
     ensures answer { sizes_answer result ≡ input_call tail.now len }
     ensures right { (bs : List ℕ) → len ≡ length bs → tail.now ≡ last_bytes bs → sizes_answer result ≡ head_call bs }
     ensures sized { (n m : ℕ) → sizes_answer result ≡ sizes_are n m → SizedBook n m len }
 {
     let is_short = len < TRAILER;
     if is_short {
-        return SizesAnswer::Refused(1);
+        return Err(Refusal::ShortBook);
     }
     if tail.len() != TRAILER {
-        return SizesAnswer::Refused(5);
+        return Err(Refusal::BufferLength);
     }
     let given = length_given(tail);
     let is_other = given != len;
     if is_other {
-        return SizesAnswer::Refused(2);
+        return Err(Refusal::BookLength);
     }
     trailer(tail)
 }

@@ -9,26 +9,20 @@ fn store(start: &mut [u8], at: usize, piece: &[u8])
     ensures { let bs = piece.now in
         start.new ≡ paste start.old at bs (length bs) }
 {
-    let mut i = 0;
-    while i < piece.len() {
-        start[at + i] = piece[i];
-        i += 1;
-    }
+    start[at..at + piece.len()].copy_from_slice(piece);
 }
 
 // Shifts the piece in at the end of `tail`, and as many bytes out at its start.
 fn shift_in(tail: &mut [u8], piece: &[u8])
     ensures { tail.new ≡ shifted tail.old piece.now }
 {
-    let mut i = 0;
-    while i < tail.len() {
+    for i in 0..tail.len() {
         let left = tail.len() - i;
         if piece.len() < left {
             tail[i] = tail[i + piece.len()];
         } else {
             tail[i] = piece[piece.len() - left];
         }
-        i += 1;
     }
 }
 
