@@ -1,33 +1,36 @@
 // Standard output. `printed` counts the bytes that were written: so a contract can say that a text is printed once, and
 // whole. A write that fails is told on standard error.
-ghost use Rattle.std.specs.Prelude.{true, ◌≡◌, ◌+◌, ◌<◌, length};
+ghost use Rattle.std.specs.Prelude.{◌≡◌, ◌+◌, ◌<◌, OnOk, length};
+ghost use Rattle.model.specs.Refusals.{number_of};
 ghost use Rattle.report.specs.Report.{refused_line};
 
+use model::refusal::Refusal;
 use report_line::write_refused;
+use std::io;
 
-// Whether the whole text was written.
-pub fn print(rt: &(impl Print + Eprint), text: &[u8], printed: &mut usize) -> bool
+// Ok where the whole text was written.
+pub fn print(rt: &(impl Print + Eprint), text: &[u8], printed: &mut usize) -> io::Result<()>
     requires { printed.old + length text.now < 18_446_744_073_709_551_616 }
-    ensures { result ≡ true → printed.new ≡ printed.old + length text.now }
+    ensures { OnOk result (printed.new ≡ printed.old + length text.now) }
 {
     match rt.write_all(text) {
         Ok(()) => {
-            *printed = *printed + text.len();
-            true
+            *printed += text.len();
+            Ok(())
         }
         Err(error) => {
             let _ = eprintln!(rt; "standard output: {error}");
-            false
+            Err(error)
         }
     }
 }
 
 // Prints the line `refused N`.
-pub fn refused(rt: &(impl Print + Eprint), number: u32, printed: &mut usize) -> bool
+pub fn refused(rt: &(impl Print + Eprint), refusal: Refusal, printed: &mut usize) -> io::Result<()>
     requires { printed.old ≡ 0 }
-    ensures { result ≡ true → printed.new ≡ length (refused_line number) }
+    ensures { OnOk result (printed.new ≡ length (refused_line (number_of refusal))) }
 {
     let mut buf = [0u8; 64];
-    let end = write_refused(number, &mut buf, 0);
+    let end = write_refused(refusal, &mut buf, 0);
     print(rt, &buf[..end], printed)
 }
