@@ -4,6 +4,7 @@
 ghost use Rattle.std.specs.Prelude.{[], ◌≡◌, ◌*◌, eqb, length};
 ghost use Rattle.model.specs.Checks.{first, size_checks};
 ghost use Rattle.model.specs.Model.{model_of};
+ghost use Rattle.model.specs.Refusals.{fault_of};
 ghost use Rattle.model.specs.Rows.{rows_of};
 ghost use Rattle.book.specs.Answers.{book_written, write_answer, write_call, write_fault, written};
 ghost use Rattle.book.specs.Book.{HoldsModel, book_length, decode, row_bytes_at};
@@ -11,21 +12,21 @@ ghost use Rattle.book.specs.BookChecks.{book_fault, first_edition_checks, inequa
 ghost use Rattle.little_endian.specs.Pieces.{joined, overwrite};
 
 use book::layout::{TRAILER, book_length, row_place, write_trailer};
-use book::writing::WriteAnswer;
 use little_endian::integers::write_integers;
 use little_endian::write_i32;
 use matrix::coefficients;
-use model_checks::{model_fault, size_fault};
+use model::refusal::Refusal;
+use model_checks::{check_model, check_size};
 
 // Whether a book of n variables and m rows has len bytes. Beyond the limits of n and m nothing is
 // asked: check 3 answers there.
 fn is_book_length(n: usize, m: usize, len: usize) -> bool
     ensures { first (size_checks n m) ≡ 0 → result ≡ eqb len (book_length n m) }
 {
-    if size_fault(n, m) != 0 {
-        return false;
+    match check_size(n, m) {
+        Ok(()) => len == book_length(n, m),
+        Err(_) => false,
     }
-    len == book_length(n, m)
 }
 
 // Whether no row is an = row.
@@ -33,27 +34,25 @@ fn are_inequalities(kinds: &[u8]) -> bool
     ensures { result ≡ inequalities kinds.now }
 {
     let mut ok = true;
-    let mut i = 0;
-    while i < kinds.len() {
-        ok &= kinds[i] != 1;
-        i += 1;
+    for &kind in kinds {
+        ok &= kind != 1;
     }
     ok
 }
 
-// Check 17: 17 where a row is an = row, for which a first-edition book has no byte, else 0.
-fn first_edition_fault(kinds: &[u8]) -> u32
-    ensures { result ≡ first (first_edition_checks kinds.now) }
+// Check 17: refused where a row is an = row, for which a first-edition book has no byte.
+fn check_first_edition(kinds: &[u8]) -> Result<(), Refusal>
+    ensures { fault_of result ≡ first (first_edition_checks kinds.now) }
 {
     if !are_inequalities(kinds) {
-        return 17;
+        return Err(Refusal::EqualityRow);
     }
-    0
+    Ok(())
 }
 
-// The checks of a model, with the length of the book that it is to be written to (5), and then 17: the number of the
-// first that fails, else 0.
-fn write_fault(
+// The checks of a model, with the length of the book that it is to be written to (5), and then 17: refused by the first
+// that fails.
+fn check_writing(
     n: usize,
     m: usize,
     bounds: &[i32],
@@ -61,16 +60,13 @@ fn write_fault(
     rhs: &[i32],
     kinds: &[u8],
     book: &[u8],
-) -> u32
+) -> Result<(), Refusal>
     ensures { let A = rows_of coefs.now rhs.now kinds.now in
-        result ≡ write_fault (model_of n m bounds.now A) book.now }
+        fault_of result ≡ write_fault (model_of n m bounds.now A) book.now }
 {
     let fits = is_book_length(n, m, book.len());
-    let fault = model_fault(n, m, bounds, coefs, rhs, kinds, fits);
-    if fault != 0 {
-        return fault;
-    }
-    first_edition_fault(kinds)
+    check_model(n, m, bounds, coefs, rhs, kinds, fits)?;
+    check_first_edition(kinds)
 }
 
 // The right side and the coefficients of each row; no byte of a book is a kind.
@@ -80,12 +76,10 @@ fn write_rows(n: usize, coefs: &[i32], rhs: &[i32], book: &mut [u8])
         let rows = joined (length R) (row_bytes_at n (rows_of coefs.now R [])) in
         book.new ≡ overwrite (8 * n) rows book.old }
 {
-    let mut i = 0;
-    while i < rhs.len() {
+    for (i, &b) in rhs.iter().enumerate() {
         let row = row_place(n, i);
-        write_i32(book, row, rhs[i]);
+        write_i32(book, row, b);
         write_integers(book, row + 4, coefficients(n, coefs, i));
-        i += 1;
     }
 }
 
@@ -99,7 +93,7 @@ pub fn write(
     rhs: &[i32],
     kinds: &[u8],
     book: &mut [u8],
-) -> WriteAnswer
+) -> Result<(), Refusal>
     ensures answer { let A = rows_of coefs.now rhs.now kinds.now in
         let M = model_of n m bounds.now A in
         write_answer result ≡ write_call M book.old }
@@ -111,14 +105,11 @@ pub fn write(
         let bs = book.new in
         (write_answer result ≡ written → (book_fault bs ≡ 0) × (decode bs ≡ M)) }
 {
-    let fault = write_fault(n, m, bounds, coefs, rhs, kinds, book);
-    if fault != 0 {
-        return WriteAnswer::Refused(fault);
-    }
+    check_writing(n, m, bounds, coefs, rhs, kinds, book)?;
     write_integers(book, 0, bounds);
     write_rows(n, coefs, rhs, book);
     let len = book.len();
     let end = len - TRAILER;
     write_trailer(&mut book[end..], n, m, len);
-    WriteAnswer::Written
+    Ok(())
 }
