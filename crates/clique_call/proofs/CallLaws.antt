@@ -1,5 +1,5 @@
 -- Laws of the call: what its checks come to, and its answers.
-use Prim.Native.Nat.{◌*◌, ◌<◌, ◌≤◌, ℕ}
+use Prim.Native.Nat.{◌*◌, ◌≤◌, ℕ}
 use borrow.Author.Tests.{ne_eqb}
 use lib.Dec.{eqb}
 use lib.IntN.{ℤ}
@@ -11,6 +11,10 @@ use mir.Val.{Fits}
 use native.Mathlib.Nat.{mul-le-mul}
 use native.Mathlib.Omega.{arith}
 use Rattle.integer.proofs.Tests.{cond_ind, eqb-test}
+use Rattle.std.specs.Prelude.{Result, Ok, Err}
+use Rattle.model.specs.declared.refusal.Refusal.{Refusal}
+use Rattle.model.specs.Refusals.{number_of}
+use Rattle.model.proofs.RefusalLaws.{number_of-injective}
 use Rattle.model.specs.Checks.{first, size_checks, table_byte_checks, table_length_checks}
 use Rattle.model.proofs.CheckLaws.{first-none, size-test}
 use Rattle.cliques.specs.CliqueCall.{CliquesPerformed, clique_checks, perform_cliques, refused, written}
@@ -19,8 +23,6 @@ use Rattle.cliques.specs.Cliques.{CliqueRows, clique_rows}
 use Rattle.cliques.proofs.FilledLaws.{cliques-mean}
 use Rattle.clique_grow.specs.Candidates.{LentTable}
 use Rattle.clique_call.specs.CliqueAnswers.{cliques_answer, list_of}
-use Rattle.clique_call.specs.declared.call.CliquesAnswer.{CliquesAnswer}
-use Rattle.clique_call.specs.declared.call.CliquesAnswer.TheVariants as code
 
 pub sizes-passed : (n : ℕ) → first (size_checks n 0) ≡ 0 → n ≤ 128
 unfolding size_checks
@@ -69,9 +71,9 @@ module _ (n : ℕ) (t : List ℕ) (C R : List ℤ) where
   promised r e = (e, subst (λ (q : CliquesPerformed). (k : ℕ) → q.answer ≡ written k → CliquesMean n t k q.coefs q.rhs) (sym e) means)
 
 -- the code's answers are told apart
-pub clique-answers-injective : (a b : CliquesAnswer) → cliques_answer a ≡ cliques_answer b → a ≡ b
+pub clique-answers-injective : (a b : Result ℕ Refusal) → cliques_answer a ≡ cliques_answer b → a ≡ b
 unfolding cliques_answer
-clique-answers-injective (code.Refused x) (code.Refused y) e = cc
-clique-answers-injective (code.Refused x) (code.Written y) e = cc
-clique-answers-injective (code.Written x) (code.Refused y) e = cc
-clique-answers-injective (code.Written x) (code.Written y) e = cc
+clique-answers-injective (Err r) (Err s) e = let n : number_of r ≡ number_of s = cc in ap Err (number_of-injective r s n)
+clique-answers-injective (Err r) (Ok y) e = cc
+clique-answers-injective (Ok x) (Err s) e = cc
+clique-answers-injective (Ok x) (Ok y) e = cc

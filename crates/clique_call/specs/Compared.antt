@@ -1,5 +1,5 @@
 -- Row k of the list against the rows before it.
-use Rattle.std.specs.Prelude.{ℕ, leb, ℤ, Bool, ◌&&◌, not, List}
+use Rattle.std.specs.Prelude.{ℕ, ℤ, Bool, not, List}
 use Rattle.integer.specs.Index.{all}
 use Rattle.model.specs.Box.{same_list}
 use Rattle.model.specs.Rows.{row_of}

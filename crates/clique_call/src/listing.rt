@@ -18,11 +18,7 @@ use model::MAX_LITERALS;
 fn zero(xs: &mut [i32])
     ensures { xs.new ≡ zero_row (length xs.old) }
 {
-    let mut i = 0;
-    while i < xs.len() {
-        xs[i] = 0;
-        i += 1;
-    }
+    xs.fill(0);
 }
 
 // Sets row k to 0.
@@ -70,12 +66,10 @@ fn is_different(n: usize, coefs: &[i32], k: usize) -> bool
     requires { k * n + n ≤ length coefs.now }
     ensures { result ≡ differs n coefs.now k }
 {
-    let mut i = 0;
-    while i < k {
+    for i in 0..k {
         if same_row(n, coefs, i, k) {
             return false;
         }
-        i += 1;
     }
     true
 }
@@ -124,10 +118,8 @@ pub fn write_cliques(n: usize, table: &[u8], coefs: &mut [i32], rhs: &mut [i32])
     zero(coefs);
     zero(rhs);
     let mut number = 0;
-    let mut p = 0;
-    while p < 2 * n {
+    for p in 0..2 * n {
         number = add_clique(n, table, p, number, coefs, rhs);
-        p += 1;
     }
     number
 }

@@ -1,6 +1,6 @@
 -- `clique_call::listing::is_kept`: fewer than three literals, or by the rows before. Assumes nothing.
 use lib.Dec.{leb}
-use mathlib.Core.Path.{◌≡◌, refl}
+use mathlib.Core.Path.{refl}
 use native.Mathlib.Omega.{arith}
 use Rattle.integer.proofs.Tests.{leb-test, test-false, test-true}
 use borrow.Author.Rules.{rules}
