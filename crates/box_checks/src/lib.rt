@@ -8,8 +8,10 @@ ghost use Rattle.integer.specs.Index.{all};
 ghost use Rattle.integer.specs.Order.{min_z};
 ghost use Rattle.model.specs.Checks.{box_checks, first};
 ghost use Rattle.model.specs.Limits.{max_bound, max_width};
+ghost use Rattle.model.specs.Refusals.{fault_of};
 ghost use Rattle.box_checks.specs.Plain.{plain_at};
 
+use model::refusal::Refusal;
 use model::{MAX_BOUND, MAX_WIDTH, MIN_BOUND};
 
 // The greatest upper bound beside the lower bound `low`. No sum overflows, whatever `low` is.
@@ -26,27 +28,24 @@ fn highest(low: i32) -> i32
 fn is_plain(bounds: &[i32]) -> bool
     ensures { result ≡ all (length bounds.now / 2) (plain_at bounds.now) }
 {
-    let half = bounds.len() / 2;
     let mut ok = true;
-    let mut j = 0;
-    while j < half {
+    for j in 0..bounds.len() / 2 {
         let low = bounds[2 * j];
         let high = bounds[2 * j + 1];
         let most = highest(low);
         ok &= (MIN_BOUND <= low) & (low <= high) & (high <= most);
-        j += 1;
     }
     ok
 }
 
-// The number of the first check that fails, else 0.
-pub fn box_fault(n: usize, bounds: &[i32]) -> u32
-    ensures { result ≡ first (box_checks n bounds.now) }
+// Refuses by the first check that fails.
+pub fn check_box(n: usize, bounds: &[i32]) -> Result<(), Refusal>
+    ensures { fault_of result ≡ first (box_checks n bounds.now) }
 {
     if bounds.len() % 2 == 0 {
         if is_plain(bounds) {
-            return 0;
+            return Ok(());
         }
     }
-    model_checks::box_fault(n, bounds)
+    model_checks::check_box(n, bounds)
 }

@@ -34,11 +34,7 @@ fn fill(from: usize, to: usize, number: u32, ws: &mut [u32])
     ensures numbers { (i : ℕ) → from ≤ i → i < to → get_or ws.new i 0 ≡ number }
     ensures others { SameBut from to ws.old ws.new }
 {
-    let mut i = from;
-    while i < to {
-        ws[i] = number;
-        i += 1;
-    }
+    ws[from..to].fill(number);
 }
 
 // Writes all of a model's rows that passed the checks.

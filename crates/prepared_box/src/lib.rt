@@ -13,7 +13,7 @@ ghost use Rattle.row_set.specs.Readers.{Calm};
 ghost use Rattle.prepared_box.specs.TakenBox.{Copied, NotedKept};
 
 use prepared_notes::note_bound;
-use workspace::{SET_AT, kept_bound};
+use workspace::{BOX_AT, SET_AT, kept_bound};
 
 // The variables of a block.
 const BLOCK: usize = 32;
@@ -27,12 +27,10 @@ fn copy_same(ws: &[u32], from: usize, to: usize, seen: &mut [i32], new: &[i32]) 
         → bound_of (get_or ws.now (8 + i) 0) ≡ at new.now i }
 {
     let mut same = true;
-    let mut i = from;
-    while i < to {
+    for i in from..to {
         let bound = new[i];
         seen[i] = bound;
         same &= kept_bound(ws, i) == bound;
-        i += 1;
     }
     same
 }
@@ -53,10 +51,8 @@ fn note_block(ws: &[u32], from: usize, to: usize, new: &[i32], dirty: &mut [u32]
         × (2 * to ≤ length new.now) }
     ensures { NotedKept ws.now new.now dirty.old from to dirty.new }
 {
-    let mut j = from;
-    while j < to {
+    for j in from..to {
         note_kept(ws, j, new, dirty);
-        j += 1;
     }
 }
 
@@ -69,6 +65,7 @@ fn take_all(n: usize, ws: &[u32], seen: &mut [i32], new: &[i32], dirty: &mut [u3
     ensures noted { NotedKept ws.now new.now dirty.old 0 n dirty.new }
 {
     let mut end = n;
+    // From block to block: the step is not 1.
     while BLOCK <= end {
         let from = end - BLOCK;
         if !copy_same(ws, 2 * from, 2 * from + 2 * BLOCK, seen, new) {
@@ -86,11 +83,7 @@ fn read_set(ws: &[u32], dirty: &mut [u32])
     requires { (length ws.now ≡ workspace_len) × (length dirty.old ≡ 4) }
     ensures { dirty.new ≡ dirty_of ws.now }
 {
-    let mut i = 0;
-    while i < 4 {
-        dirty[i] = ws[SET_AT + i];
-        i += 1;
-    }
+    dirty.copy_from_slice(&ws[SET_AT..BOX_AT]);
 }
 
 // What is known of the lent box of n variables: `seen` becomes it, and `dirty` the rows to look at in it.

@@ -1,5 +1,5 @@
 -- A part of a list that is written: the numbers stand there, and all else stays.
-use Prim.Native.Nat.{◌+◌, ◌-◌, ◌≤◌, ℕ}
+use Prim.Native.Nat.{◌+◌, ◌-◌, ◌<◌, ◌≤◌, ℕ}
 use borrow.Rule.Slice.PartMut.{post_of, put_mid}
 use lib.ListN.{drop, get_or, length, take}
 use lib.Seq.{drop-append_seam, get_or-drop, get_or-take, length-take-le, take-append_seam}
@@ -25,3 +25,10 @@ module _ (W N : List ℕ) (p k q : ℕ) (room : q ≤ length W) (e : p + k ≡ q
   part-written =
       let r : length (take p W) ≡ p = length-take-le p W (omega arith) in
       ap (take k) (rw r at (drop-append_seam (take p W) (N ++ post_of p k W))) ∙ (rw l at (take-append_seam N (post_of p k W)))
+
+  -- a number of the part
+  pub part-at : (i : ℕ) → p ≤ i → i < q → get_or (put_mid p k W N) i 0 ≡ get_or N (i - p) 0
+  part-at i h g =
+      let d : p + (i - p) ≡ i = omega arith in
+      let z = sym (get_or-drop p (put_mid p k W N) (i - p) 0) ∙ sym (get_or-take k (drop p (put_mid p k W N)) (i - p) 0 (omega arith)) ∙ ap (λ L. get_or L (i - p) 0) part-written in
+      rw d at z

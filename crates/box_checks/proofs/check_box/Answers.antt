@@ -1,7 +1,6 @@
--- `box_checks::box_fault`: bounds that are plain, two by two, are in range, in order and narrow, so that they pass the three checks; of any
+-- `box_checks::check_box`: bounds that are plain, two by two, are in range, in order and narrow, so that they pass the three checks; of any
 -- other box the checks are made one by one. Assumes nothing.
 use Prim.Native.Nat.{◌*◌, ◌+◌, ◌/◌, ◌%◌, ◌<◌, ℕ}
-use borrow.Author.Rules.{rules}
 use lib.Dec.{T}
 use lib.IntN.{◌+ℤ◌, ◌-ℤ◌, ℤ}
 use lib.ListN.{length}
@@ -21,8 +20,7 @@ use Rattle.model.specs.Limits.{max_bound, max_width, min_bound}
 use Rattle.model.specs.Valid.{Between}
 use Rattle.model.proofs.CheckLaws.{ends, in_range-test, past}
 use Rattle.box_checks.specs.Plain.{plain_at}
-use Rattle.box_checks.proofs.box_fault.Statement.{statement}
-use Rattle.box_checks.proofs.box_fault.Tie as tie
+use Rattle.box_checks.proofs.check_box.Goals as goal
 
 -- what the test of a variable says
 record Plain (l u : ℤ) : Type 0 where
@@ -72,21 +70,7 @@ passes n B e t =
     past _ 6 _ (T→true _ (plain-range B t e))
     (past _ 7 _ (T→true _ (or_inr (is_empty n B) (ordered B) (plain-ordered B t))) (past _ 23 _ (T→true _ (plain-narrow B t)) ends))
 
-is-plain-requires : tie.Need-is_plain-requires
-is-plain-requires c κs = search rules
-
-returns : tie.Need-returns-then-is_plain
-returns c =
-    let s = c.before.before.before in
-    let B = s.args.bounds.now in
-    passes s.args.n B c.before.before.if-bounds-eq0.true
-    (true→T (all (length B / 2) (plain_at B)) (sym c.before.is_plain.ensures ∙ c.if-is_plain.true))
-
-box-fault-requires : tie.Need-box_fault-requires
-box-fault-requires c κs = search rules
-
-returns-2 : tie.Need-returns
-returns-2 c = search rules
-
-pub box_fault_spec : {M : Type 1} → statement M
-box_fault_spec = tie.close (tie.spec is-plain-requires returns box-fault-requires returns-2)
+pub returns-then-is_plain : goal.returns-then-is_plain
+returns-then-is_plain c =
+    let B = c.args.bounds.now in
+    passes c.args.n B c.if-bounds-eq0.true (true→T (all (length B / 2) (plain_at B)) (sym c.is_plain.ensures ∙ c.if-is_plain.true))
