@@ -1,5 +1,5 @@
 -- What the functions of the judging ask for, and what their answers stand for.
-use Rattle.std.specs.Prelude.{◌*◌, ◌≤◌, ℕ, ℤ, length, take, List, ◌≡◌}
+use Rattle.std.specs.Prelude.{◌*◌, ◌≤◌, ℕ, ℤ, length, take, List, ◌≡◌, Result, Ok, Err}
 use Rattle.model.specs.Checks.{first}
 use Rattle.model.specs.Model.{Model}
 use Rattle.model.specs.Rows.{Rows}
@@ -10,8 +10,8 @@ use Rattle.proposals.specs.Proposals.{max_proposals, numbers, proposal}
 use Rattle.proposals.specs.Verdict.{verdict}
 use Rattle.allocation_input.specs.Input.{book_end, input_fault, max_input, model_of_input, proposal_checks}
 use Rattle.allocation_input.specs.Output.{input_count, input_verdict}
-use Rattle.allocation_input.specs.declared.Answer.{Answer}
-use Rattle.allocation_input.specs.declared.Answer.TheVariants.{Refused, Verdicts}
+use Rattle.model.specs.declared.refusal.Refusal.{Refusal}
+use Rattle.model.specs.Refusals.{number_of}
 
 -- a book with a trailer, and the bytes of count proposals, with room for their verdicts
 pub record Holdable (book behind : List ℕ) (count : ℕ) (Y : List ℕ) : Type 0 where
@@ -47,6 +47,7 @@ pub record Judged (bs Y : List ℕ) (count : ℕ) : Type 0 where
   pub few : count ≤ max_proposals
   pub told : take (2 * count) Y ≡ numbers count (input_verdict bs)
 
-abbrev pub Answers : Answer → List ℕ → List ℕ → Type 0
-Answers (Refused number) bs Y = (number ≡ input_fault bs) × (number ≡ 0 → ⊥)
-Answers (Verdicts count) bs Y = Judged bs Y count
+-- an input is refused by the first check that fails, or so many verdicts are told
+abbrev pub Answers : Result ℕ Refusal → List ℕ → List ℕ → Type 0
+Answers (Err r) bs Y = (number_of r ≡ input_fault bs) × (number_of r ≡ 0 → ⊥)
+Answers (Ok count) bs Y = Judged bs Y count

@@ -6,18 +6,12 @@ ghost use Rattle.std.specs.Prelude.{not, ◌≡◌, ◌≤◌, length};
 ghost use Rattle.model.specs.Checks.{first};
 ghost use Rattle.allocation_input.specs.Input.{book_end, count_at, first_end, max_input, no_split};
 ghost use Rattle.model.specs.Limits.{max_variables};
+ghost use Rattle.model.specs.Refusals.{fault_of};
 ghost use Rattle.allocation_input.specs.Input.{proposal_checks, whole_end};
 
-use book::layout::{VARIABLES, head_fault, trailer_u16};
+use book::layout::{VARIABLES, check_head, trailer_u16};
 use little_endian::read_u32;
-
-#[derive(Clone, Copy)]
-pub enum Answer {
-    // By the number of the first check that fails.
-    Refused(u32),
-    // The verdicts of so many proposals stand at the start of the buffer, two numbers each.
-    Verdicts(usize),
-}
+use model::refusal::Refusal;
 
 const COUNT: usize = 4;
 
@@ -34,23 +28,22 @@ pub fn count_behind(input: &[u8], end: usize) -> u32
     read_u32(input, end)
 }
 
-// Checks 22 and 5 of what stands behind a book of n variables that ends at `end`: the number of the first that fails,
-// else 0.
-pub fn proposals_fault(input: &[u8], end: usize, n: usize) -> u32
+// Checks 22 and 5 of what stands behind a book of n variables that ends at `end`: refused by the first that fails.
+pub fn check_proposals(input: &[u8], end: usize, n: usize) -> Result<(), Refusal>
     requires { (length input.now ≤ max_input) × (end ≤ length input.now) × (n ≤ max_variables) }
-    ensures { result ≡ first (proposal_checks n end input.now) }
+    ensures { fault_of result ≡ first (proposal_checks n end input.now) }
 {
     let count = count_behind(input, end);
     if count < 1 {
-        return 22;
+        return Err(Refusal::ProposalCount);
     }
     if MAX_PROPOSALS < count {
-        return 22;
+        return Err(Refusal::ProposalCount);
     }
     if input.len() != end + COUNT + 4 * (count as usize * n) {
-        return 5;
+        return Err(Refusal::BufferLength);
     }
-    0
+    Ok(())
 }
 
 // Whether a book ends at `end` and what stands behind it are its proposals: checks 1 to 4, 22 and 5.
@@ -58,11 +51,11 @@ fn splits_at(input: &[u8], end: usize) -> bool
     requires { (length input.now ≤ max_input) × (end ≤ length input.now) }
     ensures { result ≡ not (no_split input.now end) }
 {
-    if head_fault(&input[..end]) != 0 {
+    if check_head(&input[..end]).is_err() {
         return false;
     }
     let n = trailer_u16(&input[..end], VARIABLES);
-    proposals_fault(input, end, n) == 0
+    check_proposals(input, end, n).is_ok()
 }
 
 // The first place that splits the input so; past the input where there is none.
@@ -70,14 +63,13 @@ fn whole_end(input: &[u8]) -> usize
     requires { length input.now ≤ max_input }
     ensures { result ≡ whole_end input.now }
 {
-    let mut end = 0;
-    while end <= input.len() {
+    let places = input.len() + 1;
+    for end in 0..places {
         if splits_at(input, end) {
             return end;
         }
-        end += 1;
     }
-    end
+    places
 }
 
 // The first place up to which the input passes checks 1 to 4 of a book; past the input where there is none.
@@ -85,14 +77,13 @@ fn first_end(input: &[u8]) -> usize
     requires { length input.now ≤ max_input }
     ensures { result ≡ first_end input.now }
 {
-    let mut end = 0;
-    while end <= input.len() {
-        if head_fault(&input[..end]) == 0 {
+    let places = input.len() + 1;
+    for end in 0..places {
+        if check_head(&input[..end]).is_ok() {
             return end;
         }
-        end += 1;
     }
-    end
+    places
 }
 
 // Where the book ends.

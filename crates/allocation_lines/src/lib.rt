@@ -22,7 +22,7 @@ fn write_numbered(word: &[u8], number: u32, buf: &mut [u8], at: usize) -> usize
     write_byte(b'\n', buf, end)
 }
 
-// The line of a verdict that is told in two numbers.
+// The line of a verdict that is told in the two numbers that C has.
 fn write_verdict(case: u32, number: u32, buf: &mut [u8], at: usize) -> usize
     requires { at + max_verdict_line ≤ length buf.old }
     ensures text { (v : Verdict) → case ≡ case_of v → number ≡ number_of v →
@@ -48,10 +48,8 @@ pub fn write_verdicts(verdicts: &[u32], count: usize, buf: &mut [u8]) -> usize
     ensures room { result ≤ count * max_verdict_line }
 {
     let mut end = 0;
-    let mut c = 0;
-    while c < count {
+    for c in 0..count {
         end = write_verdict(verdicts[2 * c], verdicts[2 * c + 1], buf, end);
-        c += 1;
     }
     end
 }
