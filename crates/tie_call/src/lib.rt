@@ -3,7 +3,8 @@
 // when j is 1.
 #![tactic(auto)]
 
-ghost use Rattle.std.specs.Prelude.{[], ◌≡◌, ◌<◌, ◌≤◌, ◌*◌, length};
+ghost use Rattle.std.specs.Prelude.{[], ◌≡◌, ◌<◌, ◌≤◌, ◌*◌, length, MatchOption};
+ghost use Rattle.model.specs.Refusals.{fault_of};
 ghost use Rattle.model.specs.Rows.{rows_of};
 ghost use Rattle.model.specs.Valid.{ValidTable};
 ghost use Rattle.ties.specs.TieCall.{can_tie, perform_tie, places_fit, says as says_of, tie_call_of, tie_fault, value_said};
@@ -14,12 +15,13 @@ ghost use Rattle.model.specs.Limits.{max_variables};
 ghost use Rattle.tie_call.specs.TieAnswers.{performed_tie};
 
 use boxes::is_free;
+use model::refusal::Refusal;
+use model_checks::check_model_with_table;
 use tied_row::{rows_fit, tie_rows};
 
-// Refused N, Tied, Same.
-#[derive(Clone, Copy)]
-pub enum TieAnswer {
-    Refused(u32),
+// Tied, Same: what an accepted call did.
+#[derive(Clone, Copy, PartialEq, Eq)]
+pub enum TieMade {
     Tied,
     Unchanged,
 }
@@ -31,18 +33,14 @@ fn places_fit(n: usize, ties: &[u16]) -> bool
 {
     let most = 2 * n;
     let mut ok = true;
-    let mut i = 0;
-    while i < ties.len() {
-        let place = ties[i];
+    for &place in ties {
         ok &= place as usize <= most;
-        i += 1;
     }
     ok
 }
 
-// The number by which the call is refused, 0 where it is accepted: those of the model and the table, 21, and 13 of k
-// and of j.
-fn tie_fault(
+// The checks of the call: those of the model and the table, 21, and 13 of k and of j.
+fn check_tie(
     n: usize,
     m: usize,
     bounds: &[i32],
@@ -53,26 +51,23 @@ fn tie_fault(
     ties: &[u16],
     k: u32,
     j: u32,
-) -> u32
+) -> Result<(), Refusal>
     ensures { let A = rows_of coefs.now rhs.now kinds.now in
         let s = tied_state_of n m bounds.now A table.now ties.now in
-        result ≡ tie_fault s (tie_call_of s k j) }
+        fault_of result ≡ tie_fault s (tie_call_of s k j) }
 {
     let fits = ties.len() == n;
-    let fault = model_checks::model_table_fault(n, m, bounds, coefs, rhs, kinds, table, fits);
-    if fault != 0 {
-        return fault;
-    }
+    check_model_with_table(n, m, bounds, coefs, rhs, kinds, table, fits)?;
     if !places_fit(n, ties) {
-        return 21;
+        return Err(Refusal::TiePlace);
     }
     if n <= k as usize {
-        return 13;
+        return Err(Refusal::Variable);
     }
     if n <= j as usize {
-        return 13;
+        return Err(Refusal::Variable);
     }
-    0
+    Ok(())
 }
 
 // Whether the table says that k at 0 gives j at w and k at 1 gives j at 1 − w.
@@ -86,19 +81,20 @@ fn says(n: usize, table: &[u8], k: usize, j: usize, w: usize) -> bool
     (table[at0] == 1) & (table[at1] == 1)
 }
 
-// The w by which the table ties j to k: 0 where it says both, 2 where it says neither.
-fn value_said(n: usize, table: &[u8], k: usize, j: usize) -> u32
+// The w by which the table ties j to k, 0 where it says both; none where it says neither.
+fn value_said(n: usize, table: &[u8], k: usize, j: usize) -> Option<u32>
     requires valid_table { ValidTable n table.now × (n ≤ max_variables) }
     requires k_lt_n { (k < n) × (j < n) }
-    ensures { result ≡ value_said n table.now k j }
+    ensures { let said = value_said n table.now k j in
+        MatchOption result (said ≡ 2) (λ w. (w ≡ said) × (w < 2)) }
 {
     if says(n, table, k, j, 0) {
-        return 0;
+        return Some(0);
     }
     if says(n, table, k, j, 1) {
-        return 1;
+        return Some(1);
     }
-    2
+    None
 }
 
 // Whether nothing is in the way: k and j are two free binary variables, neither is replaced already, and every row's
@@ -151,7 +147,7 @@ pub fn tie(
     ties: &mut [u16],
     k: u32,
     j: u32,
-) -> TieAnswer
+) -> Result<TieMade, Refusal>
     ensures defined { let A = rows_of coefs.old rhs.old kinds.now in
         let A' = rows_of coefs.new rhs.new kinds.now in
         let s = tied_state_of n m bounds.now A table.now ties.old in
@@ -163,21 +159,17 @@ pub fn tie(
         let r' = tied_state_of n m bounds.now A' table.now ties.new in
         TieKeeps s r' }
 {
-    let fault = tie_fault(n, m, bounds, coefs, rhs, kinds, table, ties, k, j);
-    if fault != 0 {
-        return TieAnswer::Refused(fault);
-    }
+    check_tie(n, m, bounds, coefs, rhs, kinds, table, ties, k, j)?;
     let kept = k as usize;
     let replaced = j as usize;
-    let w = value_said(n, table, kept, replaced);
-    if w == 2 {
-        return TieAnswer::Unchanged;
-    }
+    let Some(w) = value_said(n, table, kept, replaced) else {
+        return Ok(TieMade::Unchanged);
+    };
     if !can_tie(n, m, bounds, coefs, rhs, ties, kept, replaced, w) {
-        return TieAnswer::Unchanged;
+        return Ok(TieMade::Unchanged);
     }
     tie_rows(n, m, coefs, rhs, kept, replaced, w);
     let place = 2 * k + 2 - w;
     ties[replaced] = place as u16;
-    TieAnswer::Tied
+    Ok(TieMade::Tied)
 }
