@@ -1,6 +1,7 @@
 // The open call.
 ghost use Rattle.std.specs.Prelude.{◌≡◌, ◌&&◌, ◌*◌, ◌≤◌, eqb, length};
 ghost use Rattle.model.specs.Model.{model_of};
+ghost use Rattle.model.specs.Refusals.{fault_of};
 ghost use Rattle.model.specs.Rows.{rows_of};
 ghost use Rattle.proposals.specs.Call.{allocation_fault, verdicts_left};
 ghost use Rattle.proposals.specs.Holding.{Judgeable};
@@ -12,7 +13,8 @@ ghost use Rattle.proposals.specs.Verdict.{verdict};
 use crate::judging::judge;
 use buffer_checks::is_product;
 use model::MAX_MATRIX;
-use model_checks::{model_fault, size_fault};
+use model::refusal::Refusal;
+use model_checks::{check_model, check_size};
 
 const MAX_PROPOSALS: u32 = 64;
 
@@ -27,8 +29,8 @@ fn is_lent(n: usize, count: u32, proposals: &[i32], verdicts: &[u32]) -> bool
     is_product(proposals.len(), count, n) && verdicts.len() == 2 * count
 }
 
-// Checks 3, 22, 5, 6, 7, 23, 8, 9 and 16: the number of the first that fails, else 0.
-fn allocation_fault(
+// Checks 3, 22, 5, 6, 7, 23, 8, 9 and 16, in this order.
+fn check_call(
     n: usize,
     m: usize,
     bounds: &[i32],
@@ -38,23 +40,20 @@ fn allocation_fault(
     proposals: &[i32],
     count: u32,
     verdicts: &[u32],
-) -> u32
+) -> Result<(), Refusal>
     ensures { let A = rows_of coefs.now rhs.now kinds.now in
         let M = model_of n m bounds.now A in
-        result ≡ allocation_fault M proposals.now count verdicts.now }
+        fault_of result ≡ allocation_fault M proposals.now count verdicts.now }
 {
-    let size = size_fault(n, m);
-    if size != 0 {
-        return size;
-    }
+    check_size(n, m)?;
     if count < 1 {
-        return 22;
+        return Err(Refusal::ProposalCount);
     }
     if MAX_PROPOSALS < count {
-        return 22;
+        return Err(Refusal::ProposalCount);
     }
     let fits = is_lent(n, count, proposals, verdicts);
-    model_fault(n, m, bounds, coefs, rhs, kinds, fits)
+    check_model(n, m, bounds, coefs, rhs, kinds, fits)
 }
 
 // The verdicts of an accepted call. The rows' steps are the call's own.
@@ -93,7 +92,7 @@ fn judge_all(
 
 // Holds `count` proposals, each of n numbers, against the model, and tells each one's verdict in two numbers: 0 0
 // inside, 1 j outside the box at variable j, the lowest such, 2 i inside the box and row i, the lowest such, broken.
-// The number of the first check that fails, and then no verdict is written, or 0. `meaning`: inside exactly if the
+// Refused by the first check that fails, and then no verdict is written. `meaning`: inside exactly if the
 // proposal is an integer point of the model; so the same yes or no against whatever calls made of it.
 pub fn check_allocations(
     n: usize,
@@ -105,21 +104,18 @@ pub fn check_allocations(
     proposals: &[i32],
     count: u32,
     verdicts: &mut [u32],
-) -> u32
+) -> Result<(), Refusal>
     ensures number { let A = rows_of coefs.now rhs.now kinds.now in
         let M = model_of n m bounds.now A in
-        result ≡ allocation_fault M proposals.now count verdicts.old }
+        fault_of result ≡ allocation_fault M proposals.now count verdicts.old }
     ensures told { let A = rows_of coefs.now rhs.now kinds.now in
         let M = model_of n m bounds.now A in
         verdicts.new ≡ verdicts_left M proposals.now count verdicts.old }
     ensures meaning { let A = rows_of coefs.now rhs.now kinds.now in
         let M = model_of n m bounds.now A in
-        (result ≡ 0 → Judged M proposals.now count verdicts.new) }
+        (fault_of result ≡ 0 → Judged M proposals.now count verdicts.new) }
 {
-    let fault = allocation_fault(n, m, bounds, coefs, rhs, kinds, proposals, count, verdicts);
-    if fault != 0 {
-        return fault;
-    }
+    check_call(n, m, bounds, coefs, rhs, kinds, proposals, count, verdicts)?;
     judge_all(
         n,
         m,
@@ -131,5 +127,5 @@ pub fn check_allocations(
         proposals,
         verdicts,
     );
-    0
+    Ok(())
 }

@@ -16,7 +16,7 @@ use matrix::{coefficients, row_bytes};
 use one_proposal::{first_outside, meets_row, proposal_at};
 use row_index::know_steps;
 
-// The first number of a verdict.
+// The first number of a verdict. No enum: the lent buffer, which C reads, has the numbers.
 const INSIDE: u32 = 0;
 
 const OUTSIDE: u32 = 1;
@@ -52,10 +52,8 @@ fn hold_boxes(n: usize, bounds: &[i32], count: usize, proposals: &[i32], verdict
     ensures { let P = proposals.now in
         Tells count (λ c. box_verdict n bounds.now (proposal n P c)) verdicts.new }
 {
-    let mut c = 0;
-    while c < count {
+    for c in 0..count {
         hold_box(n, bounds, proposal_at(n, proposals, c), c, verdicts);
-        c += 1;
     }
 }
 
@@ -104,8 +102,7 @@ fn hold_row(
         ((f : ℕ → Verdict) → Tells count f verdicts.old →
         Tells count (λ c. held i (meets n r (proposal n P c)) (f c)) verdicts.new) }
 {
-    let mut c = 0;
-    while c < count {
+    for c in 0..count {
         hold_one(
             coefs,
             steps,
@@ -116,7 +113,6 @@ fn hold_row(
             c,
             verdicts,
         );
-        c += 1;
     }
 }
 
@@ -175,10 +171,8 @@ pub fn judge(
         Tells count (λ c. verdict M (proposal n P c)) verdicts.new }
 {
     hold_boxes(n, bounds, count, proposals, verdicts);
-    let mut i = 0;
-    while i < m {
+    for i in 0..m {
         know_steps(n, m, coefs, i, across);
         hold_row_at(n, coefs, rhs, kinds, i, across, count, proposals, verdicts);
-        i += 1;
     }
 }
