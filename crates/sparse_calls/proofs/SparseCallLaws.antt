@@ -9,6 +9,9 @@ use mathlib.Core.List.{List, [], ◌++◌}
 use mathlib.Core.Path.{◌∙◌, ◌≡◌, ap, sym}
 use native.Mathlib.Decide.{ℕ_discrete}
 use native.Mathlib.Omega.{arith}
+use Rattle.std.specs.Prelude.{Result, Ok, Err}
+use Rattle.model.specs.declared.refusal.Refusal.{Refusal}
+use Rattle.model.specs.Refusals.{number_of}
 use Rattle.integer.proofs.Tests.{eqb-test}
 use Rattle.model.specs.Checks.{Check, first, length_checks, model_checks, model_fault, none, size_checks}
 use Rattle.model.specs.Model.{Model, model_of}
@@ -16,10 +19,10 @@ use Rattle.model.specs.Rows.{Rows, rows_of}
 use Rattle.model.specs.Valid.{ValidModel}
 use Rattle.model.proofs.CheckLaws.{LengthsFit, first-go, first-none, first-stop, first-zero-append, fits-fault-none, length-test}
 use Rattle.little_endian.specs.Bytes.{Bytes}
-use Rattle.book.specs.Answers.{lent, refused, sizes_are, written}
+use Rattle.book.specs.Answers.{refused, sizes_are, written}
 use Rattle.book.specs.Book.{rows, trailer_of, variables}
 use Rattle.book.specs.BookChecks.{model_number_checks}
-use Rattle.book.proofs.AnswerLaws.{becomes}
+use Rattle.book.proofs.AnswerLaws.{becomes, number_of-injective}
 use Rattle.book.proofs.RoundTripLaws.{unless-accepted}
 use Rattle.sparse_layout.specs.SparseBook.{HoldsRows, decode_sparse, encode_sparse, sparse_length}
 use Rattle.sparse_layout.specs.SparseChecks.{all_entry_checks, sparse_checks, sparse_fault, sparse_layout_checks}
@@ -28,8 +31,6 @@ use Rattle.sparse_layout.proofs.SparseAcceptLaws.{SparseLayout, all-entries-test
 use Rattle.sparse_layout.proofs.SparseTripLaws.{sparse-reads-written, sparse-writes-read}
 use Rattle.sparse_layout.proofs.WritingLaws.{length-coefs}
 use Rattle.sparse_calls.specs.SparseCalls.{bytes_are, bytes_unless, length_answer, refused_length, sparse_bounds_read, sparse_coefs_read, sparse_kinds_read, sparse_read_call, sparse_read_checks, sparse_read_fault, sparse_rhs_read, sparse_write_call, sparse_write_fault, sparse_written}
-use Rattle.sparse_calls.specs.declared.LengthAnswer.{LengthAnswer}
-use Rattle.sparse_calls.specs.declared.LengthAnswer.TheVariants as lengths
 
 -- ---- reading
 
@@ -127,10 +128,12 @@ pub length-accepted : {fault : ℕ} → fault ≡ 0 → (count : ℕ) → bytes_
 unfolding bytes_unless
 length-accepted e count = rw e
 
--- the enum of the code stands for answers one to one
-pub length_injective : (a b : LengthAnswer) → length_answer a ≡ length_answer b → a ≡ b
+-- the result of the code stands for answers one to one
+pub length_injective : (a b : Result ℕ Refusal) → length_answer a ≡ length_answer b → a ≡ b
 unfolding length_answer
-length_injective (lengths.Refused i) (lengths.Refused j) e = cc
-length_injective (lengths.Refused i) (lengths.Bytes k) e = let z : ◌≡◌ {A = ℕ} 0 1 = cc in absurd (let k : ⊥ = omega arith in k)
-length_injective (lengths.Bytes k) (lengths.Refused j) e = let z : ◌≡◌ {A = ℕ} 0 1 = cc in absurd (let k : ⊥ = omega arith in k)
-length_injective (lengths.Bytes k) (lengths.Bytes l) e = cc
+length_injective (Err r) (Err s) e =
+    let n : number_of r ≡ number_of s = cc in
+    ap Err (number_of-injective r s n)
+length_injective (Err r) (Ok k) e = let z : ◌≡◌ {A = ℕ} 0 1 = cc in absurd (let k : ⊥ = omega arith in k)
+length_injective (Ok k) (Err r) e = let z : ◌≡◌ {A = ℕ} 0 1 = cc in absurd (let k : ⊥ = omega arith in k)
+length_injective (Ok k) (Ok l) e = cc

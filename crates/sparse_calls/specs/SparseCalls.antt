@@ -1,6 +1,6 @@
 -- The calls on sparse books (02, C-18: "Each edition has its own calls"): which checks each makes, in their order, what it answers and
 -- what it leaves in the buffers that it is lent.
-use Rattle.std.specs.Prelude.{ℕ, eqb, ℤ, length, cond, true, List, ◌++◌, ◌∷◌}
+use Rattle.std.specs.Prelude.{ℕ, eqb, ℤ, length, cond, true, List, ◌++◌, ◌∷◌, Result, Ok, Err}
 use Rattle.model.specs.Checks.{Check, first, length_checks, model_fault, must, none}
 use Rattle.model.specs.Model.{Model, model_of}
 use Rattle.model.specs.Rows.{Rows}
@@ -10,8 +10,8 @@ use Rattle.book.specs.BookChecks.{book_fault, first_edition_checks, head_checks,
 use Rattle.sparse_layout.specs.SparseBook.{decode_sparse, encode_sparse, sparse_length}
 use Rattle.sparse_layout.specs.SparseChecks.{sparse_layout_checks, sparse_trailer_checks}
 use Rattle.sparse_layout.specs.SparseTrips.{to_first, to_sparse}
-use Rattle.sparse_calls.specs.declared.LengthAnswer.{LengthAnswer}
-use Rattle.sparse_calls.specs.declared.LengthAnswer.TheVariants as lengths
+use Rattle.model.specs.declared.refusal.Refusal.{Refusal}
+use Rattle.model.specs.Refusals.{number_of}
 
 -- ---- the trailer call: 1 5 3 4
 
@@ -61,10 +61,10 @@ pub data BytesNeeded : Type 0 where
   refused_length : ℕ → BytesNeeded
   bytes_are : ℕ → BytesNeeded
 
--- what the enum of the code stands for; it is injective (`length_injective`)
-unfoldable pub length_answer : LengthAnswer → BytesNeeded
-length_answer (lengths.Refused number) = refused_length number
-length_answer (lengths.Bytes count) = bytes_are count
+-- what the result of the code stands for; it is injective (`length_injective`)
+unfoldable pub length_answer : Result ℕ Refusal → BytesNeeded
+length_answer (Err r) = refused_length (number_of r)
+length_answer (Ok count) = bytes_are count
 
 unfoldable pub bytes_unless : ℕ → ℕ → BytesNeeded
 bytes_unless fault count = cond (eqb fault 0) (bytes_are count) (refused_length fault)

@@ -6,76 +6,60 @@ ghost use Rattle.std.specs.Prelude.{◌≡◌, ◌+◌, ◌*◌, ◌≤◌, pos,
 ghost use Rattle.little_endian.specs.Pieces.{joined, list_of};
 ghost use Rattle.book.specs.Book.{bounds_of};
 ghost use Rattle.model.specs.Checks.{first, number_checks};
+ghost use Rattle.model.specs.Refusals.{fault_of};
 ghost use Rattle.sparse_layout.specs.SparseBook.{HoldsRows, count_at, dense_at, sparse_coefs_of, sparse_kinds_of};
 ghost use Rattle.sparse_layout.specs.SparseBook.{sparse_rhs_of, sparse_rows_of};
 ghost use Rattle.sparse_layout.specs.SparseChecks.{all_entry_checks, entry_checks, row_entry_checks};
 ghost use Rattle.sparse_layout.specs.SparseChecks.{sparse_layout_checks};
 
 use book::layout::{ROWS, VARIABLES, trailer_u16};
-use book_reading::bounds_fault;
+use book_reading::check_bounds;
 use little_endian::integers::{are_in_range, read_integers};
 use little_endian::{read_i32, read_u16};
+use model::refusal::Refusal;
 use model::{MAX_COEF, MAX_RHS};
-use sparse_checks::entries::{entries_fault, row_count};
-use sparse_checks::head::head_fault;
+use sparse_checks::entries::{check_entries, row_count};
+use sparse_checks::head::check_head;
 
-// Checks 1 to 4, 19 and 20 of a book: the number of the first that fails, else 0.
-pub fn layout_fault(book: &[u8]) -> u32
-    ensures { result ≡ first (sparse_layout_checks book.now) }
+// Checks 1 to 4, 19 and 20 of a book: refused by the first that fails.
+pub fn check_layout(book: &[u8]) -> Result<(), Refusal>
+    ensures { fault_of result ≡ first (sparse_layout_checks book.now) }
 {
-    let head = head_fault(book);
-    if head != 0 {
-        return head;
-    }
+    check_head(book)?;
     let n = trailer_u16(book, VARIABLES);
     let m = trailer_u16(book, ROWS);
-    entries_fault(n, m, book)
+    check_entries(n, m, book)
 }
 
-// Checks 6, 7, 23, 8, 9 and 16 over the book's numbers: the number of the first that fails, else 0. Coefficients that
-// have no entry are 0, which is in range.
-pub fn number_fault(n: usize, m: usize, book: &[u8]) -> u32
+// Checks 6, 7, 23, 8, 9 and 16 over the book's numbers: refused by the first that fails. Coefficients that have no entry
+// are 0, which is in range.
+pub fn check_numbers(n: usize, m: usize, book: &[u8]) -> Result<(), Refusal>
     requires { HoldsRows n m book.now × (first (all_entry_checks n m book.now) ≡ 0) }
     ensures { let bs = book.now in
-        result ≡ first (number_checks n (bounds_of n bs) (sparse_rows_of n m bs)) }
+        fault_of result ≡ first (number_checks n (bounds_of n bs) (sparse_rows_of n m bs)) }
 {
-    let fault = bounds_fault(n, book);
-    if fault != 0 {
-        return fault;
-    }
+    check_bounds(n, book)?;
     let mut coefs = true;
     let mut rhs = true;
     let mut kinds = true;
     let mut p = 8 * n;
-    let mut i = 0;
-    while i < m {
+    for i in 0..m {
         let count = row_count(book, p) as usize;
         coefs &= are_in_range(book, p + 9, 6, count, -MAX_COEF, MAX_COEF);
         rhs &= are_in_range(book, p, 4, 1, -MAX_RHS, MAX_RHS);
         kinds &= book[p + 4] < 2;
         p += 7 + 6 * count;
-        i += 1;
     }
     if !coefs {
-        return 8;
+        return Err(Refusal::Coefficient);
     }
     if !rhs {
-        return 9;
+        return Err(Refusal::RightSide);
     }
     if !kinds {
-        return 16;
+        return Err(Refusal::RowKind);
     }
-    0
-}
-
-fn clear(row: &mut [i32])
-    ensures { row.new ≡ replicate (length row.old) (pos 0) }
-{
-    let mut j = 0;
-    while j < row.len() {
-        row[j] = 0;
-        j += 1;
-    }
+    Ok(())
 }
 
 // Puts each of the `count` entries of the row at p into its column of a row of zeros.
@@ -85,13 +69,10 @@ fn store_entries(book: &[u8], p: usize, count: usize, row: &mut [i32])
     requires zeros { row.old ≡ replicate (length row.old) (pos 0) }
     ensures { row.new ≡ list_of (length row.old) (dense_at p book.now count) }
 {
-    let mut e = 0;
-    while e < count {
+    for e in 0..count {
         let place = p + 7 + e * 6;
         let column = read_u16(book, place) as usize;
-        let x = read_i32(book, place + 2);
-        row[column] = x;
-        e += 1;
+        row[column] = read_i32(book, place + 2);
     }
 }
 
@@ -102,7 +83,7 @@ fn read_row(book: &[u8], p: usize, row: &mut [i32])
     ensures { let bs = book.now in
         row.new ≡ list_of (length row.old) (dense_at p bs (count_at p bs)) }
 {
-    clear(row);
+    row.fill(0);
     store_entries(book, p, row_count(book, p) as usize, row);
 }
 
@@ -112,13 +93,11 @@ pub fn read_coefs(n: usize, m: usize, book: &[u8], coefs: &mut [i32])
     ensures { coefs.new ≡ sparse_coefs_of n m book.now }
 {
     let mut p = 8 * n;
-    let mut i = 0;
-    while i < m {
+    for i in 0..m {
         let start = i * n;
         let end = start + n;
         read_row(book, p, &mut coefs[start..end]);
         p += 7 + 6 * (row_count(book, p) as usize);
-        i += 1;
     }
 }
 
@@ -127,12 +106,9 @@ pub fn read_rhs(n: usize, book: &[u8], rhs: &mut [i32])
     ensures { rhs.new ≡ sparse_rhs_of n (length rhs.old) book.now }
 {
     let mut p = 8 * n;
-    let mut i = 0;
-    while i < rhs.len() {
-        let b = read_i32(book, p);
-        rhs[i] = b;
+    for b in rhs.iter_mut() {
+        *b = read_i32(book, p);
         p += 7 + 6 * (row_count(book, p) as usize);
-        i += 1;
     }
 }
 
@@ -141,12 +117,9 @@ pub fn read_kinds(n: usize, book: &[u8], kinds: &mut [u8])
     ensures { kinds.new ≡ sparse_kinds_of n (length kinds.old) book.now }
 {
     let mut p = 8 * n;
-    let mut i = 0;
-    while i < kinds.len() {
-        let kind = book[p + 4];
-        kinds[i] = kind;
+    for kind in kinds.iter_mut() {
+        *kind = book[p + 4];
         p += 7 + 6 * (row_count(book, p) as usize);
-        i += 1;
     }
 }
 
