@@ -1,4 +1,5 @@
-// Propagate a row (01's visit): one sweep tells whether anything moves, a second one moves it.
+// Propagate a row (01's visit): one sweep tells whether anything moves, a second one moves it. A row's kind is the byte
+// that C lends, 1 for an = row, and each contract answers for every byte. A form's sign is a factor, 1 or −1.
 #![tactic(auto)]
 
 ghost use Rattle.std.specs.Prelude.{◌≡◌, ◌<◌, ◌+◌, length};

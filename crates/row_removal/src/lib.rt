@@ -1,4 +1,5 @@
-// Remove a redundant row (01's drop): a row of a model that passed the checks, its box empty or not.
+// Remove a redundant row (01's drop): a row of a model that passed the checks, its box empty or not. Its kind is the byte
+// that C lends, 1 for an = row; it is written there, and the contract answers for every byte.
 #![tactic(auto)]
 
 ghost use Rattle.std.specs.Prelude.{◌&&◌, cond, false, not, ◌≡◌, length, pos};

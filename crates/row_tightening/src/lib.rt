@@ -1,4 +1,5 @@
-// Tighten a coefficient (01's sharpen) of a row of a model that passed the checks, its box empty or not.
+// Tighten a coefficient (01's sharpen) of a row of a model that passed the checks, its box empty or not. A row's kind is
+// the byte that C lends, 1 for an = row, and the contract answers for every byte.
 #![tactic(auto)]
 
 ghost use Rattle.std.specs.Prelude.{◌≡◌, ◌<◌, length};

@@ -20,6 +20,7 @@ use sweep::propagate_row_by;
 pub struct Row<'a> {
     pub coefs: &'a [i32],
     pub b: i32,
+    // The byte that C lends: `row_with`, in each contract, is of every byte.
     pub kind: u8,
 }
 

@@ -1,5 +1,5 @@
 // Propagate a row (01's visit) by its steps: each sweep passes over the coefficients that are 0, which add nothing and
-// move nothing.
+// move nothing. A row's kind is the byte that C lends, 1 for an = row, and each contract answers for every byte.
 #![tactic(auto)]
 
 ghost use Rattle.std.specs.Prelude.{◌≡◌, length};
@@ -30,6 +30,7 @@ fn reach_by(coefs: &[i32], steps: &[u8], sign: i32, bounds: &[i32]) -> Reach
     let mut least: i64 = 0;
     let mut widest: i64 = 0;
     let mut j: usize = 0;
+    // A `while`: the step passes over zeros, and is not always 1.
     while j < coefs.len() {
         let a = sign * coefs[j];
         let low = bounds[2 * j];
@@ -92,6 +93,7 @@ fn tighten_bounds_by(
 {
     let mut moved: u32 = 0;
     let mut j: usize = 0;
+    // A `while`: the step passes over zeros, and is not always 1.
     while j < coefs.len() {
         if tighten_bounds_at(sign * coefs[j], b, least, bounds, j) {
             moved += 1;

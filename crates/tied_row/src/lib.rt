@@ -1,5 +1,6 @@
 // Rows with j put as k (w = 0) or as 1 − k (w = 1), in place: one row, and all rows of a model that passed the checks
-// (02, C-19: "puts that into every row, zeroes j's column").
+// (02, C-19: "puts that into every row, zeroes j's column"). `w` is a number, the value of j at k = 0: the place of a tie
+// is reckoned with it.
 #![tactic(auto)]
 
 ghost use Rattle.std.specs.Prelude.{cond, [], ◌≡◌, ◌*◌, ◌+◌, ◌<◌, ◌≤◌, eqb, ◌-ℤ◌, length, set};
