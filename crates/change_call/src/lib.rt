@@ -1,5 +1,5 @@
 // The open calls that may change a row: coefficient tightening and the removal of a redundant row. What holds of the
-// open calls of `reducer` holds of these: any input, refused by the number of the first check that fails, then
+// open calls of `reducer` holds of these: any input, refused by the first check that fails, then
 // unchanged.
 #![tactic(auto)]
 
@@ -11,8 +11,8 @@ ghost use Rattle.model.specs.State.{state_of};
 ghost use Rattle.reducer.specs.OpenCalls.{Means, performed, remove_answer, tighten_answer};
 
 use matrix_change::{remove_redundant_row_at, tighten_coefficient_at};
-use open_checks::{row_call_fault, tightening_fault};
-use reducer::calls::{RemoveAnswer, TightenAnswer};
+use model::refusal::Refusal;
+use open_checks::{check_row_call, check_tightening};
 use row::redundancy::RowRemoval;
 use row::tightening::CoefficientTightening;
 
@@ -26,7 +26,7 @@ pub fn tighten_coefficient(
     kinds: &[u8],
     row: u32,
     variable: u32,
-) -> TightenAnswer
+) -> Result<CoefficientTightening, Refusal>
     ensures defined { let A = rows_of coefs.old rhs.old kinds.now in
         let A' = rows_of coefs.new rhs.new kinds.now in
         let s = state_of n m bounds.now A [] in
@@ -38,11 +38,8 @@ pub fn tighten_coefficient(
         let r' = state_of n m bounds.now A' [] in
         Means s r' (tighten_answer result) }
 {
-    let fault = tightening_fault(n, m, bounds, coefs, rhs, kinds, row, variable);
-    if fault != 0 {
-        return TightenAnswer::Refused(fault);
-    }
-    match tighten_coefficient_at(
+    check_tightening(n, m, bounds, coefs, rhs, kinds, row, variable)?;
+    let outcome = tighten_coefficient_at(
         n,
         coefs,
         rhs,
@@ -50,11 +47,8 @@ pub fn tighten_coefficient(
         row as usize,
         bounds,
         variable as usize,
-    ) {
-        CoefficientTightening::Infeasible => TightenAnswer::Infeasible,
-        CoefficientTightening::Tightened => TightenAnswer::Tightened,
-        CoefficientTightening::Unchanged => TightenAnswer::Unchanged,
-    }
+    );
+    Ok(outcome)
 }
 
 // Removes row `row` where the box implies it (01's drop). Refused by 12.
@@ -66,7 +60,7 @@ pub fn remove_redundant_row(
     rhs: &mut [i32],
     kinds: &mut [u8],
     row: u32,
-) -> RemoveAnswer
+) -> Result<RowRemoval, Refusal>
     ensures defined { let A = rows_of coefs.old rhs.old kinds.old in
         let A' = rows_of coefs.new rhs.new kinds.new in
         let s = state_of n m bounds.now A [] in
@@ -78,13 +72,6 @@ pub fn remove_redundant_row(
         let r' = state_of n m bounds.now A' [] in
         Means s r' (remove_answer result) }
 {
-    let fault = row_call_fault(n, m, bounds, coefs, rhs, kinds, row);
-    if fault != 0 {
-        return RemoveAnswer::Refused(fault);
-    }
-    match remove_redundant_row_at(n, coefs, rhs, kinds, row as usize, bounds) {
-        RowRemoval::Infeasible => RemoveAnswer::Infeasible,
-        RowRemoval::Removed => RemoveAnswer::Removed,
-        RowRemoval::Unchanged => RemoveAnswer::Unchanged,
-    }
+    check_row_call(n, m, bounds, coefs, rhs, kinds, row)?;
+    Ok(remove_redundant_row_at(n, coefs, rhs, kinds, row as usize, bounds))
 }

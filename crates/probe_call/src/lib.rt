@@ -1,5 +1,5 @@
 // The open call that probes a variable (01's probe), for any input. What holds of the open calls of `reducer` holds of
-// it: any input, refused by the number of the first check that fails, then unchanged.
+// it: any input, refused by the first check that fails, then unchanged.
 #![tactic(auto)]
 
 ghost use Rattle.std.specs.Prelude.{◌≡◌};
@@ -7,24 +7,11 @@ ghost use Rattle.semantics.specs.Perform.{perform};
 ghost use Rattle.semantics.specs.Call.{call_of};
 ghost use Rattle.model.specs.Rows.{rows_of};
 ghost use Rattle.model.specs.State.{state_of};
-ghost use Rattle.reducer.specs.OpenCalls.{Ends, Means, performed, probe_answer, probing_answer};
+ghost use Rattle.reducer.specs.OpenCalls.{Ends, Means, performed, probe_answer};
 
-use open_checks::probe_fault;
-use reducer::calls::ProbeAnswer;
+use model::refusal::Refusal;
+use open_checks::check_probe;
 use two_sides::Probing;
-
-// What a probing says, as an answer.
-pub fn probe_answer(p: Probing) -> ProbeAnswer
-    ensures { probe_answer result ≡ probing_answer p }
-{
-    match p {
-        Probing::Infeasible(side0, side1) => ProbeAnswer::Infeasible(side0, side1),
-        Probing::Fixed(value, side0, side1) => ProbeAnswer::Fixed(value, side0, side1),
-        Probing::BothFeasible(added, side0, side1) => ProbeAnswer::BothFeasible(
-            added, side0, side1,
-        ),
-    }
-}
 
 // Probes the free binary variable `variable`, each side with `budget` passes (01's probe). Refused by 10, 13 to
 // 15.
@@ -38,7 +25,7 @@ pub fn probe(
     table: &mut [u8],
     variable: u32,
     budget: u32,
-) -> ProbeAnswer
+) -> Result<Probing, Refusal>
     ensures defined { let A = rows_of coefs.now rhs.now kinds.now in
         let s = state_of n m bounds.old A table.old in
         let r' = state_of n m bounds.new A table.new in
@@ -52,11 +39,8 @@ pub fn probe(
         let r' = state_of n m bounds.new A table.new in
         Ends (call_of s 3 0 variable budget) s r' (probe_answer result) }
 {
-    let fault = probe_fault(n, m, bounds, coefs, rhs, kinds, table, variable, budget);
-    if fault != 0 {
-        return ProbeAnswer::Refused(fault);
-    }
-    probe_answer(probing::probe(
+    check_probe(n, m, bounds, coefs, rhs, kinds, table, variable, budget)?;
+    let probing = probing::probe(
         n,
         m,
         bounds,
@@ -66,5 +50,6 @@ pub fn probe(
         table,
         variable as usize,
         budget,
-    ))
+    );
+    Ok(probing)
 }

@@ -3,10 +3,11 @@
 use Prim.Native.Nat.{◌<◌, ℕ}
 use lib.Dec.{T, eqb}
 use lib.IntN.{ℤ}
-use mathlib.Core.Bool.{false, not}
+use mathlib.Core.Bool.{not}
 use mathlib.Core.List.{List, []}
 use mathlib.Core.Logic.{◌↔◌, ⊎_elim}
-use mathlib.Core.Path.{◌∙◌, ◌≡◌, ap, subst, sym}
+use Rattle.std.specs.Prelude.{Ok}
+use mathlib.Core.Path.{◌∙◌, ◌≡◌, ap, refl, subst, sym}
 use Rattle.integer.proofs.Tests.{T→false, cond_ind, decide, eqb-test, neqb→ne, test-false}
 use Rattle.model.specs.Rows.{Rows, row_at, set_row}
 use Rattle.model.specs.Valid.{ValidModel}
@@ -16,7 +17,7 @@ use Rattle.row.specs.KindChanges.{ChangedRow}
 use Rattle.row.specs.Kinds.{propagate_row_of}
 use Rattle.row.specs.Propagation.{PropagatedRow}
 use Rattle.semantics.specs.CallChecks.{call_fault}
-use Rattle.semantics.specs.Perform.{Answer, Performed, act, perform, probed, propagated, propagated_row, refused}
+use Rattle.semantics.specs.Perform.{Answer, Performed, act, perform, probed, propagated, propagated_row, refused, removed, tightened}
 use Rattle.semantics.specs.Probe.{Probed, probe}
 use Rattle.semantics.specs.Propagate.{Propagated, propagate}
 use Rattle.semantics.specs.RestTest.{Rest, at_rest, by_row, by_variable, rest_fault, rest_of}
@@ -35,7 +36,20 @@ use Rattle.demands.proofs.Demand2.{demand-2}
 use Rattle.two_sides.specs.Results.{probing_of}
 use Rattle.two_sides.specs.declared.Probing.{Probing}
 use Rattle.two_sides.specs.declared.Probing.TheVariants as probing
-use Rattle.reducer.specs.OpenCalls.{Ends, Means, NoMeans, RestVerdict, performed, probing_answer, refused_rest, rest, tested}
+use Rattle.row.specs.Answers.{propagated_row_of, removal_outcome, tightening_outcome}
+use Rattle.row.specs.declared.propagation.RowPropagation.{RowPropagation}
+use Rattle.row.specs.declared.propagation.RowPropagation.TheVariants as propagation
+use Rattle.row.specs.declared.redundancy.RowRemoval.{RowRemoval}
+use Rattle.row.specs.declared.redundancy.RowRemoval.TheVariants as removal
+use Rattle.row.specs.declared.tightening.CoefficientTightening.{CoefficientTightening}
+use Rattle.row.specs.declared.tightening.CoefficientTightening.TheVariants as tightening
+use Rattle.propagation.specs.Results.{propagation_of}
+use Rattle.propagation.specs.declared.Propagation.{Propagation}
+use Rattle.propagation.specs.declared.Propagation.TheVariants as passes
+use Rattle.rest.specs.Results.{rest_answer_of}
+use Rattle.rest.specs.declared.Rest as search
+use Rattle.rest.specs.declared.Rest.TheVariants as searched
+use Rattle.reducer.specs.OpenCalls.{Ends, Means, NoMeans, RestVerdict, performed, probe_answer, probing_answer, propagate_answer, refused_rest, remove_answer, rest, rest_verdict, row_answer, tested, tighten_answer}
 
 -- ---- what a call performs
 
@@ -83,7 +97,6 @@ module _ (n m : ℕ) (B : List ℤ) (A : Rows) (budget : ℕ) where
   unfolding state_of call_of performed act kind_of with_box
   variable-probed t variable f w h = let s = state_of n m B A t in sym (perform-accepted s (call_of s 3 0 variable budget) f ∙ rw h)
 
-  -- and the answer that is made of it
   pub probing-performed : (t : List ℕ) (variable : ℕ) (p : Probing) (Q : List ℤ) (u : List ℕ) → let s = state_of n m B A t in
       call_fault s (call_of s 3 0 variable budget) ≡ 0 → probing_of p Q u ≡ probe variable budget n m A B t
       → performed (probing_answer p) (state_of n m Q A u) ≡ perform s (call_of s 3 0 variable budget)
@@ -91,6 +104,54 @@ module _ (n m : ℕ) (B : List ℤ) (A : Rows) (budget : ℕ) where
   probing-performed t variable (probing.Infeasible s0 s1) Q u f e = variable-probed t variable f (probing_of (probing.Infeasible s0 s1) Q u) e
   probing-performed t variable (probing.Fixed v s0 s1) Q u f e = variable-probed t variable f (probing_of (probing.Fixed v s0 s1) Q u) e
   probing-performed t variable (probing.BothFeasible a s0 s1) Q u f e = variable-probed t variable f (probing_of (probing.BothFeasible a s0 s1) Q u) e
+
+pub probing-told : (p : Probing) → probe_answer (Ok p) ≡ probing_answer p
+unfolding probe_answer probing_of
+probing-told (probing.Infeasible s0 s1) = refl
+probing-told (probing.Fixed v s0 s1) = refl
+probing-told (probing.BothFeasible a s0 s1) = refl
+
+-- and the answers, of what the crates below answer of a row, of the rows, of a variable
+pub row-answered : (n m : ℕ) (B : List ℤ) (A : Rows) (row : ℕ) (p : RowPropagation) (Q : List ℤ) → let s = state_of n m B A [] in
+    call_fault s (call_of s 1 row 0 0) ≡ 0 → propagated_row_of p Q ≡ propagate_row_of n (row_at n A row) B
+    → performed (row_answer (Ok p)) (state_of n m Q A []) ≡ perform s (call_of s 1 row 0 0)
+unfolding row_answer propagated_row_of
+row-answered n m B A row propagation.Infeasible Q f e = row-propagated n m B A row f (propagated_row_of propagation.Infeasible Q) e
+row-answered n m B A row (propagation.Tightened k) Q f e = row-propagated n m B A row f (propagated_row_of (propagation.Tightened k) Q) e
+row-answered n m B A row propagation.Unchanged Q f e = row-propagated n m B A row f (propagated_row_of propagation.Unchanged Q) e
+
+module _ (n m : ℕ) (B : List ℤ) (A : Rows) (budget : ℕ) where
+  pub rows-answered : (p : Propagation) (Q : List ℤ) → let s = state_of n m B A [] in
+      call_fault s (call_of s 2 0 0 budget) ≡ 0 → propagation_of p Q ≡ propagate budget n m A B
+      → performed (propagate_answer (Ok p)) (state_of n m Q A []) ≡ perform s (call_of s 2 0 0 budget)
+  unfolding propagate_answer propagation_of
+  rows-answered (passes.Infeasible k i) Q f e = rows-propagated n m B A budget f (propagation_of (passes.Infeasible k i) Q) e
+  rows-answered (passes.Converged k i) Q f e = rows-propagated n m B A budget f (propagation_of (passes.Converged k i) Q) e
+  rows-answered (passes.BudgetSpent k i) Q f e = rows-propagated n m B A budget f (propagation_of (passes.BudgetSpent k i) Q) e
+
+  pub probing-answered : (t : List ℕ) (variable : ℕ) (p : Probing) (Q : List ℤ) (u : List ℕ) → let s = state_of n m B A t in
+      call_fault s (call_of s 3 0 variable budget) ≡ 0 → probing_of p Q u ≡ probe variable budget n m A B t
+      → performed (probe_answer (Ok p)) (state_of n m Q A u) ≡ perform s (call_of s 3 0 variable budget)
+  probing-answered t variable p Q u f e =
+      ap (λ a. performed a (state_of n m Q A u)) (probing-told p) ∙ probing-performed n m B A budget t variable p Q u f e
+
+pub tightening-answered : (p : CoefficientTightening) → tighten_answer (Ok p) ≡ tightened (tightening_outcome p)
+unfolding tighten_answer tightening_outcome
+tightening-answered tightening.Infeasible = refl
+tightening-answered tightening.Tightened = refl
+tightening-answered tightening.Unchanged = refl
+
+pub removal-answered : (p : RowRemoval) → remove_answer (Ok p) ≡ removed (removal_outcome p)
+unfolding remove_answer removal_outcome
+removal-answered removal.Infeasible = refl
+removal-answered removal.Removed = refl
+removal-answered removal.Unchanged = refl
+
+pub rest-answered : (p : search.Rest) → rest_verdict (Ok p) ≡ tested (rest_answer_of p)
+unfolding rest_verdict rest_answer_of
+rest-answered searched.AtRest = refl
+rest-answered (searched.ByRow r) = refl
+rest-answered (searched.ByVariable k) = refl
 
 -- ---- what its answer means, refused or not
 

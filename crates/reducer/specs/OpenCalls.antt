@@ -1,5 +1,7 @@
 -- What an open call is, in the semantics: 01's answers behind the enums that the code returns, and what an answer means. Each reading of an enum is injective (`open-answers-injective`).
-use Rattle.std.specs.Prelude.{◌≤◌, ℕ, T, eqb, ℤ, cond, List, [], ◌↔◌, ◌≢◌, ◌≡◌}
+use Rattle.std.specs.Prelude.{◌≤◌, ℕ, T, eqb, ℤ, cond, List, [], ◌↔◌, ◌≢◌, ◌≡◌, Result, Ok, Err}
+use Rattle.model.specs.declared.refusal.Refusal.{Refusal}
+use Rattle.model.specs.Refusals.{number_of}
 use Rattle.model.specs.Box.{empty_box}
 use Rattle.row.specs.Outcome.{changed, infeasible, unchanged}
 use Rattle.semantics.specs.Call.{Call}
@@ -16,18 +18,17 @@ use Rattle.demands.specs.Passes.{enough_budget}
 use Rattle.model.specs.State.{State}
 use Rattle.two_sides.specs.Results.{probing_of, report_of}
 use Rattle.two_sides.specs.declared.Probing.{Probing}
-use Rattle.reducer.specs.declared.calls.PropagateRowAnswer.{PropagateRowAnswer}
-use Rattle.reducer.specs.declared.calls.PropagateRowAnswer.TheVariants as row
-use Rattle.reducer.specs.declared.calls.PropagateAnswer.{PropagateAnswer}
-use Rattle.reducer.specs.declared.calls.PropagateAnswer.TheVariants as rows
-use Rattle.reducer.specs.declared.calls.ProbeAnswer.{ProbeAnswer}
-use Rattle.reducer.specs.declared.calls.ProbeAnswer.TheVariants as probes
-use Rattle.reducer.specs.declared.calls.TightenAnswer.{TightenAnswer}
-use Rattle.reducer.specs.declared.calls.TightenAnswer.TheVariants as tightens
-use Rattle.reducer.specs.declared.calls.RemoveAnswer.{RemoveAnswer}
-use Rattle.reducer.specs.declared.calls.RemoveAnswer.TheVariants as removes
-use Rattle.reducer.specs.declared.calls.RestAnswer.{RestAnswer}
-use Rattle.reducer.specs.declared.calls.RestAnswer.TheVariants as rests
+use Rattle.two_sides.specs.declared.Probing.TheVariants as probes
+use Rattle.row.specs.declared.propagation.RowPropagation.{RowPropagation}
+use Rattle.row.specs.declared.propagation.RowPropagation.TheVariants as row
+use Rattle.row.specs.declared.redundancy.RowRemoval.{RowRemoval}
+use Rattle.row.specs.declared.redundancy.RowRemoval.TheVariants as removes
+use Rattle.row.specs.declared.tightening.CoefficientTightening.{CoefficientTightening}
+use Rattle.row.specs.declared.tightening.CoefficientTightening.TheVariants as tightens
+use Rattle.propagation.specs.declared.Propagation.{Propagation}
+use Rattle.propagation.specs.declared.Propagation.TheVariants as rows
+use Rattle.rest.specs.declared.Rest as rest_search
+use Rattle.rest.specs.declared.Rest.TheVariants as rests
 
 unfoldable pub performed : Answer → State → Performed
 performed a s = record { answer = a; state = s }
@@ -35,54 +36,54 @@ performed a s = record { answer = a; state = s }
 -- ---- 01's answers
 
 -- visit: refused N, None, Narrowed with the number of bounds moved, Same
-unfoldable pub row_answer : PropagateRowAnswer → Answer
-row_answer (row.Refused number) = refused number
-row_answer row.Infeasible = propagated_row infeasible 0
-row_answer (row.Tightened moved) = propagated_row changed moved
-row_answer row.Unchanged = propagated_row unchanged 0
+unfoldable pub row_answer : Result RowPropagation Refusal → Answer
+row_answer (Err r) = refused (number_of r)
+row_answer (Ok row.Infeasible) = propagated_row infeasible 0
+row_answer (Ok (row.Tightened moved)) = propagated_row changed moved
+row_answer (Ok row.Unchanged) = propagated_row unchanged 0
 
 -- settle: refused N, None, Settled, Spent with the passes and the bounds moved
-unfoldable pub propagate_answer : PropagateAnswer → Answer
-propagate_answer (rows.Refused number) = refused number
-propagate_answer (rows.Infeasible passes moved) = propagated ended.infeasible passes moved
-propagate_answer (rows.Converged passes moved) = propagated ended.converged passes moved
-propagate_answer (rows.BudgetSpent passes moved) = propagated ended.budget_spent passes moved
+unfoldable pub propagate_answer : Result Propagation Refusal → Answer
+propagate_answer (Err r) = refused (number_of r)
+propagate_answer (Ok (rows.Infeasible passes moved)) = propagated ended.infeasible passes moved
+propagate_answer (Ok (rows.Converged passes moved)) = propagated ended.converged passes moved
+propagate_answer (Ok (rows.BudgetSpent passes moved)) = propagated ended.budget_spent passes moved
 
 -- probe: refused N, None, Fixed v, Both with the new bytes, and both sides' passes, Spent and bounds moved
-unfoldable pub probe_answer : ProbeAnswer → Answer
-probe_answer (probes.Refused number) = refused number
-probe_answer (probes.Infeasible s0 s1) = probed semantic.infeasible (report_of s0) (report_of s1)
-probe_answer (probes.Fixed v s0 s1) = probed (semantic.fixed v) (report_of s0) (report_of s1)
-probe_answer (probes.BothFeasible added s0 s1) = probed (semantic.both_feasible added) (report_of s0) (report_of s1)
+unfoldable pub probe_answer : Result Probing Refusal → Answer
+probe_answer (Err r) = refused (number_of r)
+probe_answer (Ok (probes.Infeasible s0 s1)) = probed semantic.infeasible (report_of s0) (report_of s1)
+probe_answer (Ok (probes.Fixed v s0 s1)) = probed (semantic.fixed v) (report_of s0) (report_of s1)
+probe_answer (Ok (probes.BothFeasible added s0 s1)) = probed (semantic.both_feasible added) (report_of s0) (report_of s1)
 
 -- of a probe that was accepted, what its probing says
 abbrev pub probing_answer : Probing → Answer
 probing_answer p = let w = probing_of p [] [] in probed w.ending w.side0 w.side1
 
 -- sharpen: refused N, None, Sharpened, Same
-unfoldable pub tighten_answer : TightenAnswer → Answer
-tighten_answer (tightens.Refused number) = refused number
-tighten_answer tightens.Infeasible = tightened infeasible
-tighten_answer tightens.Tightened = tightened changed
-tighten_answer tightens.Unchanged = tightened unchanged
+unfoldable pub tighten_answer : Result CoefficientTightening Refusal → Answer
+tighten_answer (Err r) = refused (number_of r)
+tighten_answer (Ok tightens.Infeasible) = tightened infeasible
+tighten_answer (Ok tightens.Tightened) = tightened changed
+tighten_answer (Ok tightens.Unchanged) = tightened unchanged
 
 -- drop: refused N, None, Dropped, Same
-unfoldable pub remove_answer : RemoveAnswer → Answer
-remove_answer (removes.Refused number) = refused number
-remove_answer removes.Infeasible = removed infeasible
-remove_answer removes.Removed = removed changed
-remove_answer removes.Unchanged = removed unchanged
+unfoldable pub remove_answer : Result RowRemoval Refusal → Answer
+remove_answer (Err r) = refused (number_of r)
+remove_answer (Ok removes.Infeasible) = removed infeasible
+remove_answer (Ok removes.Removed) = removed changed
+remove_answer (Ok removes.Unchanged) = removed unchanged
 
 -- the rest call: refused N, yes, no by a row, no by a variable
 pub data RestVerdict : Type 0 where
   refused_rest : ℕ → RestVerdict
   tested : Rest → RestVerdict
 
-unfoldable pub rest_verdict : RestAnswer → RestVerdict
-rest_verdict (rests.Refused number) = refused_rest number
-rest_verdict rests.Yes = tested at_rest
-rest_verdict (rests.NoByRow r) = tested (by_row r)
-rest_verdict (rests.NoByVariable k) = tested (by_variable k)
+unfoldable pub rest_verdict : Result rest_search.Rest Refusal → RestVerdict
+rest_verdict (Err r) = refused_rest (number_of r)
+rest_verdict (Ok rests.AtRest) = tested at_rest
+rest_verdict (Ok (rests.ByRow r)) = tested (by_row r)
+rest_verdict (Ok (rests.ByVariable k)) = tested (by_variable k)
 
 -- "The rest call says yes exactly when the box is at rest."; 02 (C-13): "a no now carries what it found"
 unfoldable pub rest : State → RestVerdict

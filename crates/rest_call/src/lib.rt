@@ -9,7 +9,8 @@ ghost use Rattle.model.specs.Rows.{rows_of};
 ghost use Rattle.model.specs.State.{state_of};
 ghost use Rattle.reducer.specs.OpenCalls.{NoMeans, rest, rest_verdict, tested};
 
-use reducer::calls::RestAnswer;
+use model::refusal::Refusal;
+use model_checks::check_model;
 use rest::{Rest, test_rest};
 
 // Whether the box is a probing fixpoint (01's rest call), and what shows that it is none.
@@ -20,7 +21,7 @@ pub fn is_probing_fixpoint(
     coefs: &[i32],
     rhs: &[i32],
     kinds: &[u8],
-) -> RestAnswer
+) -> Result<Rest, Refusal>
     ensures defined { let A = rows_of coefs.now rhs.now kinds.now in
         let s = state_of n m bounds.now A [] in
         rest_verdict result ≡ rest s }
@@ -31,13 +32,6 @@ pub fn is_probing_fixpoint(
         let s = state_of n m bounds.now A [] in
         NoMeans s (rest_verdict result) }
 {
-    let fault = model_checks::model_fault(n, m, bounds, coefs, rhs, kinds, true);
-    if fault != 0 {
-        return RestAnswer::Refused(fault);
-    }
-    match test_rest(n, m, bounds, coefs, rhs, kinds) {
-        Rest::AtRest => RestAnswer::Yes,
-        Rest::ByRow(r) => RestAnswer::NoByRow(r),
-        Rest::ByVariable(k) => RestAnswer::NoByVariable(k),
-    }
+    check_model(n, m, bounds, coefs, rhs, kinds, true)?;
+    Ok(test_rest(n, m, bounds, coefs, rhs, kinds))
 }
