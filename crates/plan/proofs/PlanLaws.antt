@@ -34,13 +34,13 @@ use Rattle.plan.specs.Answers.{Answer, lengths_answer, lengths_are, lengths_call
 use Rattle.plan.specs.Lengths.{Lengths, lengths_for, lengths_of}
 use Rattle.plan.specs.Meaning.{EnoughFor, PassesAtMost}
 use Rattle.plan.specs.PlanChecks.{bounds_checks, list_fits}
-use Rattle.plan.specs.declared.WidthAnswer.{WidthAnswer}
-use Rattle.plan.specs.declared.WidthAnswer.TheVariants as widths
+use Rattle.std.specs.Prelude.{Result, Ok, Err}
+use Rattle.model.specs.declared.refusal.Refusal.{Refusal}
+use Rattle.model.specs.Refusals.{number_of}
+use Rattle.model.proofs.RefusalLaws.{number_of-injective, number_of-ne0}
 use Rattle.plan.specs.declared.BufferLengths as code
-use Rattle.plan.specs.declared.LengthsAnswer.{LengthsAnswer}
-use Rattle.plan.specs.declared.LengthsAnswer.TheVariants as buffers
-use Rattle.plan.specs.declared.PassesAnswer.{PassesAnswer}
-use Rattle.plan.specs.declared.PassesAnswer.TheVariants as lists
+use Rattle.plan.specs.declared.BoxBudget.{BoxBudget}
+use Rattle.plan.specs.declared.PassLimit.{PassLimit}
 
 -- two different constructors: `cc` makes of them that 0 is 1
 no_number : {A : Type 0} → ◌≡◌ {A = ℕ} 0 1 → A
@@ -52,6 +52,10 @@ module _ {r fault : ℕ} (e : r ≡ fault) (n : r ≡ 0 → ⊥) where
   pub refused-by : (a : Answer) → refused r ≡ unless fault a
   unfolding unless
   refused-by a = rw (← e, ne_eqb r 0 n)
+
+-- a check that refuses by name
+pub refused-by_name : {fault : ℕ} (z : Refusal) → number_of z ≡ fault → (a : Answer) → refused (number_of z) ≡ unless fault a
+refused-by_name z e a = refused-by e (number_of-ne0 z) a
 
 pub accepted-by : {fault : ℕ} → fault ≡ 0 → (a : Answer) → a ≡ unless fault a
 unfolding unless
@@ -205,7 +209,7 @@ table_fits n m t =
     let l = eqb-test (length t) (4 * (n * n)) in
     ((λ e. l.0 (d.0 e).0), (λ h. d.1 (l.1 h, tt)))
 
--- ---- each enum of the code stands for answers one to one
+-- ---- each result of the code stands for answers one to one
 
 -- the struct of the lengths that it stands for
 abbrev back : Lengths → code.BufferLengths
@@ -224,24 +228,33 @@ back l =
       book = l.book;
     }
 
-pub lengths-injective : (a b : LengthsAnswer) → lengths_answer a ≡ lengths_answer b → a ≡ b
+pub lengths-injective : (a b : Result code.BufferLengths Refusal) → lengths_answer a ≡ lengths_answer b → a ≡ b
 unfolding lengths_answer lengths_of
-lengths-injective (buffers.Refused i) (buffers.Refused j) e = cc
-lengths-injective (buffers.Refused i) (buffers.Needed l) e = no_number cc
-lengths-injective (buffers.Needed l) (buffers.Refused j) e = no_number cc
-lengths-injective (buffers.Needed l) (buffers.Needed k) e =
-    let q : lengths_of l ≡ lengths_of k = cc in ap (λ (x : Lengths). buffers.Needed (back x)) q
+lengths-injective (Err r) (Err s) e = let n : number_of r ≡ number_of s = cc in ap Err (number_of-injective r s n)
+lengths-injective (Err r) (Ok l) e = no_number cc
+lengths-injective (Ok l) (Err s) e = no_number cc
+lengths-injective (Ok l) (Ok k) e =
+    let q : lengths_of l ≡ lengths_of k = cc in ap (λ (x : Lengths). Ok (back x)) q
 
-pub width-injective : (a b : WidthAnswer) → width_answer a ≡ width_answer b → a ≡ b
+pub width-injective : (a b : Result BoxBudget Refusal) → width_answer a ≡ width_answer b → a ≡ b
 unfolding width_answer
-width-injective (widths.Refused i) (widths.Refused j) e = cc
-width-injective (widths.Refused i) (widths.Told w b) e = no_number cc
-width-injective (widths.Told w b) (widths.Refused j) e = no_number cc
-width-injective (widths.Told w b) (widths.Told v c) e = cc
+width-injective (Err r) (Err s) e = let n : number_of r ≡ number_of s = cc in ap Err (number_of-injective r s n)
+width-injective (Err r) (Ok b) e = no_number cc
+width-injective (Ok a) (Err s) e = no_number cc
+width-injective (Ok a) (Ok b) e =
+    let w : a.width ≡ b.width = cc in
+    let s : a.budget ≡ b.budget = cc in
+    let of : ℕ → ℕ → BoxBudget = λ x y. record { width = x; budget = y } in
+    ap Ok (ap₂ of w s)
 
-pub passes-injective : (a b : PassesAnswer) → passes_answer a ≡ passes_answer b → a ≡ b
+pub passes-injective : (a b : Result PassLimit Refusal) → passes_answer a ≡ passes_answer b → a ≡ b
 unfolding passes_answer
-passes-injective (lists.Refused i) (lists.Refused j) e = cc
-passes-injective (lists.Refused i) (lists.AtMost w b p) e = no_number cc
-passes-injective (lists.AtMost w b p) (lists.Refused j) e = no_number cc
-passes-injective (lists.AtMost w b p) (lists.AtMost v c q) e = cc
+passes-injective (Err r) (Err s) e = let n : number_of r ≡ number_of s = cc in ap Err (number_of-injective r s n)
+passes-injective (Err r) (Ok l) e = no_number cc
+passes-injective (Ok l) (Err s) e = no_number cc
+passes-injective (Ok l) (Ok k) e =
+    let w : l.width ≡ k.width = cc in
+    let s : l.budget ≡ k.budget = cc in
+    let p : l.passes ≡ k.passes = cc in
+    let of : ℕ → ℕ → ℕ → PassLimit = λ x y z. record { width = x; budget = y; passes = z } in
+    ap Ok (ap (λ (x : ℕ). of x l.budget l.passes) w ∙ ap₂ (of k.width) s p)

@@ -1,17 +1,16 @@
 -- What the three calls answer.
-use Rattle.std.specs.Prelude.{ℕ, eqb, ℤ, length, cond, true, List}
+use Rattle.std.specs.Prelude.{ℕ, eqb, ℤ, length, cond, true, List, Result, Ok, Err}
 use Rattle.book.specs.Book.{rows, variables}
 use Rattle.book.specs.BookChecks.{trailer_checks}
 use Rattle.model.specs.Checks.{first}
 use Rattle.demands.specs.Passes.{enough_budget, pass_limit, total_width}
 use Rattle.plan.specs.Lengths.{Lengths, lengths_for, lengths_of}
 use Rattle.plan.specs.PlanChecks.{bounds_checks, list_fits}
-use Rattle.plan.specs.declared.WidthAnswer.{WidthAnswer}
-use Rattle.plan.specs.declared.WidthAnswer.TheVariants as widths
-use Rattle.plan.specs.declared.LengthsAnswer.{LengthsAnswer}
-use Rattle.plan.specs.declared.LengthsAnswer.TheVariants as buffers
-use Rattle.plan.specs.declared.PassesAnswer.{PassesAnswer}
-use Rattle.plan.specs.declared.PassesAnswer.TheVariants as lists
+use Rattle.model.specs.declared.refusal.Refusal.{Refusal}
+use Rattle.model.specs.Refusals.{number_of}
+use Rattle.plan.specs.declared.BufferLengths.{BufferLengths}
+use Rattle.plan.specs.declared.BoxBudget.{BoxBudget}
+use Rattle.plan.specs.declared.PassLimit.{PassLimit}
 
 -- refused by a check's number; the lengths; the total width and the budget; those and an upper limit on the passes
 pub data Answer : Type 0 where
@@ -20,18 +19,18 @@ pub data Answer : Type 0 where
   width_is : (width budget : ℕ) → Answer
   passes_are : (width budget passes : ℕ) → Answer
 
--- what the enums of the code stand for; each is injective (`plan-answers-injective`)
-unfoldable pub lengths_answer : LengthsAnswer → Answer
-lengths_answer (buffers.Refused number) = refused number
-lengths_answer (buffers.Needed l) = lengths_are (lengths_of l)
+-- what the results of the code stand for; each is injective (`lengths-injective`, `width-injective`, `passes-injective`)
+unfoldable pub lengths_answer : Result BufferLengths Refusal → Answer
+lengths_answer (Ok l) = lengths_are (lengths_of l)
+lengths_answer (Err r) = refused (number_of r)
 
-unfoldable pub width_answer : WidthAnswer → Answer
-width_answer (widths.Refused number) = refused number
-width_answer (widths.Told width budget) = width_is width budget
+unfoldable pub width_answer : Result BoxBudget Refusal → Answer
+width_answer (Ok b) = width_is b.width b.budget
+width_answer (Err r) = refused (number_of r)
 
-unfoldable pub passes_answer : PassesAnswer → Answer
-passes_answer (lists.Refused number) = refused number
-passes_answer (lists.AtMost width budget passes) = passes_are width budget passes
+unfoldable pub passes_answer : Result PassLimit Refusal → Answer
+passes_answer (Ok l) = passes_are l.width l.budget l.passes
+passes_answer (Err r) = refused (number_of r)
 
 -- refused where a check fails, else a
 unfoldable pub unless : ℕ → Answer → Answer

@@ -4,33 +4,32 @@ ghost use Rattle.integer.specs.Range.{Within};
 ghost use Rattle.model.specs.Box.{NonEmpty, width as box_width};
 ghost use Rattle.model.specs.Checks.{first};
 ghost use Rattle.model.specs.Limits.{bound_size, max_variables};
+ghost use Rattle.model.specs.Refusals.{fault_of};
 ghost use Rattle.model.specs.Valid.{ValidBox};
 ghost use Rattle.demands.specs.Passes.{total_width};
 ghost use Rattle.plan.specs.Answers.{width_answer, width_call, width_is};
 ghost use Rattle.plan.specs.Meaning.{EnoughFor};
 ghost use Rattle.plan.specs.PlanChecks.{bounds_checks};
 
-use crate::WidthAnswer;
+use crate::BoxBudget;
 use boxes::is_empty;
 use buffer_checks::is_product;
-use model_checks::{box_fault, size_fault};
+use model::refusal::Refusal;
+use model_checks::{check_box, check_size};
 
-// Checks 3, 5, 6, 7 and 23 of n and the bounds: the number of the first that fails, else 0. `fits` says whether
-// whatever else the call is lent has its length (5, with the bounds').
-pub fn bounds_fault(n: usize, bounds: &[i32], fits: bool) -> u32
-    ensures { result ≡ first (bounds_checks n bounds.now fits) }
+// Checks 3, 5, 6, 7 and 23 of n and the bounds, in this order. `fits` says whether whatever else the call is lent has
+// its length (5, with the bounds').
+pub fn check_bounds(n: usize, bounds: &[i32], fits: bool) -> Result<(), Refusal>
+    ensures { fault_of result ≡ first (bounds_checks n bounds.now fits) }
 {
-    let size = size_fault(n, 0);
-    if size != 0 {
-        return size;
-    }
+    check_size(n, 0)?;
     if !is_product(bounds.len(), 2, n) {
-        return 5;
+        return Err(Refusal::BufferLength);
     }
     if !fits {
-        return 5;
+        return Err(Refusal::BufferLength);
     }
-    box_fault(n, bounds)
+    check_box(n, bounds)
 }
 
 // u − l of bounds in range, l not above u.
@@ -49,10 +48,8 @@ fn sum_of_spans(n: usize, bounds: &[i32]) -> u32
     ensures { pos result ≡ box_width n bounds.now }
 {
     let mut sum: u32 = 0;
-    let mut j = 0;
-    while j < n {
+    for j in 0..n {
         sum += span(bounds[2 * j], bounds[2 * j + 1]);
-        j += 1;
     }
     sum
 }
@@ -70,17 +67,14 @@ pub fn total_width(n: usize, bounds: &[i32]) -> u32
 
 // The total width, and a budget that is never spent. Refused by 3, 5, 6, 7 and 23. `meaning`: no propagation of a
 // model with these bounds spends that budget, which is one that check 15 lets through.
-pub fn width(n: usize, bounds: &[i32]) -> WidthAnswer
+pub fn width(n: usize, bounds: &[i32]) -> Result<BoxBudget, Refusal>
     ensures defined { width_answer result ≡ width_call n bounds.now }
     ensures meaning { (w b : ℕ) → width_answer result ≡ width_is w b → EnoughFor n bounds.now b }
 {
-    let fault = bounds_fault(n, bounds, true);
-    if fault != 0 {
-        return WidthAnswer::Refused(fault);
-    }
+    check_bounds(n, bounds, true)?;
     let width = total_width(n, bounds);
-    WidthAnswer::Told {
+    Ok(BoxBudget {
         width,
         budget: width + 1,
-    }
+    })
 }

@@ -1,7 +1,7 @@
 // What a book and a list of calls will take, told before they are loaded (02, C-17): the three calls defined, and
 // `width`, which reads the bounds. `plan_lengths` reads the trailer alone, `plan_passes` the bounds and the list; none
-// of them reads a row, and none makes a pass. All three are open: they require nothing, and refuse by the number of the
-// first check that fails.
+// of them reads a row, and none makes a pass. All three are open: they require nothing, and refuse by the first check
+// that fails.
 #![tactic(auto)]
 
 pub mod bounds;
@@ -9,7 +9,7 @@ pub mod bounds;
 pub use bounds::width;
 
 // n and m, and in elements the length of each buffer that they fix; `book` is that of a first-edition book.
-#[derive(Clone, Copy)]
+#[derive(Clone, Copy, PartialEq, Eq)]
 pub struct BufferLengths {
     pub n: usize,
     pub m: usize,
@@ -24,27 +24,17 @@ pub struct BufferLengths {
     pub book: usize,
 }
 
-#[derive(Clone, Copy)]
-pub enum LengthsAnswer {
-    // By the number of the first check that fails.
-    Refused(u32),
-    Needed(BufferLengths),
+// The total width of a box, and a budget that no propagation from it spends.
+#[derive(Clone, Copy, PartialEq, Eq)]
+pub struct BoxBudget {
+    pub width: u32,
+    pub budget: u32,
 }
 
-#[derive(Clone, Copy)]
-pub enum WidthAnswer {
-    // By the number of the first check that fails.
-    Refused(u32),
-    Told { width: u32, budget: u32 },
-}
-
-#[derive(Clone, Copy)]
-pub enum PassesAnswer {
-    // By the number of the first check that fails.
-    Refused(u32),
-    AtMost {
-        width: u32,
-        budget: u32,
-        passes: u64,
-    },
+// Those, and an upper limit on the passes that a list of calls makes.
+#[derive(Clone, Copy, PartialEq, Eq)]
+pub struct PassLimit {
+    pub width: u32,
+    pub budget: u32,
+    pub passes: u64,
 }
