@@ -19,10 +19,8 @@ pub fn nonzeros(xs: &[i32]) -> usize
     ensures { result ≡ how_many (length xs.now) (nth xs.now) }
 {
     let mut count = 0;
-    let mut i = 0;
-    while i < xs.len() {
-        count += (xs[i] != 0) as usize;
-        i += 1;
+    for &x in xs {
+        count += (x != 0) as usize;
     }
     count
 }
@@ -57,10 +55,8 @@ fn write_entries(book: &mut [u8], place: usize, row: &[i32])
         book.new ≡ overwrite place (joined (length R) (entry_bytes (nth R))) book.old }
 {
     let mut p = place;
-    let mut j = 0;
-    while j < row.len() {
-        p = write_entry(book, p, j, row[j]);
-        j += 1;
+    for (j, &x) in row.iter().enumerate() {
+        p = write_entry(book, p, j, x);
     }
 }
 
@@ -90,11 +86,7 @@ pub fn write_rows(n: usize, coefs: &[i32], rhs: &[i32], kinds: &[u8], book: &mut
         book.new ≡ overwrite (8 * n) rows book.old }
 {
     let mut p = 8 * n;
-    let mut i = 0;
-    while i < rhs.len() {
-        let b = rhs[i];
-        let kind = kinds[i];
-        p = write_row(book, p, coefficients(n, coefs, i), b, kind);
-        i += 1;
+    for (i, &b) in rhs.iter().enumerate() {
+        p = write_row(book, p, coefficients(n, coefs, i), b, kinds[i]);
     }
 }
