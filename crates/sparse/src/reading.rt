@@ -2,52 +2,51 @@
 ghost use Rattle.std.specs.Prelude.{◌≡◌, ℕ};
 ghost use Rattle.book.specs.Answers.{sizes_answer, sizes_are};
 ghost use Rattle.model.specs.Model.{model_of};
+ghost use Rattle.model.specs.Refusals.{fault_of};
 ghost use Rattle.model.specs.Rows.{rows_of};
 ghost use Rattle.sparse_layout.specs.SparseBook.{encode_sparse};
 ghost use Rattle.sparse_calls.specs.SparseCalls.{sparse_bounds_read, sparse_coefs_read, sparse_kinds_read, sparse_read_call};
 ghost use Rattle.sparse_calls.specs.SparseCalls.{sparse_read_fault, sparse_rhs_read, sparse_trailer_call};
 
-use book::SizesAnswer;
+use book::Sizes;
 use book::layout::{ROWS, TRAILER, VARIABLES, rows_of, trailer_u16, variables_of};
-use sparse_checks::head::frame_fault;
-use sparse_reading::{layout_fault, number_fault, read_numbers};
+use model::refusal::Refusal;
+use sparse_checks::head::check_frame;
+use sparse_reading::{check_layout, check_numbers, read_numbers};
 
 // n and m of the 16 trailer bytes alone. Refused by 1, more than 16 bytes by 5, then 3 and 4, 4 for the offsets only.
-pub fn trailer(bytes: &[u8]) -> SizesAnswer
+pub fn trailer(bytes: &[u8]) -> Result<Sizes, Refusal>
     ensures { sizes_answer result ≡ sparse_trailer_call bytes.now }
 {
     if bytes.len() < TRAILER {
-        return SizesAnswer::Refused(1);
+        return Err(Refusal::ShortBook);
     }
     if TRAILER < bytes.len() {
-        return SizesAnswer::Refused(5);
+        return Err(Refusal::BufferLength);
     }
-    let fault = frame_fault(bytes);
-    if fault != 0 {
-        return SizesAnswer::Refused(fault);
-    }
-    SizesAnswer::Sizes {
+    check_frame(bytes)?;
+    Ok(Sizes {
         n: variables_of(bytes),
         m: rows_of(bytes),
-    }
+    })
 }
 
-// All checks of a book and of the buffers that it is to be read into: the number of the first that fails, else 0.
-fn read_fault(book: &[u8], bounds: &[i32], coefs: &[i32], rhs: &[i32], kinds: &[u8]) -> u32
+// All checks of a book and of the buffers that it is to be read into: refused by the first that fails.
+fn check_book(
+    book: &[u8],
+    bounds: &[i32],
+    coefs: &[i32],
+    rhs: &[i32],
+    kinds: &[u8],
+) -> Result<(), Refusal>
     ensures { let A = rows_of coefs.now rhs.now kinds.now in
-        result ≡ sparse_read_fault book.now bounds.now A }
+        fault_of result ≡ sparse_read_fault book.now bounds.now A }
 {
-    let layout = layout_fault(book);
-    if layout != 0 {
-        return layout;
-    }
+    check_layout(book)?;
     let n = trailer_u16(book, VARIABLES);
     let m = trailer_u16(book, ROWS);
-    let length = model_checks::length_fault(n, m, bounds, coefs, rhs, kinds);
-    if length != 0 {
-        return length;
-    }
-    number_fault(n, m, book)
+    model_checks::check_lengths(n, m, bounds, coefs, rhs, kinds)?;
+    check_numbers(n, m, book)
 }
 
 // Reads a sparse book into lent buffers and answers n and m. Refused by 1 to 4, 19, 20, 5 to 9, 23 and 16; then nothing
@@ -58,7 +57,7 @@ pub fn read(
     coefs: &mut [i32],
     rhs: &mut [i32],
     kinds: &mut [u8],
-) -> SizesAnswer
+) -> Result<Sizes, Refusal>
     ensures answer { let A = rows_of coefs.old rhs.old kinds.old in
         sizes_answer result ≡ sparse_read_call book.now bounds.old A }
     ensures bounds_read { let A = rows_of coefs.old rhs.old kinds.old in
@@ -73,12 +72,9 @@ pub fn read(
         ((n m : ℕ) → sizes_answer result ≡ sizes_are n m →
         encode_sparse (model_of n m bounds.new A') ≡ book.now) }
 {
-    let fault = read_fault(book, bounds, coefs, rhs, kinds);
-    if fault != 0 {
-        return SizesAnswer::Refused(fault);
-    }
+    check_book(book, bounds, coefs, rhs, kinds)?;
     let n = trailer_u16(book, VARIABLES);
     let m = trailer_u16(book, ROWS);
     read_numbers(n, m, book, bounds, coefs, rhs, kinds);
-    SizesAnswer::Sizes { n, m }
+    Ok(Sizes { n, m })
 }

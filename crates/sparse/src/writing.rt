@@ -3,6 +3,7 @@ ghost use Rattle.std.specs.Prelude.{[], ◌≡◌, ◌*◌, eqb, length as size}
 ghost use Rattle.book.specs.Answers.{write_answer, written};
 ghost use Rattle.model.specs.Checks.{first, size_checks};
 ghost use Rattle.model.specs.Model.{model_of};
+ghost use Rattle.model.specs.Refusals.{fault_of};
 ghost use Rattle.model.specs.Rows.{rows_of};
 ghost use Rattle.sparse_layout.specs.SparseBook.{decode_sparse, sparse_length};
 ghost use Rattle.sparse_layout.specs.SparseChecks.{sparse_fault};
@@ -10,11 +11,10 @@ ghost use Rattle.sparse_calls.specs.SparseCalls.{length_answer, sparse_length_ca
 ghost use Rattle.sparse_calls.specs.SparseCalls.{sparse_written};
 
 use book::layout::{TRAILER, write_trailer};
-use book::writing::WriteAnswer;
 use buffer_checks::is_product;
 use little_endian::integers::write_integers;
-use model_checks::{model_fault, size_fault};
-use sparse_calls::LengthAnswer;
+use model::refusal::Refusal;
+use model_checks::{check_model, check_size};
 use sparse_writing::{sparse_length, write_rows};
 
 // Whether the sparse book of n variables, m rows and these coefficients has len bytes. Beyond the limits of n and m, or
@@ -24,18 +24,15 @@ fn is_sparse_length(n: usize, m: usize, coefs: &[i32], len: usize) -> bool
         (first (size_checks n m) ≡ 0 → size C ≡ m * n →
         result ≡ eqb len (sparse_length (model_of n m [] (rows_of C [] [])))) }
 {
-    if size_fault(n, m) != 0 {
-        return false;
+    match check_size(n, m) {
+        Ok(()) => is_product(coefs.len(), m, n) && len == sparse_length(n, m, coefs),
+        Err(_) => false,
     }
-    if !is_product(coefs.len(), m, n) {
-        return false;
-    }
-    len == sparse_length(n, m, coefs)
 }
 
-// The checks of a model, with the length of the book that it is to be written to (5): the number of the first that
-// fails, else 0.
-fn write_fault(
+// The checks of a model, with the length of the book that it is to be written to (5): refused by the first that
+// fails.
+fn check_writing(
     n: usize,
     m: usize,
     bounds: &[i32],
@@ -43,12 +40,12 @@ fn write_fault(
     rhs: &[i32],
     kinds: &[u8],
     book: &[u8],
-) -> u32
+) -> Result<(), Refusal>
     ensures { let A = rows_of coefs.now rhs.now kinds.now in
-        result ≡ sparse_write_fault (model_of n m bounds.now A) book.now }
+        fault_of result ≡ sparse_write_fault (model_of n m bounds.now A) book.now }
 {
     let fits = is_sparse_length(n, m, coefs, book.len());
-    model_fault(n, m, bounds, coefs, rhs, kinds, fits)
+    check_model(n, m, bounds, coefs, rhs, kinds, fits)
 }
 
 // Writes a model as a sparse book. Refused by 3, 5 to 9, 23 and 16; then nothing is written. Reading what was written
@@ -61,7 +58,7 @@ pub fn write(
     rhs: &[i32],
     kinds: &[u8],
     book: &mut [u8],
-) -> WriteAnswer
+) -> Result<(), Refusal>
     ensures answer { let A = rows_of coefs.now rhs.now kinds.now in
         let M = model_of n m bounds.now A in
         write_answer result ≡ sparse_write_call M book.old }
@@ -73,16 +70,13 @@ pub fn write(
         let bs = book.new in
         (write_answer result ≡ written → (sparse_fault bs ≡ 0) × (decode_sparse bs ≡ M)) }
 {
-    let fault = write_fault(n, m, bounds, coefs, rhs, kinds, book);
-    if fault != 0 {
-        return WriteAnswer::Refused(fault);
-    }
+    check_writing(n, m, bounds, coefs, rhs, kinds, book)?;
     write_integers(book, 0, bounds);
     write_rows(n, coefs, rhs, kinds, book);
     let len = book.len();
     let end = len - TRAILER;
     write_trailer(&mut book[end..], n, m, len);
-    WriteAnswer::Written
+    Ok(())
 }
 
 // How many bytes the sparse book of a model has. Refused by 3, 5 to 9, 23 and 16.
@@ -93,13 +87,10 @@ pub fn length(
     coefs: &[i32],
     rhs: &[i32],
     kinds: &[u8],
-) -> LengthAnswer
+) -> Result<usize, Refusal>
     ensures { let A = rows_of coefs.now rhs.now kinds.now in
         length_answer result ≡ sparse_length_call (model_of n m bounds.now A) }
 {
-    let fault = model_fault(n, m, bounds, coefs, rhs, kinds, true);
-    if fault != 0 {
-        return LengthAnswer::Refused(fault);
-    }
-    LengthAnswer::Bytes(sparse_length(n, m, coefs))
+    check_model(n, m, bounds, coefs, rhs, kinds, true)?;
+    Ok(sparse_length(n, m, coefs))
 }
