@@ -7,55 +7,62 @@
 
 mod buffers;
 
-ghost use Rattle.std.specs.Prelude.{true, ◌≡◌, List, ℕ, ◌*◌, ◌≤◌, length};
+ghost use Rattle.std.specs.Prelude.{◌≡◌, ◌⊎◌, List, ℕ, ◌*◌, ◌≤◌, OnOk, length};
 ghost use Rattle.intake.specs.Intake.{Held};
 ghost use Rattle.proposals.specs.Proposals.{numbers};
 ghost use Rattle.proposals.specs.Verdict.{Verdict};
+ghost use Rattle.report.specs.Report.{refused_line};
 ghost use Rattle.text.specs.Text.{texts};
 ghost use Rattle.allocation_input.specs.Input.{max_input};
 ghost use Rattle.allocation_input.specs.Output.{output, verdict_line};
 
-use allocation_input::Answer;
 use allocation_judging::judge;
 use allocation_lines::write_verdicts;
 use buffers::{MAX_INPUT, longest_input};
-use streams::input::{Input, read_all};
+use model::refusal::Refusal;
+use std::io;
+use streams::input::read_all;
 use streams::output::{print, refused};
 
 fn main(rt: HostRuntime) {
+    let mut printed = 0;
+    // A failure is told on standard error already.
+    let _ = print_allocations(&rt, &mut printed);
+}
+
+// Ok where the answer to some input was written, or the line of one that is not read to its end.
+fn print_allocations(rt: &(impl io::Input + Print + Eprint), printed: &mut usize) -> io::Result<()>
+    requires { printed.old ≡ 0 }
+    ensures { OnOk result (((bs : List ℕ) × (printed.new ≡ length (output bs)))
+        ⊎ (printed.new ≡ length (refused_line 2))) }
+{
     let mut start = longest_input();
     let mut tail = [0u8; 16];
-    let mut printed = 0;
-    match read_all(&rt, &mut start, &mut tail) {
-        Input::Length(len) => {
-            answer(&rt, &start, &tail, len, &mut printed);
-        }
-        Input::TooLong => {
-            refused(&rt, 2, &mut printed);
-        }
-        Input::Failed => {}
+    match read_all(rt, &mut start, &mut tail)? {
+        Ok(len) => answer(rt, &start, &tail, len, printed),
+        Err(refusal) => refused(rt, refusal, printed),
     }
 }
 
-// The lines of `count` proposals. True where all of them were written.
+// The lines of `count` proposals. Ok where all of them were written.
 fn print_verdicts(
     rt: &(impl Print + Eprint),
     verdicts: &[u32],
     count: usize,
     printed: &mut usize,
-) -> bool
+) -> io::Result<()>
     requires count_bound { (count ≤ 64) × (printed.old ≡ 0) }
     requires verdicts_len { length verdicts.now ≡ 2 * count }
-    ensures { (f : ℕ → Verdict) → verdicts.now ≡ numbers count f → result ≡ true →
-        printed.new ≡ length (texts count (λ c. verdict_line (f c))) }
+    ensures { (f : ℕ → Verdict) → verdicts.now ≡ numbers count f →
+        OnOk result (printed.new ≡ length (texts count (λ c. verdict_line (f c)))) }
 {
     let mut buf = [0u8; 1_344];
     let end = write_verdicts(verdicts, count, &mut buf);
     print(rt, &buf[..end], printed)
 }
 
-// The answer to an input of `len` bytes; where it is no longer than `start`, `start` begins with it. True where all of
-// it was written.
+// The answer to an input of `len` bytes; where it is no longer than `start`, `start` begins with it. Ok where all of it
+// was written.
 #[tactic(auto, using(crate::proofs::LongInput::long_input))]
 fn answer(
     rt: &(impl Print + Eprint),
@@ -63,18 +70,18 @@ fn answer(
     tail: &[u8],
     len: usize,
     printed: &mut usize,
-) -> bool
+) -> io::Result<()>
     requires max_input_value { (max_input ≡ length start.now) × ((bs : List ℕ) × Held bs start.now tail.now len) }
     requires printed_value { printed.old ≡ 0 }
-    ensures { (bs : List ℕ) → Held bs start.now tail.now len → result ≡ true →
-        printed.new ≡ length (output bs) }
+    ensures { (bs : List ℕ) → Held bs start.now tail.now len →
+        OnOk result (printed.new ≡ length (output bs)) }
 {
     if MAX_INPUT < len {
-        return refused(rt, 2, printed);
+        return refused(rt, Refusal::BookLength, printed);
     }
     let mut verdicts = [0u32; 128];
     match judge(&start[..len], &mut verdicts) {
-        Answer::Refused(number) => refused(rt, number, printed),
-        Answer::Verdicts(count) => print_verdicts(rt, &verdicts[..2 * count], count, printed),
+        Err(refusal) => refused(rt, refusal, printed),
+        Ok(count) => print_verdicts(rt, &verdicts[..2 * count], count, printed),
     }
 }
