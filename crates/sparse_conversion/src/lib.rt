@@ -15,12 +15,11 @@ ghost use Rattle.sparse_calls.specs.SparseCalls.{length_answer, sparse_length_ca
 ghost use Rattle.sparse_calls.specs.SparseCalls.{to_first_call, to_first_written, to_sparse_call, to_sparse_length_call};
 ghost use Rattle.sparse_calls.specs.SparseCalls.{to_sparse_written};
 
-use book::layout::{ROWS, VARIABLES, head_fault, trailer_u16};
-use book::writing::WriteAnswer;
+use book::layout::{ROWS, VARIABLES, check_head, trailer_u16};
 use little_endian::integers::read_integers;
+use model::refusal::Refusal;
 use model::{MAX_BOX, MAX_MATRIX, MAX_ROWS};
-use sparse_calls::LengthAnswer;
-use sparse_reading::{layout_fault, read_numbers};
+use sparse_reading::{check_layout, read_numbers};
 
 // Reads the numbers of a first-edition book with a head into buffers of its model's lengths.
 fn read_first(
@@ -51,7 +50,7 @@ fn measure_first(
     coefs: &mut [i32],
     rhs: &mut [i32],
     kinds: &[u8],
-) -> LengthAnswer
+) -> Result<usize, Refusal>
     requires layout { HoldsModel n m from.now }
     requires lengths { (length bounds.old ≡ 2 * n) × (length coefs.old ≡ m * n) × (length rhs.old ≡ m) }
     requires inequalities { kinds.now ≡ kinds_of m }
@@ -71,7 +70,7 @@ fn convert_first(
     rhs: &mut [i32],
     kinds: &[u8],
     to: &mut [u8],
-) -> WriteAnswer
+) -> Result<(), Refusal>
     requires layout { HoldsModel n m from.now }
     requires lengths { (length bounds.old ≡ 2 * n) × (length coefs.old ≡ m * n) × (length rhs.old ≡ m) }
     requires inequalities { kinds.now ≡ kinds_of m }
@@ -92,7 +91,7 @@ fn convert_sparse(
     rhs: &mut [i32],
     kinds: &mut [u8],
     to: &mut [u8],
-) -> WriteAnswer
+) -> Result<(), Refusal>
     requires layout { HoldsRows n m from.now × (first (all_entry_checks n m from.now) ≡ 0) }
     requires lengths { (length bounds.old ≡ 2 * n) × (length coefs.old ≡ m * n)
         × (length rhs.old ≡ m) × (length kinds.old ≡ m) }
@@ -105,13 +104,10 @@ fn convert_sparse(
 
 // How many bytes the sparse edition of a first-edition book has. Refused as reading the book is, by 1 to 4, 6 to 9 and
 // 23.
-pub fn to_sparse_length(from: &[u8]) -> LengthAnswer
+pub fn to_sparse_length(from: &[u8]) -> Result<usize, Refusal>
     ensures { length_answer result ≡ to_sparse_length_call from.now }
 {
-    let head = head_fault(from);
-    if head != 0 {
-        return LengthAnswer::Refused(head);
-    }
+    check_head(from)?;
     let n = trailer_u16(from, VARIABLES);
     let m = trailer_u16(from, ROWS);
     let mut bounds = [0i32; MAX_BOX];
@@ -133,16 +129,13 @@ pub fn to_sparse_length(from: &[u8]) -> LengthAnswer
 
 // A first-edition book as a sparse one. Refused as reading the book is, with 5 for the length of the book to be
 // written; then nothing is written. Converting back gives the same bytes (`round_trip`).
-pub fn to_sparse(from: &[u8], to: &mut [u8]) -> WriteAnswer
+pub fn to_sparse(from: &[u8], to: &mut [u8]) -> Result<(), Refusal>
     ensures answer { write_answer result ≡ to_sparse_call from.now to.old }
     ensures book_written { to.new ≡ to_sparse_written from.now to.old }
     ensures round_trip { let cs = to.new in
         (write_answer result ≡ written → (sparse_fault cs ≡ 0) × (to_first cs ≡ from.now)) }
 {
-    let head = head_fault(from);
-    if head != 0 {
-        return WriteAnswer::Refused(head);
-    }
+    check_head(from)?;
     let n = trailer_u16(from, VARIABLES);
     let m = trailer_u16(from, ROWS);
     let mut bounds = [0i32; MAX_BOX];
@@ -165,16 +158,13 @@ pub fn to_sparse(from: &[u8], to: &mut [u8]) -> WriteAnswer
 
 // A sparse book as a first-edition one. Refused as reading the book is, with 5 for the length of the book to be
 // written, and then an = row by 17; then nothing is written. Converting back gives the same bytes (`round_trip`).
-pub fn to_first(from: &[u8], to: &mut [u8]) -> WriteAnswer
+pub fn to_first(from: &[u8], to: &mut [u8]) -> Result<(), Refusal>
     ensures answer { write_answer result ≡ to_first_call from.now to.old }
     ensures book_written { to.new ≡ to_first_written from.now to.old }
     ensures round_trip { let cs = to.new in
         (write_answer result ≡ written → (book_fault cs ≡ 0) × (to_sparse cs ≡ from.now)) }
 {
-    let layout = layout_fault(from);
-    if layout != 0 {
-        return WriteAnswer::Refused(layout);
-    }
+    check_layout(from)?;
     let n = trailer_u16(from, VARIABLES);
     let m = trailer_u16(from, ROWS);
     let mut bounds = [0i32; MAX_BOX];

@@ -67,7 +67,7 @@ write_trailer-requires c =
     let r = ready _ _ c.in_ok-check_writing.ensures in
     let v = r.0 in
     let bs = c.write_rows.new.book in
-    let kept = c.write_rows.auto.book ∙ c.write_integers.auto.bytes in
+    let kept : length bs ≡ length c.args.book.now = c.write_rows.auto.book ∙ c.write_integers.auto.bytes in
     (rw (sixteen c.args.n c.args.m (length bs) (kept ∙ r.1)) (length_part (length bs - 16) 16 bs (omega (arith, r.1))), v.few, v.few_rows, omega (arith, r.1, length-below _ _ v.few v.few_rows))
 
 pub returns : goal.returns
