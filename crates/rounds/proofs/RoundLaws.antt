@@ -1,5 +1,5 @@
 -- What the functions that make a round need of the definitions: where calls lead, and one turn of a loop over calls. Assumes nothing.
-use Prim.Native.Nat.{◌*◌, ◌+◌, ◌-◌, ◌<◌, ◌≤◌, suc, zero, ℕ}
+use Prim.Native.Nat.{◌*◌, ◌+◌, ◌<◌, ◌≤◌, suc, zero, ℕ}
 use lib.Dec.{T}
 use lib.IntN.{ℤ}
 use lib.ListN.{length, replicate}
@@ -9,7 +9,7 @@ use mathlib.Core.Path.{◌∙◌, ◌≡◌, ap, ap₂, refl, subst, sym}
 use native.Mathlib.Numerals.{add-one}
 use native.Mathlib.Omega.{arith}
 use Rattle.integer.proofs.Tests.{true→T}
-use Rattle.model.specs.Box.{is_empty, at, is_free}
+use Rattle.model.specs.Box.{is_empty, is_free}
 use Rattle.model.specs.Valid.{ValidModel, ValidState, ValidTable}
 use Rattle.semantics.specs.Run.{CallClass, class_of, run, step}
 use Rattle.model.specs.Model.{model_of}

@@ -10,7 +10,7 @@ use mathlib.Core.Path.{◌∙◌, ◌≡◌, ap, ap₂, refl, subst, sym}
 use native.Mathlib.Numerals.{add-one}
 use native.Mathlib.Omega.{arith}
 use Rattle.integer.proofs.Tests.{cond_ind}
-use Rattle.model.specs.Box.{is_empty, at}
+use Rattle.model.specs.Box.{is_empty}
 use Rattle.model.proofs.BoxLaws.{is_empty-test}
 use Rattle.call_laws.specs.Points.{PointOf, TableHolds}
 use Rattle.model.specs.Valid.{ValidState}

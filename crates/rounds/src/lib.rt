@@ -2,11 +2,10 @@
 // promise. No code stands here: crate `round` makes one round, `rounds_call` all of them.
 #![tactic(auto)]
 
-// How the rounds ended, with the number of rounds made and whether the budget of a probe's side was spent in the last
-// of them: refused N; at None; after a round that changed nothing; at the limit.
-#[derive(Clone, Copy)]
-pub enum RoundsAnswer {
-    Refused(u32),
+// How the rounds that were made ended, with their number and whether the budget of a probe's side was spent in the last
+// of them: at None; after a round that changed nothing; at the limit.
+#[derive(Clone, Copy, PartialEq, Eq)]
+pub enum RoundsMade {
     Infeasible(u64, bool),
     NothingChanged(u64, bool),
     AtLimit(u64, bool),

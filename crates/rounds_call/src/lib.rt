@@ -11,7 +11,9 @@ ghost use Rattle.rounds.specs.NoLimit.{NotReached};
 ghost use Rattle.rounds.specs.Rest.{EndsAtRest};
 ghost use Rattle.rounds.specs.Rounds.{SamePoints, run_rounds};
 
-use rounds::RoundsAnswer;
+use model::refusal::Refusal;
+use model_checks::check_model_with_table;
+use rounds::RoundsMade;
 use rounds_loop::make_rounds;
 
 // The limit that is none: it is never reached, since every model's rounds end below it (`unreached`).
@@ -29,7 +31,7 @@ pub fn run(
     kinds: &mut [u8],
     table: &mut [u8],
     limit: u64,
-) -> RoundsAnswer
+) -> Result<RoundsMade, Refusal>
     ensures answer { let A = rows_of coefs.old rhs.old kinds.old in
         let s = state_of n m bounds.old A table.old in
         rounds_answer result ≡ (run_rounds limit s).answer }
@@ -48,10 +50,6 @@ pub fn run(
         let r' = state_of n m bounds.new A' table.new in
         EndsAtRest r' (rounds_answer result) }
 {
-    let fault = model_checks::model_table_fault(n, m, bounds, coefs, rhs, kinds, table, true);
-    let is_refused = fault != 0;
-    if is_refused {
-        return RoundsAnswer::Refused(fault);
-    }
-    make_rounds(n, m, bounds, coefs, rhs, kinds, table, limit)
+    check_model_with_table(n, m, bounds, coefs, rhs, kinds, table, true)?;
+    Ok(make_rounds(n, m, bounds, coefs, rhs, kinds, table, limit))
 }

@@ -11,7 +11,7 @@ ghost use Rattle.rounds.specs.Answers.{rounds_answer};
 ghost use Rattle.rounds.specs.Rounds.{ended, rounds_from};
 
 use round::round;
-use rounds::RoundsAnswer;
+use rounds::RoundsMade;
 
 // Makes rounds until one changes nothing, the box is empty or `limit` rounds are made.
 pub fn make_rounds(
@@ -23,30 +23,29 @@ pub fn make_rounds(
     kinds: &mut [u8],
     table: &mut [u8],
     limit: u64,
-) -> RoundsAnswer
+) -> RoundsMade
     requires { ValidState (state_of n m bounds.old (rows_of coefs.old rhs.old kinds.old) table.old) }
     ensures answer { let A = rows_of coefs.old rhs.old kinds.old in
         let s = state_of n m bounds.old A table.old in
         let all = rounds_from limit 0 false s in
-        rounds_answer result ≡ ended all.ending all.rounds all.spent }
+        rounds_answer (Ok result) ≡ ended all.ending all.rounds all.spent }
     ensures left { let A = rows_of coefs.old rhs.old kinds.old in
         let A' = rows_of coefs.new rhs.new kinds.new in
         let s = state_of n m bounds.old A table.old in
         let r' = state_of n m bounds.new A' table.new in
         r' ≡ ran s (rounds_from limit 0 false s).calls }
 {
-    let mut made: u64 = 0;
     let mut spent = false;
-    while made < limit {
-        made += 1;
+    for before in 0..limit {
+        let made = before + 1;
         let last = round(n, m, bounds, coefs, rhs, kinds, table);
         spent = last.spent;
         if boxes::is_empty(bounds) {
-            return RoundsAnswer::Infeasible(made, spent);
+            return RoundsMade::Infeasible(made, spent);
         }
         if !last.changed {
-            return RoundsAnswer::NothingChanged(made, spent);
+            return RoundsMade::NothingChanged(made, spent);
         }
     }
-    RoundsAnswer::AtLimit(made, spent)
+    RoundsMade::AtLimit(limit, spent)
 }
