@@ -1,7 +1,10 @@
 -- The open call's promises, refused or accepted, from the number of its checks and from what an accepted call comes to.
-use Rattle.std.specs.Prelude.{◌≡◌, ℕ, true, List, [], length, ℤ}
+use Rattle.std.specs.Prelude.{◌≡◌, ℕ, true, List, [], Result, Err, length, ℤ}
 use mathlib.Core.Path.{◌∙◌, ap, refl, sym}
+use Rattle.model.specs.Refusals.{number_of}
 use Rattle.model.specs.Rows.{Rows}
+use Rattle.model.specs.declared.refusal.Refusal.{Refusal}
+use Rattle.model.proofs.RefusalLaws.{number_of-ne0}
 use Rattle.model.specs.State.{state_of}
 use Rattle.prepared_checks.specs.Checks.{propagate_fault, reasons_fit}
 use Rattle.prepared_checks.proofs.CheckLaws.{same-fault}
@@ -14,11 +17,10 @@ use Rattle.semantics.specs.Perform.{perform, refused}
 use Rattle.semantics.specs.Propagate.{propagate}
 use Rattle.prepared_call.specs.PreparedCall.{PropagateAccepted, prepared_answer}
 use Rattle.prepared_call.specs.declared.PreparedPropagation.{PreparedPropagation}
-use Rattle.prepared_call.specs.declared.PreparedPropagation.TheVariants as code
 
 module _ (W : List ℕ) (B : List ℤ) (R : List ℕ) (budget : ℕ) where
   -- what the call promises where it answers r and leaves W', B' and R'
-  abbrev pub Promised : PreparedPropagation → List ℕ → List ℤ → List ℕ → Type 0
+  abbrev pub Promised : Result PreparedPropagation Refusal → List ℕ → List ℤ → List ℕ → Type 0
   Promised r W' B' R' =
       ((propagate_fault W B R budget ≡ 0 → ⊥) → (prepared_answer r ≡ refused (propagate_fault W B R budget)) × (W' ≡ W) × (B' ≡ B) × (R' ≡ R))
       × ((propagate_fault W B R budget ≡ 0 → PropagateAccepted budget W B (length R) r W' B' R')
@@ -27,9 +29,10 @@ module _ (W : List ℕ) (B : List ℤ) (R : List ℕ) (budget : ℕ) where
       performed (prepared_answer r) (state_of (variables_of W) (rows_in W) B' A []) ≡ perform s (call_of s 2 0 0 budget))
       × ((A : Rows) → Prepared W A → Prepared W' A)))
 
-  pub refused_all : {f : ℕ} → f ≡ propagate_fault W B R budget → (f ≡ 0 → ⊥) → Promised (code.Refused f) W B R
+  pub refused_all : (f : Refusal) → number_of f ≡ propagate_fault W B R budget → Promised (Err f) W B R
   unfolding prepared_answer
-  refused_all e n = (
+  refused_all g e =
+    let n = number_of-ne0 g in (
     (λ _. (ap refused e, refl, refl, refl)),
     (
       (λ z. absurd (n (e ∙ z))),
@@ -41,7 +44,7 @@ module _ (W : List ℕ) (B : List ℤ) (R : List ℕ) (budget : ℕ) where
     ),
   )
 
-  pub accepted-all : {r : PreparedPropagation} {W' : List ℕ} {B' : List ℤ} {R' : List ℕ} → propagate_fault W B R budget ≡ 0
+  pub accepted-all : {r : Result PreparedPropagation Refusal} {W' : List ℕ} {B' : List ℤ} {R' : List ℕ} → propagate_fault W B R budget ≡ 0
       → PropagateAccepted budget W B (length R) r W' B' R' → Promised r W' B' R'
   accepted-all z q = (
     (λ n. absurd (n z)),

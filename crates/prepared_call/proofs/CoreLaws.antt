@@ -1,5 +1,5 @@
 -- An accepted call: what the passes came to is what the settle of the model comes to, and what is kept leaves the workspace prepared.
-use Rattle.std.specs.Prelude.{◌≡◌, ℕ, zero, suc, ◌+◌, Bool, true, false, cond, not, T, ltb, List, [], length, take, replicate, ℤ}
+use Rattle.std.specs.Prelude.{◌≡◌, Ok, ℕ, zero, suc, ◌+◌, Bool, true, false, cond, not, T, ltb, List, [], length, take, replicate, ℤ}
 use lib.Dec.{T_not}
 use lib.ListN.{length-replicate}
 use lib.Seq.{length-take-le}
@@ -119,7 +119,7 @@ spent-left e = rw e tt
 -- ---- the empty box
 
 module _ (budget : ℕ) {W : List ℕ} {B : List ℤ} (k : ℕ) (e : is_empty (variables_of W) B ≡ true) {R' : List ℕ} (z : R' ≡ replicate k no_row) where
-  pub empty-is-none : PropagateAccepted budget W B k (code.Infeasible 1 0 no_row) W B R'
+  pub empty-is-none : PropagateAccepted budget W B k (Ok (code.Infeasible 1 0 no_row)) W B R'
   unfolding prepared_answer infeasible_row answers_none is_refused is_none propagate reasons_of
   empty-is-none = record {
     told = tt;
@@ -167,7 +167,7 @@ module _ (budget : ℕ) {W : List ℕ} {B : List ℤ} (k : ℕ) (e : is_empty (v
   left-box A q = sym (box_of p.end) ∙ box-is A q
 
   pub infeasible-is : {passes moved : ℕ} → p.end ≡ made.Infeasible passes moved
-      → PropagateAccepted budget W B k (code.Infeasible passes moved p.row) W B' R'
+      → PropagateAccepted budget W B k (Ok (code.Infeasible passes moved p.row)) W B' R'
   unfolding prepared_answer infeasible_row answers_none is_refused is_none propagation_of
   infeasible-is f = record {
     told = tt;
@@ -201,7 +201,7 @@ module _ (budget : ℕ) {W : List ℕ} {B : List ℤ} (k : ℕ) (e : is_empty (v
     both-kept : SameBut 4 264 W W'
     both-kept = same-join (omega arith) (omega arith) w.first w.second
 
-    pub converged-is : {passes moved : ℕ} → p.end ≡ made.Converged passes moved → PropagateAccepted budget W B k (code.Converged passes moved) W' B' R'
+    pub converged-is : {passes moved : ℕ} → p.end ≡ made.Converged passes moved → PropagateAccepted budget W B k (Ok (code.Converged passes moved)) W' B' R'
     unfolding prepared_answer infeasible_row answers_none is_refused is_none propagation_of
     converged-is f = record {
       told = tt;
@@ -213,7 +213,7 @@ module _ (budget : ℕ) {W : List ℕ} {B : List ℤ} (k : ℕ) (e : is_empty (v
       prepared = still-prepared;
     }
 
-    pub spent-is : {passes moved : ℕ} → p.end ≡ made.BudgetSpent passes moved → PropagateAccepted budget W B k (code.BudgetSpent passes moved) W' B' R'
+    pub spent-is : {passes moved : ℕ} → p.end ≡ made.BudgetSpent passes moved → PropagateAccepted budget W B k (Ok (code.BudgetSpent passes moved)) W' B' R'
     unfolding prepared_answer infeasible_row answers_none is_refused is_none propagation_of
     spent-is f = record {
       told = tt;

@@ -1,6 +1,6 @@
 // A prepared propagate call that is accepted: from the box that the workspace knows to the lent one, the passes, and
 // what is kept of them.
-ghost use Rattle.std.specs.Prelude.{◌≡◌, length};
+ghost use Rattle.std.specs.Prelude.{Ok, ◌≡◌, length};
 ghost use Rattle.prepared_checks.specs.Checks.{Accepting};
 ghost use Rattle.prepared_call.specs.Core.{Keeping, Kept, Ran, Running};
 ghost use Rattle.prepared_call.specs.PreparedCall.{PropagateAccepted};
@@ -68,7 +68,7 @@ pub fn propagate_accepted(
     reasons: &mut [u32],
 ) -> PreparedPropagation
     requires { Accepting ws.old bounds.old reasons.old }
-    ensures { PropagateAccepted budget ws.old bounds.old (length reasons.old) result
+    ensures { PropagateAccepted budget ws.old bounds.old (length reasons.old) (Ok result)
         ws.new bounds.new reasons.new }
 {
     no_reasons(reasons);

@@ -19,13 +19,13 @@ ghost use Rattle.semantics.specs.Perform.{perform, refused};
 ghost use Rattle.prepared_call.specs.PreparedCall.{PropagateAccepted, prepared_answer};
 
 use crate::accepted::propagate_accepted;
-use prepared_checks::propagate_fault;
+use model::refusal::Refusal;
+use prepared_checks::check_propagation;
 
-// 01's settle: refused N, None, Settled, Spent, with the passes made and the number of bounds moved; None with the row
-// that was infeasible, `NO_ROW` where the lent box was empty.
+// 01's settle: None, Settled, Spent, with the passes made and the number of bounds moved; None with the row that was
+// infeasible, `NO_ROW` where the lent box was empty: the C interface has that number there.
 #[derive(Clone, Copy)]
 pub enum PreparedPropagation {
-    Refused(u32),
     Infeasible(u32, u32, u32),
     Converged(u32, u32),
     BudgetSpent(u32, u32),
@@ -37,7 +37,7 @@ pub fn propagate(
     bounds: &mut [i32],
     budget: u32,
     reasons: &mut [u32],
-) -> PreparedPropagation
+) -> Result<PreparedPropagation, Refusal>
     ensures refused { let W = ws.old in
         let fault = propagate_fault W bounds.old reasons.old budget in
         ((fault ≡ 0 → ⊥) → (prepared_answer result ≡ refused fault) × (ws.new ≡ W)
@@ -54,9 +54,6 @@ pub fn propagate(
         performed (prepared_answer result) r' ≡ perform s (call_of s 2 0 0 budget)) }
     ensures prepared { (A : Rows) → Prepared ws.old A → Prepared ws.new A }
 {
-    let fault = propagate_fault(ws, bounds, budget, reasons);
-    if fault != 0 {
-        return PreparedPropagation::Refused(fault);
-    }
-    propagate_accepted(ws, bounds, budget, reasons)
+    check_propagation(ws, bounds, budget, reasons)?;
+    Ok(propagate_accepted(ws, bounds, budget, reasons))
 }

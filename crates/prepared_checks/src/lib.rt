@@ -5,11 +5,13 @@
 ghost use Rattle.std.specs.Prelude.{◌&&◌, ◌≡◌, ◌*◌, ◌≤◌, eqb, length};
 ghost use Rattle.prepared_model.specs.Layout.{is_ours, variables_of};
 ghost use Rattle.model.specs.Limits.{max_variables};
+ghost use Rattle.model.specs.Refusals.{fault_of};
 ghost use Rattle.prepared_checks.specs.Checks.{probe_fault, propagate_fault, reasons_fit, sides_fit};
 
-use box_checks::box_fault;
+use box_checks::check_box;
 use buffer_checks::is_bits;
-use call::checks::{budget_fault, probe_fields_fault};
+use call::checks::{check_budget, check_probe_fields};
+use model::refusal::Refusal;
 use workspace::is_ours;
 
 // Whether the workspace is ours and every other list has its length.
@@ -22,27 +24,23 @@ fn fits(ws: &[u32], bounds: &[i32], reasons: &[u32]) -> bool
         return false;
     }
     let len = 2 * (ws[1] as usize);
-    if bounds.len() != len {
-        return false;
-    }
-    if reasons.len() == 0 {
-        return true;
-    }
-    reasons.len() == len
+    bounds.len() == len && (reasons.is_empty() || reasons.len() == len)
 }
 
-// The number by which a propagation is refused, 0 where it is accepted: 5 of all that is lent, 6, 7 and 23, 15.
-pub fn propagate_fault(ws: &[u32], bounds: &[i32], budget: u32, reasons: &[u32]) -> u32
-    ensures { result ≡ propagate_fault ws.now bounds.now reasons.now budget }
+// Refuses a propagation by the first check that fails: 5 of all that is lent, 6, 7 and 23, 15.
+pub fn check_propagation(
+    ws: &[u32],
+    bounds: &[i32],
+    budget: u32,
+    reasons: &[u32],
+) -> Result<(), Refusal>
+    ensures { fault_of result ≡ propagate_fault ws.now bounds.now reasons.now budget }
 {
     if !fits(ws, bounds, reasons) {
-        return 5;
+        return Err(Refusal::BufferLength);
     }
-    let fault = box_fault(ws[1] as usize, bounds);
-    if fault != 0 {
-        return fault;
-    }
-    budget_fault(budget)
+    check_box(ws[1] as usize, bounds)?;
+    check_budget(budget)
 }
 
 // Whether the reasons are none, or 2n for each side.
@@ -50,43 +48,37 @@ fn sides_fit(n: usize, reasons: &[u32]) -> bool
     requires { n ≤ max_variables }
     ensures { result ≡ sides_fit n reasons.now }
 {
-    if reasons.len() == 0 {
-        return true;
-    }
-    reasons.len() == 4 * n
+    reasons.is_empty() || reasons.len() == 4 * n
 }
 
-// The number by which a probe is refused, 0 where it is accepted: 5 of all that is lent, 6, 7 and 23, 10, 13 to 15.
-pub fn probe_fault(
+// Refuses a probe by the first check that fails: 5 of all that is lent, 6, 7 and 23, 10, 13 to 15.
+pub fn check_probe(
     ws: &[u32],
     bounds: &[i32],
     table: &[u8],
     variable: u32,
     budget: u32,
     reasons: &[u32],
-) -> u32
-    ensures { result ≡ probe_fault ws.now bounds.now table.now reasons.now variable
-        budget }
+) -> Result<(), Refusal>
+    ensures { fault_of result
+        ≡ probe_fault ws.now bounds.now table.now reasons.now variable budget }
 {
     if !is_ours(ws) {
-        return 5;
+        return Err(Refusal::BufferLength);
     }
     let n = ws[1] as usize;
     if bounds.len() != 2 * n {
-        return 5;
+        return Err(Refusal::BufferLength);
     }
     if table.len() != 4 * (n * n) {
-        return 5;
+        return Err(Refusal::BufferLength);
     }
     if !sides_fit(n, reasons) {
-        return 5;
+        return Err(Refusal::BufferLength);
     }
-    let fault = box_fault(n, bounds);
-    if fault != 0 {
-        return fault;
-    }
+    check_box(n, bounds)?;
     if !is_bits(table) {
-        return 10;
+        return Err(Refusal::TableByte);
     }
-    probe_fields_fault(n, bounds, variable, budget)
+    check_probe_fields(n, bounds, variable, budget)
 }

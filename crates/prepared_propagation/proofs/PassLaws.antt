@@ -4,20 +4,21 @@ use lib.Dec.{T}
 use lib.IntN.{◌+ℤ◌, pos, ℤ}
 use lib.ListN.{length}
 use lib.Signed.{◌≤ℤ◌}
-use mathlib.Core.Bool.{Bool, false, not, true, true≢false}
+use mathlib.Core.Bool.{Bool, false, not, true}
 use mathlib.Core.List.{List}
 use mathlib.Core.Path.{◌∙◌, ◌≡◌, ap, refl, sym}
 use native.Mathlib.Decide.{ℕ_discrete}
 use native.Mathlib.Numerals.{add-one}
 use native.Mathlib.Omega.{arith}
 use mathlib.Core.Logic.{◌⊎◌, inr, ⊎_elim}
+use Rattle.std.specs.Prelude.{None, Some}
 use Rattle.integer.proofs.Parts.{zarith, zify}
 use Rattle.marked_row.proofs.MarkedRowLaws.{left_by, tightened, unmoved}
 use Rattle.model.specs.Box.{NonEmpty, width}
 use Rattle.model.specs.Model.{model_of}
 use Rattle.model.specs.Rows.{Row, Rows, row_at}
 use Rattle.prepared_model.specs.Layout.{decode, fall_of, rise_of}
-use Rattle.prepared_model.specs.Reasons.{ending_row, no_row, reasons_to}
+use Rattle.prepared_model.specs.Reasons.{ending_row, reasons_to}
 use Rattle.prepared_model.specs.RowReasons.{Lent, row_reasons}
 use Rattle.prepared_model.proofs.DecodeLaws.{decode-valid}
 use Rattle.prepared_model.proofs.ReasonsLaws.{ending-is, reasons-ended, reasons-next}
@@ -164,14 +165,14 @@ module _ {n m : ℕ} {W : List ℕ} {B₀ seen₀ : List ℤ} {D₀ R₀ : List 
   module _ (D' : List ℕ) (calm : Hearers n m (decode n m W) (rise_of W) (fall_of W) → Calm n m (decode n m W) B D → Calm n m (decode n m W) Q D')
       {S : List ℕ} (b : S ≡ row_reasons r B (propagate_row_of n row B) R) where
     -- it is infeasible
-    pub passing-ended : v ≡ Infeasible → Known n m W B₀ D₀ → PassTold n m (decode n m W) B₀ R₀ (record { ended = true; moved = moved; row = r }) Q D' S
+    pub passing-ended : v ≡ Infeasible → Known n m W B₀ D₀ → PassTold n m (decode n m W) B₀ R₀ (record { moved = moved; infeasible = Some r }) Q D' S
     passing-ended t k =
         let y = i.told k in
         record {
           made = made_of (row-infeasible n r (decode n m W) B₀ 0 v Q y.0.is e m h t);
           calm = calm k.hearers y.1;
           movers = blames-ended y.0 v Q e b m h t;
-          infeasible = λ _. blames-row y.0 v Q e b m h t;
+          infeasible = λ s z. let same : r ≡ s = cc in rw (sym same) (blames-row y.0 v Q e b m h t);
         }
 
   -- it is not
@@ -214,7 +215,7 @@ module _ {n m : ℕ} {W : List ℕ} {B₀ seen₀ : List ℤ} {D₀ R₀ : List 
 -- all rows are passed, and none ended it
 pub passing-all : {n m : ℕ} {W : List ℕ} {B₀ seen₀ : List ℤ} {D₀ R₀ : List ℕ} {B seen : List ℤ} {D R : List ℕ} {moved r : ℕ}
     → Passing n m W B₀ seen₀ D₀ R₀ B seen D R moved r → r ≡ m → Known n m W B₀ D₀
-    → PassTold n m (decode n m W) B₀ R₀ (record { ended = false; moved = moved; row = no_row }) B D R
+    → PassTold n m (decode n m W) B₀ R₀ (record { moved = moved; infeasible = None }) B D R
 passing-all i e k =
     let y = i.told k in
-    record { made = made_of (rw e at y.0.is); calm = y.1; movers = rw e at y.0.movers; infeasible = λ t. absurd (true≢false (sym t)) }
+    record { made = made_of (rw e at y.0.is); calm = y.1; movers = rw e at y.0.movers; infeasible = λ r t. cc }

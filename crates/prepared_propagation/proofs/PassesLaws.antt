@@ -3,11 +3,12 @@ use Prim.Native.Nat.{◌+◌, ◌-◌, ◌<◌, ◌^◌, ◌≤◌, ℕ}
 use lib.IntN.{◌+ℤ◌, pos, ℤ}
 use lib.ListN.{length}
 use lib.Signed.{◌≤ℤ◌}
-use mathlib.Core.Bool.{Bool, false, true}
+use mathlib.Core.Bool.{Bool}
 use mathlib.Core.List.{List}
-use mathlib.Core.Path.{◌∙◌, ◌≡◌, refl, sym}
+use mathlib.Core.Path.{◌∙◌, ◌≡◌, ap, refl, sym}
 use native.Mathlib.Nat.{sub-zero}
 use native.Mathlib.Omega.{arith}
+use Rattle.std.specs.Prelude.{None, Some, is_some}
 use Rattle.integer.proofs.Parts.{zarith, zify}
 use Rattle.model.specs.Box.{width}
 use Rattle.model.specs.Model.{model_of}
@@ -80,37 +81,37 @@ module _ {n m : ℕ} {W : List ℕ} {budget : ℕ} {B₀ seen₀ : List ℤ} {D�
     abbrev more : ℕ
     more = p.moved
 
-    pass-is : {b : Bool} → p.ended ≡ b → Known n m W B₀ D₀ → PassIs n m (decode n m W) B moved b (moved + more) Q
+    pass-is : {b : Bool} → is_some p.infeasible ≡ b → Known n m W B₀ D₀ → PassIs n m (decode n m W) B moved b (moved + more) Q
     pass-is e k = rw e at (is-of moved (t (known-now k)).made)
 
-    ended-as : {b : Bool} → p.ended ≡ b → Known n m W B₀ D₀ → (pass_to n m (decode n m W) B).ended ≡ b
+    ended-as : {b : Bool} → is_some p.infeasible ≡ b → Known n m W B₀ D₀ → (pass_to n m (decode n m W) B).ended ≡ b
     ended-as e k = (t (known-now k)).made.ended ∙ e
 
-    pub ended_is : p.ended ≡ true → Known n m W B₀ D₀
+    pub ended_is : {row : ℕ} → p.infeasible ≡ Some row → Known n m W B₀ D₀
         → propagation_of (code.Infeasible (made + 1) (moved + more)) Q ≡ propagate_from budget 0 0 n m (decode n m W) B₀
     unfolding propagation_of
-    ended_is e k = sym (pass-infeasible budget made moved n m (decode n m W) B h (i.told k).0 (pass-is e k))
+    ended_is e k = sym (pass-infeasible budget made moved n m (decode n m W) B h (i.told k).0 (pass-is (ap is_some e) k))
 
-    pub ended-told : p.ended ≡ true → Known n m W B₀ D₀ → (S ≡ whole.movers) × (p.row ≡ whole.infeasible)
+    pub ended-told : {row : ℕ} → p.infeasible ≡ Some row → Known n m W B₀ D₀ → (S ≡ whole.movers) × (row ≡ whole.infeasible)
     ended-told e k =
-        let d = told-infeasible budget made n m (decode n m W) B R h (i.told k).2 (ended-as e k) in
+        let d = told-infeasible budget made n m (decode n m W) B R h (i.told k).2 (ended-as (ap is_some e) k) in
         let w = t (known-now k) in
-        (rw d (sym w.movers), rw d (w.infeasible e))
+        (rw d (sym w.movers), rw d (w.infeasible _ e))
 
-    pub converged-is : p.ended ≡ false → more ≡ 0 → Known n m W B₀ D₀
+    pub converged-is : p.infeasible ≡ None → more ≡ 0 → Known n m W B₀ D₀
         → propagation_of (code.Converged (made + 1) (moved + more)) Q ≡ propagate_from budget 0 0 n m (decode n m W) B₀
     unfolding propagation_of
     converged-is e z k =
         let f : moved + more ≡ moved = omega arith in
-        rw f (sym (pass-converged budget made moved n m (decode n m W) B h (i.told k).0 (rw f at (pass-is e k))))
+        rw f (sym (pass-converged budget made moved n m (decode n m W) B h (i.told k).0 (rw f at (pass-is (ap is_some e) k))))
 
-    pub converged-told : p.ended ≡ false → more ≡ 0 → Known n m W B₀ D₀ → (S ≡ whole.movers) × (no_row ≡ whole.infeasible)
+    pub converged-told : p.infeasible ≡ None → more ≡ 0 → Known n m W B₀ D₀ → (S ≡ whole.movers) × (no_row ≡ whole.infeasible)
     converged-told e z k =
         let w = t (known-now k) in
-        let d = told-converged budget made n m (decode n m W) B R h (i.told k).2 (ended-as e k) (w.made.moves ∙ z) in
+        let d = told-converged budget made n m (decode n m W) B R h (i.told k).2 (ended-as (ap is_some e) k) (w.made.moves ∙ z) in
         (rw d (sym w.movers), rw d)
 
-    pub passes-next : p.ended ≡ false → (more ≡ 0 → ⊥) → {seen' : List ℤ} → PassLeft n m W B more Q seen' D'
+    pub passes-next : p.infeasible ≡ None → (more ≡ 0 → ⊥) → {seen' : List ℤ} → PassLeft n m W B more Q seen' D'
         → length Q ≡ length B → length seen' ≡ length seen → length D' ≡ length D → length S ≡ length R
         → Passes n m W budget B₀ seen₀ D₀ R₀ Q seen' D' S (made + 1) (moved + more)
     passes-next e z l x y d g = record {
@@ -124,8 +125,8 @@ module _ {n m : ℕ} {W : List ℕ} {budget : ℕ} {B₀ seen₀ : List ℤ} {D�
       lost = let a = simp zify at i.lost in let w = simp zify at l.width in simp zify (omega (zarith, a, w));
       told = λ k.
           let w = t (known-now k) in
-          let again = told_moved budget made n m (decode n m W) B R h (i.told k).2 (ended-as e k) (omega (arith, w.made.moves, z)) in (
-            pass-moved budget made moved n m (decode n m W) B h (i.told k).0 (pass-is e k) (λ q. z (omega arith)),
+          let again = told_moved budget made n m (decode n m W) B R h (i.told k).2 (ended-as (ap is_some e) k) (omega (arith, w.made.moves, z)) in (
+            pass-moved budget made moved n m (decode n m W) B h (i.told k).0 (pass-is (ap is_some e) k) (λ q. z (omega arith)),
             w.calm,
             rw (w.made.box, w.movers) at again,
           );

@@ -21,7 +21,8 @@ use crate::reasons::NO_ROW;
 use crate::search::last_look;
 use propagation::Propagation;
 
-// How the passes ended, and the row that was infeasible, NO_ROW where none was.
+// How the passes ended, and the row that was infeasible, NO_ROW where none was: that number, as the C interface and
+// the specification (`no_row`) have it.
 #[derive(Clone, Copy)]
 pub struct PreparedEnd {
     pub end: Propagation,
@@ -56,27 +57,25 @@ pub fn propagate_prepared(
         (Known n m W bounds.old dirty.old → result.row
         ≡ (reasons_from budget n m (decode n m W) bounds.old reasons.old).infeasible) }
 {
-    let mut passes: u32 = 0;
     let mut moved: u32 = 0;
-    while passes < budget {
-        passes += 1;
+    for made in 0..budget {
         let p = one_pass(n, m, ws, bounds, seen, dirty, reasons);
         moved += p.moved;
-        if p.ended {
+        if let Some(last) = p.infeasible {
             return PreparedEnd {
-                end: Propagation::Infeasible(passes, moved),
-                row: p.row,
+                end: Propagation::Infeasible(made + 1, moved),
+                row: last,
             };
         }
         if p.moved == 0 {
             return PreparedEnd {
-                end: Propagation::Converged(passes, moved),
+                end: Propagation::Converged(made + 1, moved),
                 row: NO_ROW,
             };
         }
     }
     PreparedEnd {
-        end: last_look(n, m, ws, bounds, dirty, passes, moved),
+        end: last_look(n, m, ws, bounds, dirty, budget, moved),
         row: NO_ROW,
     }
 }

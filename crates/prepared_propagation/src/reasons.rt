@@ -2,16 +2,12 @@
 ghost use Rattle.std.specs.Prelude.{◌≡◌, length, replicate};
 ghost use Rattle.prepared_model.specs.Reasons.{no_row};
 
-// No row did.
+// No row did. The C interface has this number where there is no row.
 pub const NO_ROW: u32 = 4_294_967_295;
 
 // No row moved anything yet.
 pub fn no_reasons(reasons: &mut [u32])
     ensures { reasons.new ≡ replicate (length reasons.old) no_row }
 {
-    let mut i: usize = 0;
-    while i < reasons.len() {
-        reasons[i] = NO_ROW;
-        i += 1;
-    }
+    reasons.fill(NO_ROW);
 }

@@ -20,6 +20,7 @@ fn first_moving(n: usize, m: usize, ws: &[u32], bounds: &[i32], dirty: &[u32]) -
         (Calm n m A bounds.now dirty.now → result ≡ first_moving n m A bounds.now) }
 {
     let mut r = next_row(m, dirty, 0);
+    // From one row of the set to the next: the step is not 1.
     while r < m {
         if row_moves_prepared(n, m, ws, r, bounds) {
             return r;
