@@ -1,5 +1,5 @@
 -- No answer of the prepared propagate call hides another: its reading with the infeasible row is injective.
-use Rattle.std.specs.Prelude.{◌≡◌, ℕ, Result, Ok, Err}
+use Rattle.std.specs.Prelude.{◌≡◌, Result, Ok, Err}
 use mathlib.Core.Path.{ap}
 use Rattle.model.specs.Refusals.{number_of}
 use Rattle.model.specs.declared.refusal.Refusal.{Refusal}

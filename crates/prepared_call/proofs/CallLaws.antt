@@ -32,17 +32,17 @@ module _ (W : List ℕ) (B : List ℤ) (R : List ℕ) (budget : ℕ) where
   pub refused_all : (f : Refusal) → number_of f ≡ propagate_fault W B R budget → Promised (Err f) W B R
   unfolding prepared_answer
   refused_all g e =
-    let n = number_of-ne0 g in (
-    (λ _. (ap refused e, refl, refl, refl)),
-    (
-      (λ z. absurd (n (e ∙ z))),
-      (
-        (λ A p f.
-            let s = state_of (variables_of W) (rows_in W) B A [] in perform-refused s (call_of s 2 0 0 budget) (e ∙ same-fault p B R budget f) n),
-        (λ A p. p),
-      ),
-    ),
-  )
+      let n = number_of-ne0 g in (
+        (λ _. (ap refused e, refl, refl, refl)),
+        (
+          (λ z. absurd (n (e ∙ z))),
+          (
+            (λ A p f.
+                let s = state_of (variables_of W) (rows_in W) B A [] in perform-refused s (call_of s 2 0 0 budget) (e ∙ same-fault p B R budget f) n),
+            (λ A p. p),
+          ),
+        ),
+      )
 
   pub accepted-all : {r : Result PreparedPropagation Refusal} {W' : List ℕ} {B' : List ℤ} {R' : List ℕ} → propagate_fault W B R budget ≡ 0
       → PropagateAccepted budget W B (length R) r W' B' R' → Promised r W' B' R'

@@ -1,5 +1,4 @@
 -- `prepared_call::propagate`: refused by the first check that fails, else what the accepted call comes to. Assumes nothing.
-use Rattle.std.specs.Prelude.{◌≡◌}
 use mathlib.Core.Path.{sym}
 use Rattle.std.proofs.lemmas.Result.{err_from_is_err_and}
 use Rattle.prepared_checks.proofs.CheckLaws.{accepting}

@@ -1,6 +1,6 @@
 -- `accepted::propagate_accepted`: the empty box is None at once; of any other the passes say how it ends, and what they leave is kept
 -- where that is not None (`empty-is-none`, `infeasible-is`, `converged-is`, `spent-is`). Assumes nothing.
-use Rattle.std.specs.Prelude.{◌≡◌, ℕ, false, length}
+use Rattle.std.specs.Prelude.{length}
 use mathlib.Core.Path.{◌∙◌, refl, sym}
 use Rattle.prepared_model.specs.Layout.{variables_of}
 use Rattle.prepared_call.proofs.CoreLaws.{converged-is, converged-left, empty-is-none, infeasible-is, running, spent-is, spent-left}
