@@ -3,7 +3,7 @@
 // is printed (`left-kindless`), so none is lent: the states here have rows without kinds.
 #![tactic(auto)]
 
-ghost use Rattle.std.specs.Prelude.{true, [], ◌≡◌, ◌*◌, length};
+ghost use Rattle.std.specs.Prelude.{[], ◌≡◌, ◌*◌, OnOk, length};
 ghost use Rattle.model.specs.Rows.{rows_of};
 ghost use Rattle.model.specs.State.{state_of};
 ghost use Rattle.pages.specs.Page.{Paper, pages};
@@ -14,14 +14,15 @@ use page_call::{PAGE, pages_needed, write_all};
 use reduction::Form;
 use report_chunk::{fill, line_count};
 use report_line::write_none;
+use std::io;
 use streams::output::print;
 
 // As many bytes of a report are printed at a time.
 const CHUNK: usize = 65_536;
 
-pub fn none(rt: &(impl Print + Eprint), printed: &mut usize) -> bool
+pub fn none(rt: &(impl Print + Eprint), printed: &mut usize) -> io::Result<()>
     requires { printed.old ≡ 0 }
-    ensures { result ≡ true → printed.new ≡ length none_line }
+    ensures { OnOk result (printed.new ≡ length none_line) }
 {
     let mut buf = [0u8; 64];
     let end = write_none(&mut buf, 0);
@@ -39,26 +40,25 @@ fn reduced(
     rhs: &[i32],
     table: &[u8],
     printed: &mut usize,
-) -> bool
+) -> io::Result<()>
     requires fact { let s = state_of n m bounds.now (rows_of coefs.now rhs.now []) table.now in
         Printable s }
     requires printed_value { printed.old ≡ 0 }
     ensures { let A = rows_of coefs.now rhs.now [] in
         let s = state_of n m bounds.now A table.now in
-        (result ≡ true → printed.new ≡ length (report rounds s)) }
+        OnOk result (printed.new ≡ length (report rounds s)) }
 {
     let count = line_count(n, m);
     let mut buf = [0u8; CHUNK];
     let mut next = 0;
+    // Each chunk says where the next begins.
     while next < count {
         let chunk = fill(n, m, rounds, bounds, coefs, rhs, table, next, &mut buf);
         let end = chunk.end;
-        if !print(rt, &buf[..end], printed) {
-            return false;
-        }
+        print(rt, &buf[..end], printed)?;
         next = chunk.next;
     }
-    true
+    Ok(())
 }
 
 // The buffer of the most pages; a caller learns its length.
@@ -75,11 +75,11 @@ fn paper(
     bounds: &[i32],
     table: &[u8],
     printed: &mut usize,
-) -> bool
+) -> io::Result<()>
     requires paper { Paper n bounds.now × (length table.now ≡ 4 * (n * n)) }
     requires printed_value { printed.old ≡ 0 }
     ensures { let text = pages n bounds.now table.now in
-        (result ≡ true → printed.new ≡ length text) }
+        OnOk result (printed.new ≡ length text) }
 {
     let mut buf = most_pages();
     let len = pages_needed(n, table) * PAGE;
@@ -99,13 +99,13 @@ pub fn left(
     rhs: &[i32],
     table: &[u8],
     printed: &mut usize,
-) -> bool
+) -> io::Result<()>
     requires fact { let s = state_of n m bounds.now (rows_of coefs.now rhs.now []) table.now in
         Printable s × Paper n bounds.now }
     requires printed_value { printed.old ≡ 0 }
     ensures { let A = rows_of coefs.now rhs.now [] in
         let s = state_of n m bounds.now A table.now in
-        (result ≡ true → printed.new ≡ length (left_text form rounds s)) }
+        OnOk result (printed.new ≡ length (left_text form rounds s)) }
 {
     match form {
         Form::Report => reduced(rt, n, m, rounds, bounds, coefs, rhs, table, printed),

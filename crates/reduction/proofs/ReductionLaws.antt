@@ -29,12 +29,11 @@ use Rattle.rounds.specs.Rounds.{run_rounds}
 use Rattle.semantics.specs.Run.{run}
 use Rattle.call_laws.proofs.Preserved.{run-preserves}
 use Rattle.demands.proofs.Demand3.{handed-in-valid}
-use Rattle.reduction.specs.Answers.{Leaves, Ready, Sized}
+use Rattle.reduction.specs.Answers.{Answer, Leaves, Ready, Sized}
+use Rattle.std.specs.Prelude.{Ok, Err, Some, None}
 use Rattle.reduction.specs.Output.{left_text, output_as, rounds_text, state_read, zeros}
 use Rattle.reduction.specs.declared.Form.{Form}
 use Rattle.reduction.specs.declared.Form.TheVariants as forms
-use Rattle.reduction.specs.declared.Answer.{Answer}
-use Rattle.reduction.specs.declared.Answer.TheVariants as answers
 use Rattle.reduction.proofs.OutputLaws.{book-handed-in}
 
 -- what is refused is refused by the fault
@@ -110,9 +109,9 @@ module _ {bs : List ℕ} {s : State} (h : Ready bs s) where
 
 -- a valid state is one that any answer may leave
 pub leaves-valid : (a : Answer) {s : State} → ValidState s → Leaves a s
-leaves-valid (answers.Refused number) v = tt
-leaves-valid answers.Infeasible v = tt
-leaves-valid (answers.Reduced rounds) v = v
+leaves-valid (Err r) v = tt
+leaves-valid (Ok None) v = tt
+leaves-valid (Ok (Some rounds)) v = v
 
 -- no kind is printed, in either form: what is left without its kinds has the same text
 pub left-kindless : (form : Form) (rounds n m : ℕ) (B : List ℤ) (A : Rows) (t : List ℕ)

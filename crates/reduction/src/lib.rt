@@ -13,9 +13,9 @@ ghost use Rattle.reduction.specs.Meaning.{OutputMeans};
 ghost use Rattle.reduction.specs.declared.Form.{Form};
 ghost use Rattle.reduction.specs.Output.{output_as, text_of};
 
-use book::SizesAnswer;
 use book_reading::read;
-use rounds::RoundsAnswer;
+use model::refusal::Refusal;
+use rounds::RoundsMade;
 
 // What is printed of the model that is left: 01's report, or (02, C-23) its pages.
 #[derive(Clone, Copy)]
@@ -24,28 +24,19 @@ pub enum Form {
     Paper,
 }
 
-#[derive(Clone, Copy)]
-pub enum Answer {
-    // By the number of the first check that fails.
-    Refused(u32),
-    Infeasible,
-    // After so many rounds.
-    Reduced(u64),
-}
-
-fn answer_of(rounds: RoundsAnswer) -> Answer
+// After so many rounds a model is left, or none at None.
+fn answer_of(rounds: Result<RoundsMade, Refusal>) -> Result<Option<u64>, Refusal>
     ensures { (form : Form) (s : State) → answer_text form result s ≡ text_of form (rounds_answer rounds) s }
 {
-    match rounds {
-        RoundsAnswer::Refused(number) => Answer::Refused(number),
-        RoundsAnswer::Infeasible(_, _) => Answer::Infeasible,
-        RoundsAnswer::NothingChanged(made, _) => Answer::Reduced(made),
-        RoundsAnswer::AtLimit(made, _) => Answer::Reduced(made),
+    match rounds? {
+        RoundsMade::Infeasible(_, _) => Ok(None),
+        RoundsMade::NothingChanged(made, _) => Ok(Some(made)),
+        RoundsMade::AtLimit(made, _) => Ok(Some(made)),
     }
 }
 
-// Reads the book into the lent buffers and makes at most `limit` rounds there. `meaning`: what the text
-// means for the book's points; `valid`: the model and the table that are left pass their checks.
+// Reads the book into the lent buffers and makes at most `limit` rounds there: how many left a model there, or none at
+// None, or refused by the first check that fails. `meaning`: what the text means for the book's points; `valid`: the model and the table that are left pass their checks.
 pub fn solve(
     n: usize,
     m: usize,
@@ -56,7 +47,7 @@ pub fn solve(
     kinds: &mut [u8],
     table: &mut [u8],
     limit: u64,
-) -> Answer
+) -> Result<Option<u64>, Refusal>
     requires { let s = state_of n m bounds.old (rows_of coefs.old rhs.old kinds.old) table.old in
         Ready book.now s }
     ensures text { let A = rows_of coefs.new rhs.new kinds.new in
@@ -67,8 +58,8 @@ pub fn solve(
         let left = state_of n m bounds.new A table.new in
         Leaves result left }
 {
-    if let SizesAnswer::Refused(number) = read(book, bounds, coefs, rhs, kinds) {
-        return Answer::Refused(number);
+    match read(book, bounds, coefs, rhs, kinds) {
+        Err(refusal) => Err(refusal),
+        Ok(_) => answer_of(rounds_call::run(n, m, bounds, coefs, rhs, kinds, table, limit)),
     }
-    answer_of(rounds_call::run(n, m, bounds, coefs, rhs, kinds, table, limit))
 }

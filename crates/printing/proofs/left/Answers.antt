@@ -8,8 +8,8 @@ paper-requires-clause-paper g c = (c.requires.fact.1, c.requires.fact.0.table)
 
 pub returns-in-Report : goal.returns-in-Report
 unfolding left_text
-returns-in-Report g c = λ t. rw c.in-Report.is (c.reduced.ensures t)
+returns-in-Report g c = rw c.in-Report.is c.reduced.ensures
 
 pub returns-in-Paper : goal.returns-in-Paper
 unfolding left_text state_of
-returns-in-Paper g c = λ t. rw c.in-Paper.is (c.paper.ensures t)
+returns-in-Paper g c = rw c.in-Paper.is c.paper.ensures

@@ -37,7 +37,7 @@ loop-next-preserved g c =
     let a = c.args in
     let lines = line_at a.rounds (state_of a.n a.m a.bounds.now (rows_of a.coefs.now a.rhs.now []) a.table.now) in
     let w = c.fill-chunk.ensures.text in
-    let p = c.print.ensures c.if-not-print.false in
+    let p = c.in_ok-print.ensures in
     let k = c.fill-chunk.ensures.progress (omega (arith, c.line_count-count.ensures)) in
     let more = chunks-length lines c.loop-next.next c.fill-chunk.result.next c.fill-chunk.ensures.within.0 in
     record {
@@ -48,7 +48,7 @@ loop-next-preserved g c =
 
 pub returns : goal.returns
 unfolding state_of
-returns g c = λ t.
+returns g c =
     let a = c.args in
     let s = state_of a.n a.m a.bounds.now (rows_of a.coefs.now a.rhs.now []) a.table.now in
     let e : c.loop-next.next ≡ line_count a.n a.m = omega (arith, c.line_count-count.ensures) in
