@@ -5,35 +5,34 @@ ghost use Rattle.book.specs.Answers.{write_answer};
 ghost use Rattle.book.specs.BookChecks.{head_checks};
 ghost use Rattle.replies.specs.Replies.{book_reply, returned, wrong_length};
 
-use book::layout::{TRAILER, head_fault};
-use book::writing::WriteAnswer;
+use book::layout::{TRAILER, check_head};
+use model::refusal::Refusal;
 
-// The number by which a call on a trailer refuses an answer buffer of a wrong length: 1, else 5.
+// C is told numbers: the one by which a call on a trailer refuses an answer buffer of a wrong length, 1, else 5.
 pub fn trailer_fault(bytes: &[u8]) -> u32
     ensures { result ≡ wrong_length (must (leb 16 (length bytes.now)) 1 ∷ []) }
 {
     if bytes.len() < TRAILER {
-        return 1;
+        return Refusal::ShortBook.number();
     }
-    5
+    Refusal::BufferLength.number()
 }
 
 // The number by which a call that reads a book refuses an answer buffer of a wrong length: 1 to 4, else 5.
 pub fn read_fault(book: &[u8]) -> u32
     ensures { result ≡ wrong_length (head_checks book.now) }
 {
-    let head = head_fault(book);
-    if head != 0 {
-        return head;
+    match check_head(book) {
+        Err(refusal) => refusal.number(),
+        Ok(()) => Refusal::BufferLength.number(),
     }
-    5
 }
 
-pub fn write_number(a: WriteAnswer) -> u32
+pub fn write_number(a: Result<(), Refusal>) -> u32
     ensures { result ≡ returned (book_reply (write_answer a)) }
 {
     match a {
-        WriteAnswer::Refused(number) => number,
-        WriteAnswer::Written => 0,
+        Err(refusal) => refusal.number(),
+        Ok(()) => 0,
     }
 }

@@ -5,16 +5,16 @@ ghost use Rattle.sparse_layout.specs.SparseChecks.{sparse_layout_checks};
 ghost use Rattle.sparse_calls.specs.SparseCalls.{length_answer};
 ghost use Rattle.book_replies.specs.SparseReplies.{length_reply};
 
+use model::refusal::Refusal;
 use replies::reply::Reply;
-use sparse_calls::LengthAnswer;
-use sparse_reading::layout_fault;
+use sparse_reading::check_layout;
 
-pub fn length_reply(a: LengthAnswer) -> Reply
+pub fn length_reply(a: Result<usize, Refusal>) -> Reply
     ensures { reply_of result ≡ length_reply (length_answer a) }
 {
     match a {
-        LengthAnswer::Refused(number) => Reply::Refused(number),
-        LengthAnswer::Bytes(count) => Reply::Numbers(count as u64, 0, 0, 0),
+        Err(refusal) => Reply::Refused(refusal.number()),
+        Ok(count) => Reply::Numbers(count as u64, 0, 0, 0),
     }
 }
 
@@ -22,9 +22,8 @@ pub fn length_reply(a: LengthAnswer) -> Reply
 pub fn read_fault(book: &[u8]) -> u32
     ensures { result ≡ wrong_length (sparse_layout_checks book.now) }
 {
-    let layout = layout_fault(book);
-    if layout != 0 {
-        return layout;
+    match check_layout(book) {
+        Err(refusal) => refusal.number(),
+        Ok(()) => Refusal::BufferLength.number(),
     }
-    5
 }
