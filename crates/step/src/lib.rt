@@ -10,17 +10,18 @@ ghost use Rattle.model.specs.State.{state_of};
 ghost use Rattle.call.specs.Calls.{call_on};
 ghost use Rattle.call.specs.Classes.{class_is};
 
-use call::checks::{budget_fault, probe_fields_fault, row_fault};
+use call::checks::{check_budget, check_probe_fields, check_row};
 use call::{
     Call, CallClass, PROBE, PROPAGATE, PROPAGATE_ROW, REMOVE_ROW, TIGHTEN_COEFFICIENT,
     class_of_propagation, class_of_row,
 };
 use matrix_row::propagate_row_at;
+use model::refusal::Refusal;
 use probe_step::run_probe;
 use row_passes::propagate;
 
 // One record of a call list: the kind is matched once, and each kind makes its own checks and is then run. 4 and 5,
-// which would write a row, are retired from lists: 18, whatever the fields and the box.
+// which would write a row, are retired from lists, whatever the fields and the box.
 pub fn run_record(
     n: usize,
     m: usize,
@@ -43,23 +44,20 @@ pub fn run_record(
     let kind = call.kind;
     match kind {
         PROPAGATE_ROW => {
-            let fault = row_fault(m, call.row);
-            if fault != 0 {
-                return CallClass::Refused(fault);
+            if let Err(refusal) = check_row(m, call.row) {
+                return CallClass::Refused(refusal);
             }
             class_of_row(propagate_row_at(n, coefs, rhs, kinds, call.row as usize, bounds))
         }
         PROPAGATE => {
-            let fault = budget_fault(call.budget);
-            if fault != 0 {
-                return CallClass::Refused(fault);
+            if let Err(refusal) = check_budget(call.budget) {
+                return CallClass::Refused(refusal);
             }
             class_of_propagation(propagate(n, m, bounds, coefs, rhs, kinds, call.budget))
         }
         PROBE => {
-            let fault = probe_fields_fault(n, bounds, call.variable, call.budget);
-            if fault != 0 {
-                return CallClass::Refused(fault);
+            if let Err(refusal) = check_probe_fields(n, bounds, call.variable, call.budget) {
+                return CallClass::Refused(refusal);
             }
             run_probe(
                 n,
@@ -73,7 +71,7 @@ pub fn run_record(
                 call.budget,
             )
         }
-        TIGHTEN_COEFFICIENT | REMOVE_ROW => CallClass::Refused(18),
-        _ => CallClass::Refused(11),
+        TIGHTEN_COEFFICIENT | REMOVE_ROW => CallClass::Refused(Refusal::RetiredKind),
+        _ => CallClass::Refused(Refusal::CallKind),
     }
 }
