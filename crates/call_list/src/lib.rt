@@ -11,9 +11,10 @@ ghost use Rattle.demands.specs.TwoRuns.{EveryModelHandedIn};
 ghost use Rattle.flat_list.specs.ListAnswers.{list_run};
 ghost use Rattle.call_record.specs.Records.{no_call, numbers_of};
 
-use call::Call;
+use call::{Call, Counts};
 use call_record::run_next;
-use flat_list::{RunAnswer, run_none};
+use flat_list::run_none;
+use model::refusal::Refusal;
 
 // Record i.
 fn record_at(calls: &[Call], i: usize) -> Call
@@ -33,7 +34,7 @@ pub fn run(
     kinds: &[u8],
     table: &mut [u8],
     calls: &[Call],
-) -> RunAnswer
+) -> Result<Counts, Refusal>
     ensures defined { let A = rows_of coefs.now rhs.now kinds.now in
         let s = state_of n m bounds.old A table.old in
         let r' = state_of n m bounds.new A table.new in
@@ -46,11 +47,9 @@ pub fn run(
     ensures sum { CountsAddUp }
 {
     let mut answer = run_none(n, m, bounds, coefs, rhs, kinds, table);
-    let mut i = 0;
-    while i < calls.len() {
+    for i in 0..calls.len() {
         let call = record_at(calls, i);
         answer = run_next(n, m, bounds, coefs, rhs, kinds, table, answer, call);
-        i += 1;
     }
     answer
 }
@@ -65,7 +64,7 @@ pub fn run_four(
     kinds: &[u8],
     table: &mut [u8],
     calls: [Call; 4],
-) -> RunAnswer
+) -> Result<Counts, Refusal>
     ensures defined { let A = rows_of coefs.now rhs.now kinds.now in
         let s = state_of n m bounds.old A table.old in
         let r' = state_of n m bounds.new A table.new in

@@ -8,8 +8,8 @@ ghost use Rattle.model.specs.State.{state_of};
 ghost use Rattle.flat_list.specs.ListAnswers.{list_run};
 ghost use Rattle.call_record.specs.Records.{Runs, run_next};
 
-use call::{Call, count};
-use flat_list::RunAnswer;
+use call::{Call, Counts, count};
+use model::refusal::Refusal;
 use step::run_record;
 
 // The answer with one record more. A list that is refused stays refused.
@@ -21,9 +21,9 @@ pub fn run_next<'a>(
     rhs: &[i32],
     kinds: &[u8],
     table: &'a mut [u8],
-    answer: RunAnswer,
+    answer: Result<Counts, Refusal>,
     call: Call,
-) -> RunAnswer
+) -> Result<Counts, Refusal>
     requires { let s = state_of n m bounds.old (rows_of coefs.now rhs.now kinds.now) table.old in
         Runs (list_run answer s) }
     ensures { let A = rows_of coefs.now rhs.now kinds.now in
@@ -31,9 +31,7 @@ pub fn run_next<'a>(
         let r' = state_of n m bounds.new A table.new in
         list_run result r' ≡ run_next (list_run answer s) call }
 {
-    let RunAnswer::Ran(counts) = answer else {
-        return answer;
-    };
+    let counts = answer?;
     let class = run_record(n, m, bounds, coefs, rhs, kinds, table, call);
-    RunAnswer::Ran(count(counts, class))
+    Ok(count(counts, class))
 }

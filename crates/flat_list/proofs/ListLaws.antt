@@ -5,8 +5,10 @@ use mathlib.Core.Path.{◌≡◌, ap, subst, sym}
 use Rattle.call.specs.Classes.{counts_of}
 use Rattle.call.specs.declared.Counts.{Counts}
 use Rattle.flat_list.specs.ListAnswers.{list_answer}
-use Rattle.flat_list.specs.declared.RunAnswer.TheVariants as runs
-use Rattle.flat_list.specs.declared.RunAnswer.{RunAnswer}
+use Rattle.std.specs.Prelude.{Result, Ok, Err}
+use Rattle.call.specs.declared.Counts.{Counts}
+use Rattle.model.specs.declared.refusal.Refusal.{Refusal}
+use Rattle.model.proofs.RefusalLaws.{number_of-injective}
 use Rattle.model.specs.State.{State}
 use Rattle.semantics.specs.CallList.{ListRun, run_list}
 use Rattle.semantics.specs.Run as lists
@@ -24,9 +26,9 @@ counts_of-injective : (x y : Counts) → counts_of x ≡ counts_of y → x ≡ y
 unfolding counts_of
 counts_of-injective x y e = ap (λ (k : lists.Counts). let r : Counts = record { refused = k.refusals; infeasible = k.infeasibles; changed = k.changes; unchanged = k.unchanges } in r) e
 
-pub list_answer-injective : (r s : RunAnswer) → list_answer r ≡ list_answer s → r ≡ s
+pub list_answer-injective : (r s : Result Counts Refusal) → list_answer r ≡ list_answer s → r ≡ s
 unfolding list_answer
-list_answer-injective (runs.Refused x) (runs.Refused y) e = cc
-list_answer-injective (runs.Refused x) (runs.Ran y) e = cc
-list_answer-injective (runs.Ran x) (runs.Refused y) e = cc
-list_answer-injective (runs.Ran x) (runs.Ran y) e = cc (counts_of-injective x y cc)
+list_answer-injective (Err x) (Err y) e = ap Err (number_of-injective x y cc)
+list_answer-injective (Err x) (Ok y) e = cc
+list_answer-injective (Ok x) (Err y) e = cc
+list_answer-injective (Ok x) (Ok y) e = cc (counts_of-injective x y cc)

@@ -13,19 +13,14 @@ ghost use Rattle.flat_record.specs.Classes.{ClassesCounted, run_classes};
 ghost use Rattle.flat_list.specs.ListAnswers.{classes_run, list_answer, list_run};
 
 use call::Counts;
-use flat_record::{classes_fault, list_fault};
+use flat_record::{check_classes, check_list};
+use model::refusal::Refusal;
 use records::run_records;
 
 mod records;
 
-// 01's answer of a run sheet: refused N as a whole, or the four counts.
-#[derive(Clone, Copy)]
-pub enum RunAnswer {
-    Refused(u32),
-    Ran(Counts),
-}
-
-// Runs a flat list of call records, four numbers each: kind, row, variable, budget. It goes on after a refused call. A
+// Runs a flat list of call records, four numbers each: kind, row, variable, budget. Refused as a whole, or the four
+// counts. It goes on after a refused call. A
 // list writes bounds and table only: kinds 4 and 5 are retired, and the rows are lent read-only. `meaning`: what the
 // whole list means for the points and the table. `demand3` and `sum` hold of any lists, so that a caller can take them
 // from here.
@@ -38,7 +33,7 @@ pub fn run(
     kinds: &[u8],
     table: &mut [u8],
     calls: &[u32],
-) -> RunAnswer
+) -> Result<Counts, Refusal>
     ensures defined { let A = rows_of coefs.now rhs.now kinds.now in
         let s = state_of n m bounds.old A table.old in
         let r' = state_of n m bounds.new A table.new in
@@ -50,12 +45,9 @@ pub fn run(
     ensures demand3 { EveryModelHandedIn × Demand3Lists }
     ensures sum { CountsAddUp }
 {
-    let fault = list_fault(n, m, bounds, coefs, rhs, kinds, table, calls);
-    if fault != 0 {
-        return RunAnswer::Refused(fault);
-    }
+    check_list(n, m, bounds, coefs, rhs, kinds, table, calls)?;
     let mut none: [u8; 0] = [];
-    RunAnswer::Ran(run_records(n, m, bounds, coefs, rhs, kinds, table, calls, &mut none))
+    Ok(run_records(n, m, bounds, coefs, rhs, kinds, table, calls, &mut none))
 }
 
 // Runs the list of no record: the model and the table are checked. It is the answer before the first record.
@@ -67,7 +59,7 @@ pub fn run_none<'a>(
     rhs: &[i32],
     kinds: &[u8],
     table: &'a mut [u8],
-) -> RunAnswer
+) -> Result<Counts, Refusal>
     ensures { let A = rows_of coefs.now rhs.now kinds.now in
         let s = state_of n m bounds.old A table.old in
         let r' = state_of n m bounds.new A table.new in
@@ -89,7 +81,7 @@ pub fn run_classes(
     table: &mut [u8],
     calls: &[u32],
     classes: &mut [u8],
-) -> RunAnswer
+) -> Result<Counts, Refusal>
     ensures defined { let A = rows_of coefs.now rhs.now kinds.now in
         let s = state_of n m bounds.old A table.old in
         let r' = state_of n m bounds.new A table.new in
@@ -100,9 +92,6 @@ pub fn run_classes(
         ListMeans s (list_run result r') }
     ensures counted { (k : lists.Counts) → list_answer result ≡ ran k → ClassesCounted k classes.new }
 {
-    let fault = classes_fault(n, m, bounds, coefs, rhs, kinds, table, calls, classes);
-    if fault != 0 {
-        return RunAnswer::Refused(fault);
-    }
-    RunAnswer::Ran(run_records(n, m, bounds, coefs, rhs, kinds, table, calls, classes))
+    check_classes(n, m, bounds, coefs, rhs, kinds, table, calls, classes)?;
+    Ok(run_records(n, m, bounds, coefs, rhs, kinds, table, calls, classes))
 }

@@ -41,14 +41,11 @@ pub fn run_records(
         changed: 0,
         unchanged: 0,
     };
-    let records = calls.len() / 4;
-    let mut i = 0;
-    while i < records {
+    for i in 0..calls.len() / 4 {
         let call = record_at(calls, i);
         let class = run_record(n, m, bounds, coefs, rhs, kinds, table, call);
         counts = count(counts, class);
         tell(classes, i, class);
-        i += 1;
     }
     counts
 }

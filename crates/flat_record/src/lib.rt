@@ -11,9 +11,9 @@ ghost use Rattle.model.specs.State.{State, state_of};
 ghost use Rattle.semantics.specs.CallList.{list_fault, record_at};
 ghost use Rattle.flat_record.specs.Classes.{class_byte, classes_fault};
 
-use model::refusal::Refusal;
 use buffer_checks::is_product;
 use call::{Call, CallClass};
+use model::refusal::Refusal;
 use model_checks::check_model_with_table;
 
 // The bytes of the classes: the places of their counts in the answer.

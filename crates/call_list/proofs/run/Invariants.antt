@@ -9,8 +9,4 @@ use Rattle.call_list.proofs.run.Given as goal
 abbrev pub invariant-loop-i : goal.invariant-loop-i
 invariant-loop-i l =
     let A = rows_of l.coefs l.rhs l.kinds in
-    (l.i ≤ length l.calls)
-    × Running (state_of l.n l.m l.fn.bounds A l.fn.table) l.calls (list_run l.answer (state_of l.n l.m l.bounds A l.table)) l.i
-
-abbrev pub decreases-loop-i : goal.decreases-loop-i
-decreases-loop-i l = length l.calls - l.i
+    Running (state_of l.n l.m l.fn.bounds A l.fn.table) l.calls (list_run l.answer (state_of l.n l.m l.bounds A l.table)) l.i

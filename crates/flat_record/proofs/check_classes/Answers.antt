@@ -5,12 +5,6 @@ use Rattle.model.specs.State.{state_of}
 use Rattle.flat_record.specs.Classes.{classes_checks, classes_fault}
 use Rattle.flat_record.proofs.check_classes.Goals as goal
 
-pub is_product-fits-requires : goal.is_product-fits-requires
-is_product-fits-requires c = search rules
-
-pub model_table_fault-requires : goal.model_table_fault-requires
-model_table_fault-requires c = search rules
-
 pub returns : goal.returns
 unfolding classes_fault classes_checks state_of model_fault
-returns c = rw c.is_product-fits.ensures at c.model_table_fault.ensures
+returns c = rw c.is_product-fits.ensures at c.check_model_with_table.ensures

@@ -6,9 +6,6 @@ use Rattle.model.specs.State.{state_of}
 use Rattle.semantics.specs.CallList.{list_checks, list_fault}
 use Rattle.flat_record.proofs.check_list.Goals as goal
 
-pub model_table_fault-requires : goal.model_table_fault-requires
-model_table_fault-requires c = search rules
-
 pub returns : goal.returns
 unfolding list_fault list_checks state_of model_fault
-returns c = c.model_table_fault.ensures
+returns c = c.check_model_with_table.ensures

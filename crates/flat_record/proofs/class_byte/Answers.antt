@@ -4,18 +4,6 @@ use Rattle.call.specs.Classes.{class_is}
 use Rattle.flat_record.specs.Classes.{class_byte}
 use Rattle.flat_record.proofs.class_byte.Goals as goal
 
-pub enum_told-1 : goal.enum_told-1
-enum_told-1 c = search rules
-
-pub enum_told-in-Infeasible : goal.enum_told-in-Infeasible
-enum_told-in-Infeasible c = search rules
-
-pub enum_told-in-Changed : goal.enum_told-in-Changed
-enum_told-in-Changed c = search rules
-
-pub enum_told-in-Unchanged : goal.enum_told-in-Unchanged
-enum_told-in-Unchanged c = search rules
-
 pub returns-in-Refused : goal.returns-in-Refused
 unfolding class_is class_byte
 returns-in-Refused c = rw c.in-Refused.is

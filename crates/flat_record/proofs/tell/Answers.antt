@@ -5,15 +5,6 @@ use lib.Seq.{set_out}
 use mathlib.Core.Path.{ap, sym}
 use Rattle.flat_record.proofs.tell.Goals as goal
 
-pub class_byte-requires : goal.class_byte-requires
-class_byte-requires c = search rules
-
-pub bounds-classes-i : goal.bounds-classes-i
-bounds-classes-i c = search rules
-
-pub shape_of-classes : goal.shape_of-classes
-shape_of-classes c = search rules
-
 pub returns-then-i-classes : goal.returns-then-i-classes
 returns-then-i-classes c = let a = c.args in ap (set a.classes.now a.i) c.class_byte.ensures
 
