@@ -4,17 +4,16 @@ use borrow.Author.Tests.{ne_eqb}
 use lib.IntN.{ℤ}
 use lib.ListN.{length}
 use mathlib.Core.List.{List}
-use mathlib.Core.Path.{◌∙◌, ◌≡◌, ap, refl, sym}
+use mathlib.Core.Path.{◌≡◌, ap, refl}
 use native.Mathlib.Omega.{arith}
 use Rattle.model.specs.Checks.{first}
 use Rattle.pages.specs.Page.{pages}
 use Rattle.pages.specs.PageChecks.{page_checks}
 use Rattle.page_call.specs.Answers.{Answer, count_answer, pages_after, pages_answer, refused, unless}
-use Rattle.std.specs.Prelude.{cond, eqb, Result, Ok, Err}
+use Rattle.std.specs.Prelude.{Result, Ok, Err}
 use Rattle.model.specs.declared.refusal.Refusal.{Refusal}
-use Rattle.model.specs.declared.refusal.Refusal.TheVariants.{ShortBook, BookLength, Size, BookLayout, BufferLength, Bound, CrossedBounds, Coefficient, RightSide, TableByte, CallKind, Row, Variable, VariableNotFree, Budget, RowKind, EqualityRow, RetiredKind, Column, ZeroCoefficient, TiePlace, ProposalCount, VariableTooWide}
 use Rattle.model.specs.Refusals.{number_of}
-use Rattle.model.proofs.RefusalLaws.{number_of-ne0}
+use Rattle.model.proofs.RefusalLaws.{number_of-injective, number_of-ne0}
 
 pub refused-by : {r fault : ℕ} → r ≡ fault → (r ≡ 0 → ⊥) → (a : Answer) → refused r ≡ unless fault a
 unfolding unless
@@ -44,42 +43,6 @@ left_alone-by_name z n B t P e = left_alone n B t P e (number_of-ne0 z)
 
 no_number : {A : Type 0} → ◌≡◌ {A = ℕ} 0 1 → A
 no_number z = absurd (let k : ⊥ = omega arith in k)
-
--- a refusal by its number, so that no two have one
-abbrev named : ℕ → Refusal
-named n =
-    cond (eqb n 1) ShortBook (cond (eqb n 2) BookLength (cond (eqb n 3) Size (cond (eqb n 4) BookLayout (cond (eqb n 5) BufferLength (cond (eqb n 6) Bound (cond (eqb n 7) CrossedBounds (cond (eqb n 8) Coefficient (cond (eqb n 9) RightSide (cond (eqb n 10) TableByte (cond (eqb n 11) CallKind (cond (eqb n 12) Row (cond (eqb n 13) Variable (cond (eqb n 14) VariableNotFree (cond (eqb n 15) Budget (cond (eqb n 16) RowKind (cond (eqb n 17) EqualityRow (cond (eqb n 18) RetiredKind (cond (eqb n 19) Column (cond (eqb n 20) ZeroCoefficient (cond (eqb n 21) TiePlace (cond (eqb n 22) ProposalCount VariableTooWide)))))))))))))))))))))
-
-named-number : (r : Refusal) → named (number_of r) ≡ r
-named-number r =
-    elim r as (λ k. named (number_of k) ≡ k) [
-      | ShortBook ↦ refl
-      | BookLength ↦ refl
-      | Size ↦ refl
-      | BookLayout ↦ refl
-      | BufferLength ↦ refl
-      | Bound ↦ refl
-      | CrossedBounds ↦ refl
-      | Coefficient ↦ refl
-      | RightSide ↦ refl
-      | TableByte ↦ refl
-      | CallKind ↦ refl
-      | Row ↦ refl
-      | Variable ↦ refl
-      | VariableNotFree ↦ refl
-      | Budget ↦ refl
-      | RowKind ↦ refl
-      | EqualityRow ↦ refl
-      | RetiredKind ↦ refl
-      | Column ↦ refl
-      | ZeroCoefficient ↦ refl
-      | TiePlace ↦ refl
-      | ProposalCount ↦ refl
-      | VariableTooWide ↦ refl
-    ]
-
-number_of-injective : (r s : Refusal) → number_of r ≡ number_of s → r ≡ s
-number_of-injective r s e = sym (named-number r) ∙ ap named e ∙ named-number s
 
 pub count-injective : (a b : Result ℕ Refusal) → count_answer a ≡ count_answer b → a ≡ b
 unfolding count_answer
