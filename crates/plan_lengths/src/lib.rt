@@ -6,8 +6,9 @@ ghost use Rattle.plan.specs.Answers.{lengths_answer, lengths_call};
 ghost use Rattle.plan.specs.Lengths.{lengths_for, lengths_of};
 ghost use Rattle.model.specs.Limits.{max_rows, max_variables};
 
-use book::{SizesAnswer, trailer};
-use plan::{BufferLengths, LengthsAnswer};
+use book::trailer;
+use model::refusal::Refusal;
+use plan::BufferLengths;
 
 // The bytes of a book's trailer.
 const TRAILER: usize = 16;
@@ -33,11 +34,9 @@ fn lengths_for(n: usize, m: usize) -> BufferLengths
 }
 
 // The lengths, from the 16 trailer bytes alone. Refused by 1, more than 16 bytes by 5, then 3 and 4.
-pub fn lengths(bytes: &[u8]) -> LengthsAnswer
+pub fn lengths(bytes: &[u8]) -> Result<BufferLengths, Refusal>
     ensures { lengths_answer result ≡ lengths_call bytes.now }
 {
-    match trailer(bytes) {
-        SizesAnswer::Refused(number) => LengthsAnswer::Refused(number),
-        SizesAnswer::Sizes { n, m } => LengthsAnswer::Needed(lengths_for(n, m)),
-    }
+    let sizes = trailer(bytes)?;
+    Ok(lengths_for(sizes.n, sizes.m))
 }

@@ -3,14 +3,15 @@
 
 ghost use Rattle.std.specs.Prelude.{◌≡◌, ℕ, ◌≤◌, length};
 ghost use Rattle.semantics.specs.Call.{kind_of};
-ghost use Rattle.demands.specs.Passes.{call_limit, lesser as lesser_of, pass_limit};
+ghost use Rattle.demands.specs.Passes.{call_limit, pass_limit};
 ghost use Rattle.plan.specs.Answers.{passes_answer, passes_are, passes_call};
 ghost use Rattle.plan.specs.Meaning.{EnoughFor, PassesAtMost};
 ghost use Rattle.plan.specs.PlanChecks.{list_fits};
 
 use call::{PROBE, PROPAGATE};
-use plan::PassesAnswer;
-use plan::bounds::{bounds_fault, total_width};
+use model::refusal::Refusal;
+use plan::PassLimit;
+use plan::bounds::{check_bounds, total_width};
 
 // 1,000,000 records.
 const MAX_NUMBERS: usize = 4_000_000;
@@ -19,23 +20,14 @@ const MAX_NUMBERS: usize = 4_000_000;
 fn list_fits(len: usize) -> bool
     ensures { result ≡ list_fits len }
 {
-    if len % 4 != 0 {
-        return false;
-    }
-    len <= MAX_NUMBERS
-}
-
-fn lesser(x: u64, y: u64) -> u64
-    ensures { result ≡ lesser_of x y }
-{
-    if x <= y { x } else { y }
+    len % 4 == 0 && len <= MAX_NUMBERS
 }
 
 // What a record of this kind and budget counts, where the box is `width` wide.
 fn call_limit(width: u32, kind: u32, budget: u32) -> u64
     ensures { (result ≡ call_limit width (kind_of kind) budget) × (result ≤ 8589934590) }
 {
-    let most = lesser(budget as u64, width as u64 + 1);
+    let most = (budget as u64).min(width as u64 + 1);
     match kind {
         PROPAGATE => most,
         PROBE => 2 * most,
@@ -47,12 +39,9 @@ fn pass_limit(width: u32, calls: &[u32]) -> u64
     requires { length calls.now ≤ 4000000 }
     ensures { result ≡ pass_limit width calls.now }
 {
-    let records = calls.len() / 4;
     let mut sum: u64 = 0;
-    let mut i = 0;
-    while i < records {
+    for i in 0..calls.len() / 4 {
         sum += call_limit(width, calls[4 * i], calls[4 * i + 3]);
-        i += 1;
     }
     sum
 }
@@ -60,19 +49,16 @@ fn pass_limit(width: u32, calls: &[u32]) -> u64
 // The width and the budget as `width` tells them, and an upper limit on the passes that the list makes. Refused by 3,
 // 5 (of the list too: numbers not four to a record, or over 1,000,000 records), 6, 7 and 23. `meaning`: on no model
 // with these bounds, and with no table, the list makes more passes.
-pub fn passes(n: usize, bounds: &[i32], calls: &[u32]) -> PassesAnswer
+pub fn passes(n: usize, bounds: &[i32], calls: &[u32]) -> Result<PassLimit, Refusal>
     ensures defined { passes_answer result ≡ passes_call n bounds.now calls.now }
     ensures meaning { (w b p : ℕ) → passes_answer result ≡ passes_are w b p
         → EnoughFor n bounds.now b × PassesAtMost n bounds.now calls.now p }
 {
-    let fault = bounds_fault(n, bounds, list_fits(calls.len()));
-    if fault != 0 {
-        return PassesAnswer::Refused(fault);
-    }
+    check_bounds(n, bounds, list_fits(calls.len()))?;
     let width = total_width(n, bounds);
-    PassesAnswer::AtMost {
+    Ok(PassLimit {
         width,
         budget: width + 1,
         passes: pass_limit(width, calls),
-    }
+    })
 }
