@@ -93,6 +93,7 @@ fn reach_packed(words: &[u32], sign: i32, bounds: &[i32]) -> Reach
     let mut least: i64 = 0;
     let mut widest: i64 = 0;
     let mut j: usize = 0;
+    // From word to word that is read: the step is not 1.
     while j < words.len() {
         let word = words[j];
         let a = sign * coef(word);
@@ -117,6 +118,7 @@ fn tighten_bounds_packed(words: &[u32], sign: i32, b: i64, least: i64, bounds: &
 {
     let mut moved: u32 = 0;
     let mut j: usize = 0;
+    // From word to word that is read: the step is not 1.
     while j < words.len() {
         let word = words[j];
         if tighten_bounds_at(sign * coef(word), b, least, bounds, j) {

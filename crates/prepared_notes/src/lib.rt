@@ -55,13 +55,7 @@ fn differs_at(old: &[i32], new: &[i32], j: usize) -> bool
     ensures { result ≡ false → (lower new.now j ≡ lower old.now j)
         × (upper new.now j ≡ upper old.now j) }
 {
-    if old[2 * j] != new[2 * j] {
-        return true;
-    }
-    if old[2 * j + 1] != new[2 * j + 1] {
-        return true;
-    }
-    false
+    old[2 * j] != new[2 * j] || old[2 * j + 1] != new[2 * j + 1]
 }
 
 // The box `old` becomes the box `new`, which differs from it only where the row that the words say has a coefficient.
@@ -74,6 +68,7 @@ pub fn note(words: &[u32], ws: &[u32], old: &mut [i32], new: &[i32], dirty: &mut
         → Missed ws.now r old.old new.now j) }
 {
     let mut j: usize = 0;
+    // From word to word that is read: the step is not 1.
     while j < words.len() {
         if differs_at(old, new, j) {
             note_at(ws, j, old, new, dirty);

@@ -62,18 +62,16 @@ fn propagate_row_noted(
         ≡ row_reasons r B (propagate_row_of (length W) (row_of_words W rhs_word) B) reasons.old }
 {
     match propagate_row_packed(words, rhs_word, bounds) {
-        RowPropagation::Infeasible => {
-            return RowPropagation::Infeasible;
-        }
+        RowPropagation::Infeasible => RowPropagation::Infeasible,
         RowPropagation::Tightened(moved) => {
             blame(words, r as u32, seen, bounds, reasons);
             note(words, ws, seen, bounds, dirty);
             done(rhs_word, r, dirty);
-            return RowPropagation::Tightened(moved);
+            RowPropagation::Tightened(moved)
         }
         RowPropagation::Unchanged => {
             remove(r, dirty);
-            return RowPropagation::Unchanged;
+            RowPropagation::Unchanged
         }
     }
 }

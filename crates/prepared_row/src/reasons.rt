@@ -20,10 +20,11 @@ pub fn blame(words: &[u32], r: u32, old: &[i32], new: &[i32], reasons: &mut [u32
     requires { Blaming words.now old.now new.now reasons.old }
     ensures { reasons.new ≡ blame_of r old.now new.now reasons.old }
 {
-    if reasons.len() == 0 {
+    if reasons.is_empty() {
         return;
     }
     let mut j: usize = 0;
+    // From word to word that is read: the step is not 1.
     while j < words.len() {
         blame_bound(2 * j, r, old, new, reasons);
         blame_bound(2 * j + 1, r, old, new, reasons);
