@@ -5,8 +5,7 @@ use lib.Dec.{le→leb, leb}
 use lib.IntN.{◌-ℤ◌, pos, ℤ}
 use lib.ListN.{get_or, length}
 use mathlib.Core.List.{List, [], ◌∷◌}
-use mathlib.Core.Path.{◌∙◌, ◌≡◌, ap, refl, sym}
-use native.Mathlib.Numerals.{add-one}
+use mathlib.Core.Path.{◌∙◌, ◌≡◌, ap, refl}
 use native.Mathlib.Omega.{arith}
 use Rattle.integer.proofs.Parts.{zarith, zify}
 use Rattle.integer.proofs.Tests.{T→false, T→true, cond_ind, leb-test}

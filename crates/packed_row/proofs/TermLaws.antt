@@ -2,13 +2,16 @@
 -- below; the greatest is at the other bound. For a coefficient of 0 either bound does.
 use Prim.Native.Nat.{◌*◌, ◌+◌, ◌-◌, ◌≤◌, ℕ}
 use lib.IntN.{◌*ℤ◌, pos, zero-*ℤ, ℤ}
-use lib.Signed.{◌<ℤ◌, ◌≤ℤ◌, lt_z}
+use lib.Signed.{◌<ℤ◌, ◌≤ℤ◌, le_z, lt_z}
 use mathlib.Core.Bool.{Bool, cond, false, true}
 use mathlib.Core.List.{List}
 use mathlib.Core.Logic.{◌⊎◌, inl, inr}
 use mathlib.Core.Path.{◌∙◌, ◌≡◌, refl, sym}
 use native.Mathlib.Omega.{arith}
-use Rattle.integer.proofs.Parts.{lt-false, lt-true, zarith}
+use Rattle.std.specs.Int.{int_max}
+use Rattle.integer.specs.Order.{max_z}
+use Rattle.integer.proofs.Parts.{le_z-no, lt-false, lt-is, lt-isn't, lt-true, zarith}
+use Rattle.integer.proofs.Tests.{cond_ind, le_test}
 use Rattle.model.specs.Box.{at, lower, upper}
 use Rattle.model.proofs.BoxLaws.{≤ℤ-antisymm}
 use Rattle.row.specs.Activity.{max_term, min_term}
@@ -57,3 +60,8 @@ module _ {a : ℤ} (B : List ℤ) (j : ℕ) {s : ℕ} where
       let k : 4 * j + 1 - (2 * j + s) ≡ 2 * j + 1 = omega arith in
       let i : 2 * j + s ≡ 2 * j = omega arith in
       rw (k, i) (l, u)
+
+-- the greater of two numbers, as std computes it
+pub max_same : (x y : ℤ) → int_max x y ≡ max_z x y
+unfolding max_z
+max_same x y = cond_ind (le_z x y) y x (λ (z : ℤ). int_max x y ≡ z) (λ t. rw (lt-isn't ((le_test x y).0 t))) (λ t. rw (lt-is (le_z-no t)))

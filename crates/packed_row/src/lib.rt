@@ -5,7 +5,6 @@
 
 ghost use Rattle.std.specs.Prelude.{cond, ◌≡◌, ◌*◌, ◌+◌, ◌<◌, ◌*ℤ◌, pos, length};
 ghost use Rattle.std.specs.Int.Signed.{lt_z};
-ghost use Rattle.integer.specs.Order.{max_z};
 ghost use Rattle.integer.specs.Range.{Within};
 ghost use Rattle.model.specs.Box.{lower, upper};
 ghost use Rattle.model.specs.Limits.{bound_size, coef_size, max_variables};
@@ -45,14 +44,14 @@ fn coef(word: u32) -> i32
 fn is_negative(a: i32) -> usize
     ensures { result ≡ cond (lt_z a (pos 0)) 1 0 }
 {
-    if a < 0 { 1 } else { 0 }
+    usize::from(a < 0)
 }
 
 fn product(a: i32, x: i32) -> i64
     requires { Within coef_size a × Within bound_size x }
     ensures { result ≡ a *ℤ x }
 {
-    (a as i64) * (x as i64)
+    i64::from(a) * i64::from(x)
 }
 
 // The least of a · x over the bounds of variable j, and how far the greatest lies above it. The least is at the lower
@@ -75,12 +74,6 @@ fn term_reach(a: i32, bounds: &[i32], j: usize) -> Reach
     }
 }
 
-fn greater(x: i64, y: i64) -> i64
-    ensures { result ≡ max_z x y }
-{
-    if x <= y { y } else { x }
-}
-
 // Lmin and the width of the widest term, of the row itself (sign 1) or of its negated form (sign −1).
 fn reach_packed(words: &[u32], sign: i32, bounds: &[i32]) -> Reach
     requires valid_coefs { ValidCoefs (length words.now) (coefs_from words.now 0) bounds.now }
@@ -99,7 +92,7 @@ fn reach_packed(words: &[u32], sign: i32, bounds: &[i32]) -> Reach
         let a = sign * coef(word);
         let reach = term_reach(a, bounds, j);
         least += reach.least;
-        widest = greater(widest, reach.widest);
+        widest = widest.max(reach.widest);
         j += 1 + (word % 128) as usize;
     }
     Reach { least, widest }

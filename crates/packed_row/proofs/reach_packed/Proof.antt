@@ -24,6 +24,7 @@ use Rattle.sweep.specs.Steps.{Steps}
 use Rattle.sweep.proofs.StepLaws.{signed_steps, step_sum, step-widest}
 use Rattle.packed_row.specs.Words.{coefs_from}
 use Rattle.packed_row.proofs.PackedLaws.{coef-at, packed-steps, skip-next, skip-start, skip_at, step-at, steps_from}
+use Rattle.packed_row.proofs.TermLaws.{max_same}
 use Rattle.packed_row.proofs.reach_packed.Statement.{statement}
 use Rattle.packed_row.proofs.reach_packed.Tie as tie
 
@@ -146,7 +147,7 @@ add-least c =
     let h = top t in
     turn-fits (min-terms (v h)) (j h) (so_far t) (next t) (within (found t))
 
-greater-requires : tie.Need-greater-widest-requires invariant-loop decreases-loop
+greater-requires : tie.Need-max-widest-requires invariant-loop decreases-loop
 greater-requires c κs = tt
 
 cast-j : tie.Need-overflow_cast-j invariant-loop decreases-loop
@@ -170,8 +171,8 @@ loop-again c =
       skip-next (W h) 0 (j h) _ k h.loop-j.invariant.0 (omega arith),
       to_z-of_z (add-least c.before.before) ∙ turn (min-terms (v h)) (j h) (so_far t) (next t) ∙ step_sum (steps h) k (B h)
           ∙ ap (λ (i : ℕ). total i (min_term_at (A h) (B h))) e,
-      to_z-of_z {w = w64} (record { sfits = c.greater-widest.type_inv })
-          ∙ c.greater-widest.ensures
+      to_z-of_z {w = w64} (record { sfits = c.max-widest.type_inv })
+          ∙ c.max-widest.ensures.0 ∙ max_same _ _
           ∙ ap (max_z (to_z w64 h.loop-j.widest-bits)) (width_is t)
           ∙ ap (λ (x : ℤ). max_z x (width_at (A h) (B h) (j h))) (rw (here h k) at h.loop-j.invariant.2)
           ∙ sym (greatest-more (width_at (A h) (B h)) (j h))

@@ -1,6 +1,6 @@
 -- `packed_row::tighten_bounds_packed`: the invariant says that the sweep stands at a word that is read (`skip_at`), that the bounds of the
 -- variables so far are the implied ones (`write_to`), and that `moved` tells how many of them differ (`moved_more`). Assumes nothing.
-use Prim.Native.Nat.{◌+◌, ◌-◌, ◌%◌, ◌<◌, ◌≤◌, min, ℕ}
+use Prim.Native.Nat.{◌+◌, ◌-◌, ◌%◌, ◌<◌, min, ℕ}
 use lib.IntN.{◌*ℤ◌, ℤ}
 use lib.ListN.{get_or, length}
 use mathlib.Core.List.{List}
