@@ -1,62 +1,53 @@
 // A model as `reduce` prints it: its rows, and the recorded implications.
-use crate::print::{count, line, list, number, text};
+
+use crate::parts::columns;
+use crate::print::{item, line, list, number, numbers, text};
 use std::io::Stdout;
 
 // How the line of row r starts: r, row, b; of an = row, = before b.
 fn row_head(out: Stdout, rhs: &[i32], kinds: &[u8], r: usize) {
-    text(out, b"  r");
-    count(out, r);
-    if r < kinds.len() {
-        if kinds[r] == 1 {
-            text(out, b" =");
-        }
+    item(out, b"  r", r);
+    if kinds.get(r) == Some(&1) {
+        text(out, b" =");
     }
-    if r < rhs.len() {
-        number(out, rhs[r]);
+    if let Some(b) = rhs.get(r) {
+        number(out, *b);
     }
 }
 
-// Each row: r, row, b, coefficients.
+// Each row: r, row, b, coefficients. A row that is cut off has no end.
 pub fn rows(out: Stdout, n: usize, coefs: &[i32], rhs: &[i32], kinds: &[u8]) {
-    let mut r = 0;
-    let mut column = 0;
-    for x in coefs {
-        if column == 0 {
-            row_head(out, rhs, kinds, r);
-        }
-        number(out, *x);
-        column += 1;
-        if column == n {
+    for (r, row) in coefs.chunks(columns(n)).enumerate() {
+        row_head(out, rhs, kinds, r);
+        numbers(out, row);
+        if row.len() == n {
             line(out);
-            r += 1;
-            column = 0;
         }
     }
 }
 
 // Literal p implies literal q: i, k, v, j, w.
 fn implication(out: Stdout, p: usize, q: usize) {
-    text(out, b"  i");
-    count(out, p / 2);
-    count(out, p % 2);
-    count(out, q / 2);
-    count(out, q % 2);
+    item(out, b"  i", p / 2);
+    number(out, p % 2);
+    number(out, q / 2);
+    number(out, q % 2);
     line(out);
+}
+
+// What literal p implies.
+fn implied(out: Stdout, p: usize, row: &[u8]) {
+    for (q, x) in row.iter().enumerate() {
+        if *x != 0 {
+            implication(out, p, q);
+        }
+    }
 }
 
 // Each recorded implication.
 pub fn implications(out: Stdout, literals: usize, table: &[u8]) {
-    let mut p = 0;
-    let mut q = 0;
-    for x in table {
-        if *x != 0 {
-            implication(out, p, q);
-        }
-        q += 1;
-        if q == literals {
-            p += 1;
-            q = 0;
-        }
+    for (p, row) in table.chunks(columns(literals)).enumerate() {
+        implied(out, p, row);
     }
 }
 

@@ -1,211 +1,105 @@
-// Lines, their words, and the numbers that words are.
-ghost use Rattle.std.specs.Prelude.{◌<◌, ◌≤◌, length};
+// The words of a line, and the numbers that words are.
 
-use crate::parts::lesser;
-
-// A word as a number, its sign apart, and the place after it.
+// A word as a number, its sign apart.
 #[derive(Clone, Copy)]
 pub struct Word {
-    pub magnitude: u64,
-    pub is_negative: bool,
-    pub next: usize,
+    magnitude: u64,
+    is_negative: bool,
 }
 
-// The place of the next byte like this one from place `at` on, or the end.
-fn find(text: &[u8], at: usize, byte: u8) -> usize
-    requires { at ≤ length text.now }
-    ensures { (at ≤ result) × (result ≤ length text.now) }
-{
-    let mut i = at;
-    while i < text.len() {
-        if text[i] == byte {
-            return i;
+impl From<&[u8]> for Word {
+    fn from(word: &[u8]) -> Word {
+        Word {
+            magnitude: word.iter().fold(0, |x, byte| appended(x, *byte)),
+            is_negative: word.contains(&b'-'),
         }
-        i += 1;
     }
-    i
 }
 
-// The line that starts at place `at`, without its end.
-pub fn line(text: &[u8], at: usize) -> &[u8] {
-    let start = lesser(at, text.len());
-    let end = find(text, start, b'\n');
-    &text[start..end]
+// The nearest number of each type; where there is no room for a sign, the sign counts for nothing.
+impl From<Word> for i32 {
+    fn from(word: Word) -> i32 {
+        let magnitude = u32::from(word);
+        if word.is_negative {
+            0i32.saturating_sub_unsigned(magnitude)
+        } else {
+            0i32.saturating_add_unsigned(magnitude)
+        }
+    }
 }
 
-// Where the line after it starts.
-pub fn next_line(text: &[u8], at: usize) -> usize
-    ensures { at < length text.now → at < result }
-{
-    if at < text.len() {
-        return find(text, at, b'\n') + 1;
+impl From<Word> for usize {
+    fn from(word: Word) -> usize {
+        word.magnitude as usize
     }
-    at
 }
 
-// The first byte of a line tells what it is for.
-pub fn first(line: &[u8]) -> u8 {
-    if line.len() == 0 {
-        return 0;
+impl From<Word> for u32 {
+    fn from(word: Word) -> u32 {
+        u32::try_from(word.magnitude).unwrap_or(u32::MAX)
     }
-    line[0]
+}
+
+impl From<Word> for u16 {
+    fn from(word: Word) -> u16 {
+        u16::try_from(word.magnitude).unwrap_or(u16::MAX)
+    }
+}
+
+impl From<Word> for u8 {
+    fn from(word: Word) -> u8 {
+        u8::try_from(word.magnitude).unwrap_or(u8::MAX)
+    }
 }
 
 // The number with one more digit; a byte that is none, or that the number has no room for, adds none.
 fn appended(x: u64, byte: u8) -> u64 {
-    if byte < b'0' {
+    if !byte.is_ascii_digit() {
         return x;
     }
-    if b'9' < byte {
-        return x;
-    }
-    let digit = (byte - b'0') as u64;
-    if (18_446_744_073_709_551_615 - digit) / 10 < x {
-        return x;
-    }
-    10 * x + digit
+    let digit = u64::from(byte - b'0');
+    x.checked_mul(10)
+        .and_then(|tens| tens.checked_add(digit))
+        .unwrap_or(x)
 }
 
-// The word from place `at` to the next space.
-fn word_at(line: &[u8], at: usize) -> Word {
-    let mut magnitude = 0;
-    let mut is_negative = false;
-    let mut i = at;
-    while i < line.len() {
-        let byte = line[i];
-        i += 1;
-        if byte == b' ' {
-            break;
-        }
-        if byte == b'-' {
-            is_negative = true;
-        }
-        magnitude = appended(magnitude, byte);
-    }
-    Word {
-        magnitude,
-        is_negative,
-        next: i,
+// The first word of a line, and what stands behind it.
+fn split(line: &[u8]) -> (&[u8], &[u8]) {
+    match line.iter().position(|byte| *byte == b' ') {
+        Some(end) => (&line[..end], &line[end + 1..]),
+        None => (line, &line[..0]),
     }
 }
 
-// Word k of a line; 0 is what the line is for.
-pub fn number(line: &[u8], k: usize) -> Word {
-    let mut word = word_at(line, 0);
-    let mut i = 0;
-    while i < k {
-        word = word_at(line, word.next);
-        i += 1;
-    }
-    word
-}
-
-// What stands behind word k of a line.
+// What stands behind word k of a line; word 0 is what the line is for.
 pub fn behind(line: &[u8], k: usize) -> &[u8] {
-    let at = number(line, k).next;
-    if at < line.len() {
-        return &line[at..];
+    let mut rest = line;
+    for _ in 0..=k {
+        rest = split(rest).1;
     }
-    &line[..0]
+    rest
+}
+
+// Word k of a line; one that the line lacks is 0.
+pub fn number<T: From<Word>>(line: &[u8], k: usize) -> T {
+    let word = line.split(|byte| *byte == b' ').nth(k);
+    T::from(Word::from(word.unwrap_or(b"")))
 }
 
 // The byte that the second word of a line starts with.
-pub fn second(line: &[u8]) -> u8 {
-    first(behind(line, 0))
+pub fn second(line: &[u8]) -> Option<u8> {
+    behind(line, 0).first().copied()
 }
 
-fn integer(x: Word) -> i32 {
-    if 2_147_483_647 < x.magnitude {
-        if x.is_negative {
-            return -2_147_483_648;
+// Fills a list with the words of a line, over and over.
+pub fn fill<T: From<Word> + Copy>(words: &[u8], xs: &mut [T]) {
+    let mut rest = words;
+    for x in xs {
+        if rest.is_empty() {
+            rest = words;
         }
-        return 2_147_483_647;
-    }
-    let magnitude = x.magnitude as i32;
-    if x.is_negative {
-        return -magnitude;
-    }
-    magnitude
-}
-
-pub fn natural(x: Word) -> u32 {
-    if 4_294_967_295 < x.magnitude {
-        return 4_294_967_295;
-    }
-    x.magnitude as u32
-}
-
-fn byte(x: Word) -> u8 {
-    if 255 < x.magnitude {
-        return 255;
-    }
-    x.magnitude as u8
-}
-
-fn place(x: Word) -> u16 {
-    if 65_535 < x.magnitude {
-        return 65_535;
-    }
-    x.magnitude as u16
-}
-
-// Fills the first `len` numbers with the words of a line from place `at` on, over and over.
-pub fn fill(line: &[u8], at: usize, len: usize, xs: &mut [i32]) {
-    let end = lesser(len, xs.len());
-    let mut place = at;
-    let mut i = 0;
-    while i < end {
-        if line.len() <= place {
-            place = at;
-        }
-        let word = word_at(line, place);
-        xs[i] = integer(word);
-        place = word.next;
-        i += 1;
-    }
-}
-
-pub fn fill_naturals(line: &[u8], at: usize, len: usize, xs: &mut [u32]) {
-    let end = lesser(len, xs.len());
-    let mut place = at;
-    let mut i = 0;
-    while i < end {
-        if line.len() <= place {
-            place = at;
-        }
-        let word = word_at(line, place);
-        xs[i] = natural(word);
-        place = word.next;
-        i += 1;
-    }
-}
-
-pub fn fill_bytes(line: &[u8], at: usize, len: usize, xs: &mut [u8]) {
-    let end = lesser(len, xs.len());
-    let mut place = at;
-    let mut i = 0;
-    while i < end {
-        if line.len() <= place {
-            place = at;
-        }
-        let word = word_at(line, place);
-        xs[i] = byte(word);
-        place = word.next;
-        i += 1;
-    }
-}
-
-pub fn fill_places(line: &[u8], at: usize, len: usize, xs: &mut [u16]) {
-    let end = lesser(len, xs.len());
-    let mut from = at;
-    let mut i = 0;
-    while i < end {
-        if line.len() <= from {
-            from = at;
-        }
-        let word = word_at(line, from);
-        xs[i] = place(word);
-        from = word.next;
-        i += 1;
+        let (word, others) = split(rest);
+        *x = T::from(Word::from(word));
+        rest = others;
     }
 }
