@@ -4,66 +4,29 @@ use crate::in_words;
 use crate::made::make;
 use crate::transcript::name;
 use call::{Call, PROBE, PROPAGATE, PROPAGATE_ROW, TIGHTEN_COEFFICIENT};
+use std::fmt::Display;
 use std::io::Stdout;
-use test_text::parts::{bytes_part_mut, lesser, part_mut};
-use test_text::print::{count, line, number, text};
-
-fn copy(from: &[i32], to: &mut [i32]) {
-    let len = lesser(from.len(), to.len());
-    for i in 0..len {
-        to[i] = from[i];
-    }
-}
-
-fn copy_bytes(from: &[u8], to: &mut [u8]) {
-    let len = lesser(from.len(), to.len());
-    for i in 0..len {
-        to[i] = from[i];
-    }
-}
+use test_text::model::Model;
+use test_text::print::{item, line, text};
 
 // A copy, in room that is lent for it.
-fn copied<'a>(from: &[i32], room: &'a mut [i32]) -> &'a mut [i32] {
-    copy(from, room);
-    part_mut(room, from.len())
+fn copied<'a, T: Copy>(from: &[T], room: &'a mut [T]) -> &'a mut [T] {
+    let len = from.len().min(room.len());
+    let copy = &mut room[..len];
+    copy.copy_from_slice(&from[..len]);
+    copy
 }
 
-fn copied_bytes<'a>(from: &[u8], room: &'a mut [u8]) -> &'a mut [u8] {
-    copy_bytes(from, room);
-    bytes_part_mut(room, from.len())
-}
-
-fn change(out: Stdout, word: &[u8], place: usize, value: i32) {
-    text(out, word);
-    count(out, place);
-    text(out, b" =");
-    number(out, value);
-}
-
-fn byte_change(out: Stdout, word: &[u8], place: usize, value: u8) {
-    text(out, word);
-    count(out, place);
-    text(out, b" =");
-    count(out, value as usize);
+fn change<T: Display + Copy>(out: Stdout, word: &[u8], place: usize, value: T) {
+    item(out, word, place);
+    item(out, b" =", value);
 }
 
 // The places where a list differs from what it was.
-fn changes(out: Stdout, word: &[u8], before: &[i32], after: &[i32]) {
-    let len = lesser(before.len(), after.len());
-    for i in 0..len {
-        let x = after[i];
-        if x != before[i] {
-            change(out, word, i, x);
-        }
-    }
-}
-
-fn byte_changes(out: Stdout, word: &[u8], before: &[u8], after: &[u8]) {
-    let len = lesser(before.len(), after.len());
-    for i in 0..len {
-        let x = after[i];
-        if x != before[i] {
-            byte_change(out, word, i, x);
+fn changes<T: Display + Copy + PartialEq>(out: Stdout, word: &[u8], before: &[T], after: &[T]) {
+    for (i, (old, new)) in before.iter().zip(after).enumerate() {
+        if *old != *new {
+            change(out, word, i, *new);
         }
     }
 }
@@ -81,74 +44,45 @@ fn label(out: Stdout, kind: u32) {
 }
 
 // The places where any buffer differs from what it was.
-fn all_changes(
-    out: Stdout,
-    bounds: &[i32],
-    coefs: &[i32],
-    rhs: &[i32],
-    kinds: &[u8],
-    table: &[u8],
-    new_bounds: &[i32],
-    new_coefs: &[i32],
-    new_rhs: &[i32],
-    new_kinds: &[u8],
-    new_table: &[u8],
-) {
-    changes(out, b", bounds", bounds, new_bounds);
-    changes(out, b", coefs", coefs, new_coefs);
-    changes(out, b", rhs", rhs, new_rhs);
-    byte_changes(out, b", kinds", kinds, new_kinds);
-    byte_changes(out, b", table", table, new_table);
+fn all_changes(out: Stdout, before: Model<'_>, after: Model<'_>) {
+    changes(out, b", bounds", before.bounds, after.bounds);
+    changes(out, b", coefs", before.coefs, after.coefs);
+    changes(out, b", rhs", before.rhs, after.rhs);
+    changes(out, b", kinds", before.kinds, after.kinds);
+    changes(out, b", table", before.table, after.table);
 }
 
-pub fn one(
-    out: Stdout,
-    n: usize,
-    m: usize,
-    bounds: &[i32],
-    coefs: &[i32],
-    rhs: &[i32],
-    kinds: &[u8],
-    table: &[u8],
-    call: Call,
-) {
+pub fn one(out: Stdout, model: Model<'_>, call: Call) {
     let mut bounds_room = [0i32; 256];
     let mut coefs_room = [0i32; 15_360];
     let mut rhs_room = [0i32; 120];
     let mut kinds_room = [0u8; 120];
     let mut table_room = [0u8; 65_536];
-    let new_bounds = copied(bounds, &mut bounds_room);
-    let new_coefs = copied(coefs, &mut coefs_room);
-    let new_rhs = copied(rhs, &mut rhs_room);
-    let new_kinds = copied_bytes(kinds, &mut kinds_room);
-    let new_table = copied_bytes(table, &mut table_room);
+    let n = model.n;
+    let m = model.m;
+    let bounds = copied(model.bounds, &mut bounds_room);
+    let coefs = copied(model.coefs, &mut coefs_room);
+    let rhs = copied(model.rhs, &mut rhs_room);
+    let kinds = copied(model.kinds, &mut kinds_room);
+    let table = copied(model.table, &mut table_room);
     label(out, call.kind);
-    in_words::answer(
-        out,
-        make(
-            n, m, new_bounds, new_coefs, new_rhs, new_kinds, new_table, call,
-        ),
-    );
-    all_changes(
-        out, bounds, coefs, rhs, kinds, table, new_bounds, new_coefs, new_rhs, new_kinds, new_table,
-    );
+    in_words::answer(out, make(n, m, bounds, coefs, rhs, kinds, table, call));
+    let after = Model {
+        n,
+        m,
+        bounds,
+        coefs,
+        rhs,
+        kinds,
+        table,
+    };
+    all_changes(out, model, after);
     line(out);
 }
 
 // All six, each on its own copy; the record's kind is not looked at.
-pub fn all(
-    out: Stdout,
-    n: usize,
-    m: usize,
-    bounds: &[i32],
-    coefs: &[i32],
-    rhs: &[i32],
-    kinds: &[u8],
-    table: &[u8],
-    call: Call,
-) {
+pub fn all(out: Stdout, model: Model<'_>, call: Call) {
     for kind in 1..=6 {
-        let each = Call { kind, ..call };
-        one(out, n, m, bounds, coefs, rhs, kinds, table, each);
+        one(out, model, Call { kind, ..call });
     }
 }

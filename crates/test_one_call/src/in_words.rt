@@ -5,7 +5,7 @@ use reducer::calls::{
     ProbeAnswer, PropagateAnswer, PropagateRowAnswer, RemoveAnswer, RestAnswer, TightenAnswer,
 };
 use std::io::Stdout;
-use test_text::print::{item, refused, text};
+use test_text::print::{item, text};
 
 // How a propagation ended, its passes and the bounds that it moved.
 fn ended(out: Stdout, word: &[u8], passes: u32, moved: u32) {
@@ -15,7 +15,7 @@ fn ended(out: Stdout, word: &[u8], passes: u32, moved: u32) {
 
 fn propagated_row(out: Stdout, a: PropagateRowAnswer) {
     match a {
-        PropagateRowAnswer::Refused(number) => refused(out, number),
+        PropagateRowAnswer::Refused(number) => item(out, b" refused", number),
         PropagateRowAnswer::Infeasible => text(out, b" infeasible"),
         PropagateRowAnswer::Tightened(moved) => item(out, b" tightened", moved),
         PropagateRowAnswer::Unchanged => text(out, b" unchanged"),
@@ -24,7 +24,7 @@ fn propagated_row(out: Stdout, a: PropagateRowAnswer) {
 
 fn propagated(out: Stdout, a: PropagateAnswer) {
     match a {
-        PropagateAnswer::Refused(number) => refused(out, number),
+        PropagateAnswer::Refused(number) => item(out, b" refused", number),
         PropagateAnswer::Infeasible(passes, moved) => ended(out, b" infeasible", passes, moved),
         PropagateAnswer::Converged(passes, moved) => ended(out, b" converged", passes, moved),
         PropagateAnswer::BudgetSpent(passes, moved) => ended(out, b" spent", passes, moved),
@@ -46,7 +46,7 @@ fn sides(out: Stdout, side0: Side, side1: Side) {
 
 fn probed(out: Stdout, a: ProbeAnswer) {
     match a {
-        ProbeAnswer::Refused(number) => refused(out, number),
+        ProbeAnswer::Refused(number) => item(out, b" refused", number),
         ProbeAnswer::Infeasible(side0, side1) => {
             text(out, b" infeasible");
             sides(out, side0, side1);
@@ -64,7 +64,7 @@ fn probed(out: Stdout, a: ProbeAnswer) {
 
 fn tightened(out: Stdout, a: TightenAnswer) {
     match a {
-        TightenAnswer::Refused(number) => refused(out, number),
+        TightenAnswer::Refused(number) => item(out, b" refused", number),
         TightenAnswer::Infeasible => text(out, b" infeasible"),
         TightenAnswer::Tightened => text(out, b" tightened"),
         TightenAnswer::Unchanged => text(out, b" unchanged"),
@@ -73,7 +73,7 @@ fn tightened(out: Stdout, a: TightenAnswer) {
 
 fn removed(out: Stdout, a: RemoveAnswer) {
     match a {
-        RemoveAnswer::Refused(number) => refused(out, number),
+        RemoveAnswer::Refused(number) => item(out, b" refused", number),
         RemoveAnswer::Infeasible => text(out, b" infeasible"),
         RemoveAnswer::Removed => text(out, b" removed"),
         RemoveAnswer::Unchanged => text(out, b" unchanged"),
@@ -82,7 +82,7 @@ fn removed(out: Stdout, a: RemoveAnswer) {
 
 fn rest(out: Stdout, a: RestAnswer) {
     match a {
-        RestAnswer::Refused(number) => refused(out, number),
+        RestAnswer::Refused(number) => item(out, b" refused", number),
         RestAnswer::Yes => text(out, b" yes"),
         RestAnswer::NoByRow(r) => item(out, b" no by row", r),
         RestAnswer::NoByVariable(k) => item(out, b" no by variable", k),

@@ -3,7 +3,7 @@ use crate::in_words;
 use crate::made::make;
 use call::{Call, PROBE, PROPAGATE, PROPAGATE_ROW, REMOVE_ROW, TIGHTEN_COEFFICIENT};
 use std::io::Stdout;
-use test_text::print::{count, line, text};
+use test_text::print::{line, number, text};
 
 // 01's word for a kind.
 pub fn name(out: Stdout, kind: u32) {
@@ -20,9 +20,9 @@ pub fn name(out: Stdout, kind: u32) {
 // A record as 01 has it: kind, row, variable, budget.
 fn record(out: Stdout, call: Call) {
     name(out, call.kind);
-    count(out, call.row as usize);
-    count(out, call.variable as usize);
-    count(out, call.budget as usize);
+    number(out, call.row);
+    number(out, call.variable);
+    number(out, call.budget);
 }
 
 // One call as a line.

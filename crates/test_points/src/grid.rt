@@ -1,5 +1,6 @@
 // The points of a model of at most four variables, and what holds at them. The points are those of a grid: every whole
 // number from -2 to 3 for each variable.
+use test_text::model::Model;
 use test_text::parts::columns;
 
 pub type Point = [i32; 4];
@@ -50,9 +51,10 @@ fn fails(sum: i64, rhs: &[i32], kinds: &[u8], r: usize) -> bool {
     }
 }
 
-fn meets_rows(n: usize, coefs: &[i32], rhs: &[i32], kinds: &[u8], point: Point) -> bool {
-    for (r, row) in coefs.chunks_exact(columns(n)).enumerate() {
-        if fails(sum(row, point), rhs, kinds, r) {
+fn meets_rows(model: Model<'_>, point: Point) -> bool {
+    let rows = model.coefs.chunks_exact(columns(model.n));
+    for (r, row) in rows.enumerate() {
+        if fails(sum(row, point), model.rhs, model.kinds, r) {
             return false;
         }
     }
@@ -60,17 +62,10 @@ fn meets_rows(n: usize, coefs: &[i32], rhs: &[i32], kinds: &[u8], point: Point) 
 }
 
 // Marks the integer points of a model.
-pub fn mark(
-    n: usize,
-    bounds: &[i32],
-    coefs: &[i32],
-    rhs: &[i32],
-    kinds: &[u8],
-    marks: &mut [bool],
-) {
+pub fn mark(model: Model<'_>, marks: &mut [bool]) {
     for (k, mark) in marks.iter_mut().enumerate() {
         let point = grid_point(k);
-        *mark = in_box(bounds, point) && meets_rows(n, coefs, rhs, kinds, point);
+        *mark = in_box(model.bounds, point) && meets_rows(model, point);
     }
 }
 

@@ -1,5 +1,5 @@
 // A model as `reduce` prints it: its rows, and the recorded implications.
-
+use crate::model::Model;
 use crate::parts::columns;
 use crate::print::{item, line, list, number, numbers, text};
 use std::io::Stdout;
@@ -52,15 +52,7 @@ pub fn implications(out: Stdout, literals: usize, table: &[u8]) {
 }
 
 // How an example starts: its name with the bounds, then its rows.
-pub fn head(
-    out: Stdout,
-    name: &[u8],
-    n: usize,
-    bounds: &[i32],
-    coefs: &[i32],
-    rhs: &[i32],
-    kinds: &[u8],
-) {
-    list(out, name, bounds);
-    rows(out, n, coefs, rhs, kinds);
+pub fn head(out: Stdout, name: &[u8], model: Model<'_>) {
+    list(out, name, model.bounds);
+    rows(out, model.n, model.coefs, model.rhs, model.kinds);
 }
