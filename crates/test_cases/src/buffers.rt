@@ -4,10 +4,11 @@
 //                               many kinds 0
 //   put bounds PLACE COUNT X .. as many from that place on; coefs, rhs, kinds and table likewise
 // A book is in the table's place, and its lines say `data`. Every other line leaves the model.
-use test_text::words::{fill, fill_bytes, first, number, second};
+use test_text::parts::part_mut;
+use test_text::words::{Word, behind, fill, number, second};
 
 // n and m as the calls are told them, and how much of each buffer they are lent.
-#[derive(Clone, Copy)]
+#[derive(Clone, Copy, Default)]
 pub struct Sizes {
     pub n: usize,
     pub m: usize,
@@ -18,49 +19,23 @@ pub struct Sizes {
     pub table: usize,
 }
 
-pub fn nothing() -> Sizes {
-    Sizes {
-        n: 0,
-        m: 0,
-        bounds: 0,
-        coefs: 0,
-        rhs: 0,
-        kinds: 0,
-        table: 0,
-    }
-}
-
-fn set(line: &[u8], xs: &mut [i32]) -> usize {
+// As many numbers, the words of a line over and over.
+fn set<T: From<Word> + Copy>(line: &[u8], xs: &mut [T]) -> usize {
     let len = number(line, 1);
-    fill(line, len.next, len.magnitude as usize, xs);
-    len.magnitude as usize
-}
-
-fn set_bytes(line: &[u8], xs: &mut [u8]) -> usize {
-    let len = number(line, 1);
-    fill_bytes(line, len.next, len.magnitude as usize, xs);
-    len.magnitude as usize
+    fill(behind(line, 1), part_mut(xs, len));
+    len
 }
 
 // As many ≤ rows.
 fn no_equality(len: usize, kinds: &mut [u8]) -> usize {
-    fill_bytes(b"0", 0, len, kinds);
+    part_mut(kinds, len).fill(0);
     len
 }
 
-fn put(line: &[u8], xs: &mut [i32]) {
-    let place = number(line, 2).magnitude as usize;
+fn put<T: From<Word> + Copy>(line: &[u8], xs: &mut [T]) {
+    let place: usize = number(line, 2);
     if place <= xs.len() {
-        let count = number(line, 3);
-        fill(line, count.next, count.magnitude as usize, &mut xs[place..]);
-    }
-}
-
-fn put_bytes(line: &[u8], xs: &mut [u8]) {
-    let place = number(line, 2).magnitude as usize;
-    if place <= xs.len() {
-        let count = number(line, 3);
-        fill_bytes(line, count.next, count.magnitude as usize, &mut xs[place..]);
+        fill(behind(line, 3), part_mut(&mut xs[place..], number(line, 3)));
     }
 }
 
@@ -73,11 +48,11 @@ fn put_some(
     table: &mut [u8],
 ) {
     match second(line) {
-        b'b' => put(line, bounds),
-        b'c' => put(line, coefs),
-        b'r' => put(line, rhs),
-        b'k' => put_bytes(line, kinds),
-        _ => put_bytes(line, table),
+        Some(b'b') => put(line, bounds),
+        Some(b'c') => put(line, coefs),
+        Some(b'r') => put(line, rhs),
+        Some(b'k') => put(line, kinds),
+        _ => put(line, table),
     }
 }
 
@@ -91,20 +66,20 @@ pub fn change(
     table: &mut [u8],
 ) -> Sizes {
     let mut sizes = sizes;
-    match first(line) {
-        b's' => {
-            sizes.n = number(line, 1).magnitude as usize;
-            sizes.m = number(line, 2).magnitude as usize;
+    match line.first() {
+        Some(b's') => {
+            sizes.n = number(line, 1);
+            sizes.m = number(line, 2);
         }
-        b'b' => sizes.bounds = set(line, bounds),
-        b'c' => sizes.coefs = set(line, coefs),
-        b'r' => {
+        Some(b'b') => sizes.bounds = set(line, bounds),
+        Some(b'c') => sizes.coefs = set(line, coefs),
+        Some(b'r') => {
             sizes.rhs = set(line, rhs);
             sizes.kinds = no_equality(sizes.rhs, kinds);
         }
-        b'k' => sizes.kinds = set_bytes(line, kinds),
-        b't' | b'd' => sizes.table = set_bytes(line, table),
-        b'p' => put_some(line, bounds, coefs, rhs, kinds, table),
+        Some(b'k') => sizes.kinds = set(line, kinds),
+        Some(b't' | b'd') => sizes.table = set(line, table),
+        Some(b'p') => put_some(line, bounds, coefs, rhs, kinds, table),
         _ => {}
     }
     sizes

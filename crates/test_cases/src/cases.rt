@@ -34,7 +34,8 @@ use std::io::{Read, Stdin, Stdout};
 use test_one_call::copies;
 use test_one_call::transcript::step;
 use test_other_calls::{book_cases, clique_cases, plans, tied};
-use test_text::parts::{bytes_part_mut, part_mut};
+use test_text::model::Model;
+use test_text::parts::part_mut;
 use test_text::words::behind;
 use test_text::{print, rows, words};
 
@@ -43,50 +44,46 @@ fn model_name(out: Stdout, line: &[u8]) {
     print::line(out);
 }
 
-fn write(
-    out: Stdout,
-    line: &[u8],
-    n: usize,
-    bounds: &[i32],
-    coefs: &[i32],
-    rhs: &[i32],
-    kinds: &[u8],
-    table: &[u8],
-) {
+fn write(out: Stdout, line: &[u8], model: Model<'_>) {
     match words::second(line) {
-        b'b' => print::list(out, b"  bounds", bounds),
-        b'c' => print::list(out, b"  coefs", coefs),
-        b'r' => print::list(out, b"  rhs", rhs),
-        b'k' => print::ones(out, b"  kinds", kinds),
-        b'm' => rows::rows(out, n, coefs, rhs, kinds),
-        b'i' => rows::implications(out, bounds.len(), table),
-        _ => print::ones(out, b"  table", table),
+        Some(b'b') => print::list(out, b"  bounds", model.bounds),
+        Some(b'c') => print::list(out, b"  coefs", model.coefs),
+        Some(b'r') => print::list(out, b"  rhs", model.rhs),
+        Some(b'k') => print::ones(out, b"  kinds", model.kinds),
+        Some(b'm') => rows::rows(out, model.n, model.coefs, model.rhs, model.kinds),
+        Some(b'i') => rows::implications(out, model.bounds.len(), model.table),
+        _ => print::ones(out, b"  table", model.table),
     }
 }
 
+// Whether the box is at rest.
+fn fixpoint(out: Stdout, model: Model<'_>) {
+    lists::rest(
+        out,
+        is_probing_fixpoint(
+            model.n,
+            model.m,
+            model.bounds,
+            model.coefs,
+            model.rhs,
+            model.kinds,
+        ),
+    );
+}
+
 // What a line asks of a model that stays as it is.
-fn look(
-    out: Stdout,
-    line: &[u8],
-    n: usize,
-    m: usize,
-    bounds: &[i32],
-    coefs: &[i32],
-    rhs: &[i32],
-    kinds: &[u8],
-    table: &[u8],
-) {
-    match words::first(line) {
-        b'n' => print::text(out, behind(line, 0)),
-        b'm' => model_name(out, line),
-        b'h' => rows::head(out, behind(line, 0), n, bounds, coefs, rhs, kinds),
-        b'w' => write(out, line, n, bounds, coefs, rhs, kinds, table),
-        b'P' => plans::of_list(out, line, n, bounds),
-        b'L' => plans::of_trailer(out, table),
-        b'G' => clique_cases::of_table(out, n, table),
-        b'f' => lists::rest(out, is_probing_fixpoint(n, m, bounds, coefs, rhs, kinds)),
-        b'a' => copies::all(out, n, m, bounds, coefs, rhs, kinds, table, record(line)),
-        b'1'..=b'6' => copies::one(out, n, m, bounds, coefs, rhs, kinds, table, record(line)),
+fn look(out: Stdout, line: &[u8], model: Model<'_>) {
+    match line.first() {
+        Some(b'n') => print::text(out, behind(line, 0)),
+        Some(b'm') => model_name(out, line),
+        Some(b'h') => rows::head(out, behind(line, 0), model),
+        Some(b'w') => write(out, line, model),
+        Some(b'P') => plans::of_list(out, line, model.n, model.bounds),
+        Some(b'L') => plans::of_trailer(out, model.table),
+        Some(b'G') => clique_cases::of_table(out, model.n, model.table),
+        Some(b'f') => fixpoint(out, model),
+        Some(b'a') => copies::all(out, model, record(line)),
+        Some(b'1'..=b'6') => copies::one(out, model, record(line)),
         _ => {}
     }
 }
@@ -103,8 +100,8 @@ fn answer(
     kinds: &mut [u8],
     table: &mut [u8],
 ) {
-    match words::first(line) {
-        b'C' => step(
+    match line.first() {
+        Some(b'C') => step(
             out,
             n,
             m,
@@ -115,12 +112,24 @@ fn answer(
             table,
             record(behind(line, 0)),
         ),
-        b'e' | b'D' | b'F' => lists::answer(out, line, n, m, bounds, coefs, rhs, kinds, table),
-        b'K' => tied::of_line(out, line, n, m, bounds, coefs, rhs, kinds, table),
-        b'R' | b'T' | b'W' | b'B' | b'S' => {
+        Some(b'e' | b'D' | b'F') => lists::answer(out, line, n, m, bounds, coefs, rhs, kinds, table),
+        Some(b'K') => tied::of_line(out, line, n, m, bounds, coefs, rhs, kinds, table),
+        Some(b'R' | b'T' | b'W' | b'B' | b'S') => {
             book_cases::answer(out, line, n, m, bounds, coefs, rhs, kinds, table)
         }
-        _ => look(out, line, n, m, bounds, coefs, rhs, kinds, table),
+        _ => look(
+            out,
+            line,
+            Model {
+                n,
+                m,
+                bounds,
+                coefs,
+                rhs,
+                kinds,
+                table,
+            },
+        ),
     }
 }
 
@@ -143,8 +152,8 @@ fn lent(
         part_mut(bounds, sizes.bounds),
         part_mut(coefs, sizes.coefs),
         part_mut(rhs, sizes.rhs),
-        bytes_part_mut(kinds, sizes.kinds),
-        bytes_part_mut(table, sizes.table),
+        part_mut(kinds, sizes.kinds),
+        part_mut(table, sizes.table),
     );
 }
 
@@ -171,10 +180,8 @@ fn each_line(out: Stdout, text: &[u8]) {
     let mut rhs = [0i32; 120];
     let mut kinds = [0u8; 120];
     let mut table = [0u8; 65_536];
-    let mut sizes = buffers::nothing();
-    let mut at = 0;
-    while at < text.len() {
-        let line = words::line(text, at);
+    let mut sizes = Sizes::default();
+    for line in text.split(|byte| *byte == b'\n') {
         sizes = turn(
             out,
             line,
@@ -185,7 +192,6 @@ fn each_line(out: Stdout, text: &[u8]) {
             &mut kinds,
             &mut table,
         );
-        at = words::next_line(text, at);
     }
 }
 

@@ -4,9 +4,9 @@ use call_list::run_four;
 use flat_list::{RunAnswer, run, run_classes};
 use reducer::calls::RestAnswer;
 use std::io::Stdout;
-use test_text::parts::{bytes_part_mut, naturals_part};
-use test_text::print::{bytes, count, item, line, refused, text};
-use test_text::words::{behind, fill_naturals, first, natural, number};
+use test_text::parts::{part, part_mut};
+use test_text::print::{item, line, list, number, refused, text};
+use test_text::words::{self, behind, fill};
 
 // The four counts: refused, infeasible, changed, unchanged.
 fn ran(out: Stdout, a: RunAnswer) {
@@ -14,10 +14,10 @@ fn ran(out: Stdout, a: RunAnswer) {
         RunAnswer::Refused(number) => refused(out, number),
         RunAnswer::Ran(counts) => {
             text(out, b" ran");
-            count(out, counts.refused);
-            count(out, counts.infeasible);
-            count(out, counts.changed);
-            count(out, counts.unchanged);
+            number(out, counts.refused);
+            number(out, counts.infeasible);
+            number(out, counts.changed);
+            number(out, counts.unchanged);
         }
     }
 }
@@ -34,13 +34,11 @@ fn execute(
     kinds: &[u8],
     table: &mut [u8],
 ) {
-    let mut calls = [0u32; 64];
-    let len = number(words, 1);
-    let all = len.magnitude as usize;
-    fill_naturals(words, len.next, all, &mut calls);
-    let list = naturals_part(&calls, all);
+    let mut room = [0u32; 64];
+    let calls = part_mut(&mut room, words::number(words, 1));
+    fill(behind(words, 1), calls);
     text(out, b":");
-    ran(out, run(n, m, bounds, coefs, rhs, kinds, table, list));
+    ran(out, run(n, m, bounds, coefs, rhs, kinds, table, calls));
     line(out);
 }
 
@@ -56,28 +54,26 @@ fn execute_classes(
     kinds: &[u8],
     table: &mut [u8],
 ) {
-    let mut calls = [0u32; 64];
-    let mut room = [9u8; 16];
-    let len = number(words, 2);
-    let all = len.magnitude as usize;
-    fill_naturals(words, len.next, all, &mut calls);
-    let list = naturals_part(&calls, all);
-    let classes = bytes_part_mut(&mut room, number(words, 1).magnitude as usize);
+    let mut room = [0u32; 64];
+    let mut classes_room = [9u8; 16];
+    let calls = part_mut(&mut room, words::number(words, 2));
+    fill(behind(words, 2), calls);
+    let classes = part_mut(&mut classes_room, words::number(words, 1));
     text(out, b":");
     ran(
         out,
-        run_classes(n, m, bounds, coefs, rhs, kinds, table, list, classes),
+        run_classes(n, m, bounds, coefs, rhs, kinds, table, calls, classes),
     );
-    bytes(out, b" did", classes);
+    list(out, b" did", classes);
 }
 
 // The call that the first four words are.
 pub fn record(words: &[u8]) -> Call {
     Call {
-        kind: natural(number(words, 0)),
-        row: natural(number(words, 1)),
-        variable: natural(number(words, 2)),
-        budget: natural(number(words, 3)),
+        kind: words::number(words, 0),
+        row: words::number(words, 1),
+        variable: words::number(words, 2),
+        budget: words::number(words, 3),
     }
 }
 
@@ -115,9 +111,9 @@ pub fn answer(
     kinds: &[u8],
     table: &mut [u8],
 ) {
-    match first(words) {
-        b'e' => execute(out, words, n, m, bounds, coefs, rhs, kinds, table),
-        b'D' => execute_classes(out, words, n, m, bounds, coefs, rhs, kinds, table),
+    match words.first() {
+        Some(b'e') => execute(out, words, n, m, bounds, coefs, rhs, kinds, table),
+        Some(b'D') => execute_classes(out, words, n, m, bounds, coefs, rhs, kinds, table),
         _ => execute_records(out, words, n, m, bounds, coefs, rhs, kinds, table),
     }
 }

@@ -1,7 +1,24 @@
 // Mistakes put into what a call left, to see that they are found.
 use call::{Call, TIGHTEN_COEFFICIENT};
 use test_points::models;
-use test_text::parts::lesser;
+
+#[derive(Clone, Copy, PartialEq, Eq)]
+pub enum Lie {
+    // A right side is lowered with a negative coefficient.
+    RightSideLowered,
+    // The upper bound of variable 0 is cut to 0.
+    BoundCut,
+    // The upper bound of variable 0 is moved out to 3.
+    BoundMovedOut,
+    // The table says that variable 0 is 0 where it is 1.
+    ImplicationInvented,
+    // The model is said to be infeasible.
+    InfeasibleSaid,
+    // The upper bound of variable 0 before the call is moved out to 3, so that one bound more differs than was moved.
+    MoveNotCounted,
+    // Row 0 is a ≤ row.
+    EqualityLost,
+}
 
 // Whether a coefficient is above what it was: after a tightening only a negative one that was tightened is.
 fn is_raised(before: &[i32], coefs: &[i32]) -> bool {
@@ -19,35 +36,20 @@ fn lower(code: usize, call: Call, coefs: &[i32], rhs: &mut [i32]) {
     let mut less = [0i32; 3];
     models::coefficients(&mut before, code);
     models::lowered(&mut less, code);
-    if is_raised(&before, coefs) {
-        if row < lesser(rhs.len(), 3) {
-            rhs[row] = less[row];
-        }
+    if is_raised(&before, coefs) && row < rhs.len().min(3) {
+        rhs[row] = less[row];
     }
 }
 
-fn set_upper(bounds: &mut [i32], upper: i32) {
-    if bounds.len() > 1 {
-        bounds[1] = upper;
+fn set<T: Copy>(xs: &mut [T], at: usize, x: T) {
+    if at < xs.len() {
+        xs[at] = x;
     }
 }
 
-fn set_byte(table: &mut [u8], at: usize) {
-    if at < table.len() {
-        table[at] = 1;
-    }
-}
-
-fn clear_byte(kinds: &mut [u8]) {
-    if kinds.len() > 0 {
-        kinds[0] = 0;
-    }
-}
-
-// 1: a right side lowered; 2: the upper bound of variable 0 cut to 0; 3: moved out to 3; 4: the implication that
-// variable 0 is 0 where it is 1; 7: row 0 is a ≤ row.
+// The mistakes in what the call left.
 pub fn spoil(
-    lie: u32,
+    lie: Lie,
     code: usize,
     call: Call,
     bounds: &mut [i32],
@@ -57,18 +59,18 @@ pub fn spoil(
     table: &mut [u8],
 ) {
     match lie {
-        1 => lower(code, call, coefs, rhs),
-        2 => set_upper(bounds, 0),
-        3 => set_upper(bounds, 3),
-        4 => set_byte(table, bounds.len()),
-        7 => clear_byte(kinds),
-        _ => {}
+        Lie::RightSideLowered => lower(code, call, coefs, rhs),
+        Lie::BoundCut => set(bounds, 1, 0),
+        Lie::BoundMovedOut => set(bounds, 1, 3),
+        Lie::ImplicationInvented => set(table, bounds.len(), 1),
+        Lie::EqualityLost => set(kinds, 0, 0),
+        Lie::InfeasibleSaid | Lie::MoveNotCounted => {}
     }
 }
 
-// 6: the upper bound of variable 0 before the call moved out to 3, so that one bound more differs than was moved.
-pub fn spoil_before(lie: u32, before: &mut [i32]) {
-    if lie == 6 {
-        set_upper(before, 3);
+// The mistake in what was there before the call.
+pub fn spoil_before(lie: Option<Lie>, before: &mut [i32]) {
+    if lie == Some(Lie::MoveNotCounted) {
+        set(before, 1, 3);
     }
 }

@@ -24,10 +24,7 @@ fn row_agrees(a: PropagateRowAnswer, differ: usize) -> bool {
 
 // Each pass but the last moved a bound.
 fn fits(passes: u32, moved: u32) -> bool {
-    if passes == 0 {
-        return true;
-    }
-    passes - 1 <= moved
+    passes.saturating_sub(1) <= moved
 }
 
 // A bound that differs was moved, perhaps more than once.

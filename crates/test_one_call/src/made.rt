@@ -67,33 +67,12 @@ pub fn make(
 
 // Whether the answer is that the model is infeasible.
 pub fn is_infeasible(made: Made) -> bool {
-    match made {
-        Made::PropagatedRow(a) => {
-            let PropagateRowAnswer::Infeasible = a else {
-                return false;
-            };
-        }
-        Made::Propagated(a) => {
-            let PropagateAnswer::Infeasible(_, _) = a else {
-                return false;
-            };
-        }
-        Made::Probed(a) => {
-            let ProbeAnswer::Infeasible(_, _) = a else {
-                return false;
-            };
-        }
-        Made::Tightened(a) => {
-            let TightenAnswer::Infeasible = a else {
-                return false;
-            };
-        }
-        Made::Removed(a) => {
-            let RemoveAnswer::Infeasible = a else {
-                return false;
-            };
-        }
-        Made::Rest(_) => return false,
-    }
-    true
+    matches!(
+        made,
+        Made::PropagatedRow(PropagateRowAnswer::Infeasible)
+            | Made::Propagated(PropagateAnswer::Infeasible(_, _))
+            | Made::Probed(ProbeAnswer::Infeasible(_, _))
+            | Made::Tightened(TightenAnswer::Infeasible)
+            | Made::Removed(RemoveAnswer::Infeasible)
+    )
 }

@@ -4,8 +4,8 @@ use book::{SizesAnswer, trailer};
 use book_reading::read;
 use book_writing::write;
 use std::io::Stdout;
-use test_text::parts::{bytes_part, bytes_part_mut, part_mut, same_numbers};
-use test_text::print::{count, line, refused, text};
+use test_text::parts::{part, part_mut};
+use test_text::print::{line, number, refused, text};
 use test_text::words;
 
 fn sizes(out: Stdout, answer: SizesAnswer) {
@@ -13,9 +13,9 @@ fn sizes(out: Stdout, answer: SizesAnswer) {
     match answer {
         SizesAnswer::Refused(number) => refused(out, number),
         SizesAnswer::Sizes { n, m } => {
-            count(out, n);
+            number(out, n);
             text(out, b" variables,");
-            count(out, m);
+            number(out, m);
             text(out, b" rows");
         }
     }
@@ -44,14 +44,13 @@ fn same(out: Stdout, is_same: bool) {
 fn compare(out: Stdout, words: &[u8], book: &[u8]) {
     let mut bytes = [0u8; 64];
     let len = words::number(words, 1);
-    let all = len.magnitude as usize;
-    words::fill_bytes(words, len.next, all, &mut bytes);
-    same(out, book == bytes_part(&bytes, all));
+    words::fill(words::behind(words, 1), part_mut(&mut bytes, len));
+    same(out, book == part(&bytes, len));
 }
 
 fn compare_numbers(out: Stdout, word: &[u8], a: &[i32], b: &[i32]) {
     text(out, word);
-    same(out, same_numbers(a, b));
+    same(out, a == b);
 }
 
 fn write_again(
@@ -65,7 +64,7 @@ fn write_again(
     book: &[u8],
 ) {
     let mut room = [0u8; 62_960];
-    let again = bytes_part_mut(&mut room, book.len());
+    let again = part_mut(&mut room, book.len());
     write(n, m, bounds, coefs, rhs, kinds, again);
     text(out, b"round trip, bytes");
     same(out, book == &*again);
@@ -88,7 +87,7 @@ fn read_back(
     let bounds_read = part_mut(&mut bounds_room, bounds.len());
     let coefs_read = part_mut(&mut coefs_room, coefs.len());
     let rhs_read = part_mut(&mut rhs_room, rhs.len());
-    let kinds_read = bytes_part_mut(&mut kinds_room, rhs.len());
+    let kinds_read = part_mut(&mut kinds_room, rhs.len());
     text(out, b"round trip, read");
     sizes(
         out,
@@ -136,11 +135,11 @@ pub fn answer(
     kinds: &mut [u8],
     book: &mut [u8],
 ) {
-    match words::first(words) {
-        b'R' => sizes(out, read(book, bounds, coefs, rhs, kinds)),
-        b'T' => sizes(out, trailer(book)),
-        b'W' => written(out, write(n, m, bounds, coefs, rhs, kinds, book)),
-        b'B' => round_trip(out, n, m, bounds, coefs, rhs, kinds, book),
+    match words.first() {
+        Some(b'R') => sizes(out, read(book, bounds, coefs, rhs, kinds)),
+        Some(b'T') => sizes(out, trailer(book)),
+        Some(b'W') => written(out, write(n, m, bounds, coefs, rhs, kinds, book)),
+        Some(b'B') => round_trip(out, n, m, bounds, coefs, rhs, kinds, book),
         _ => compare(out, words, book),
     }
 }

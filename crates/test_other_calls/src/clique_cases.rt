@@ -1,47 +1,32 @@
 // The clique rows of a table, in words. The list has room for the rows of at most eight variables; more are refused.
 use clique_call::call::{CliquesAnswer, cliques};
 use std::io::Stdout;
-use test_text::parts::{bytes_part, lesser, part_mut};
-use test_text::print::{count, line, list, refused, text};
+use test_text::parts::part_mut;
+use test_text::print::{line, list, number, refused, text};
 use test_text::rows::rows;
 
 // Their number and the list whole: what the call does not use of it is 0. A refusal leaves what it held.
-fn told(out: Stdout, answer: CliquesAnswer, n: usize, coefs: &[i32], rhs: &[i32], table: &[u8]) {
+fn told(out: Stdout, answer: CliquesAnswer, n: usize, coefs: &[i32], rhs: &[i32]) {
     text(out, b" cliques");
     match answer {
         CliquesAnswer::Refused(number) => {
             refused(out, number);
             list(out, b", rhs", rhs);
         }
-        CliquesAnswer::Written(number) => {
-            count(out, number);
+        CliquesAnswer::Written(count) => {
+            number(out, count);
             line(out);
-            rows(out, n, coefs, rhs, bytes_part(table, 0));
+            rows(out, n, coefs, rhs, &[]);
         }
-    }
-}
-
-// The coefficients of 2n rows of n variables, of at most eight.
-fn room(n: usize) -> usize {
-    match n {
-        0 => 0,
-        1 => 2,
-        2 => 8,
-        3 => 18,
-        4 => 32,
-        5 => 50,
-        6 => 72,
-        7 => 98,
-        _ => 128,
     }
 }
 
 pub fn of_table(out: Stdout, n: usize, table: &[u8]) {
     let mut all_coefs = [7i32; 128];
     let mut all_rhs = [7i32; 16];
-    let few = lesser(n, 8);
-    let coefs = part_mut(&mut all_coefs, room(few));
+    let few = n.min(8);
+    let coefs = part_mut(&mut all_coefs, 2 * few * few);
     let rhs = part_mut(&mut all_rhs, 2 * few);
     let answer = cliques(n, table, coefs, rhs);
-    told(out, answer, n, coefs, rhs, table);
+    told(out, answer, n, coefs, rhs);
 }

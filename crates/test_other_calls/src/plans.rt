@@ -3,23 +3,23 @@ use plan::{BufferLengths, LengthsAnswer, PassesAnswer, WidthAnswer, width};
 use plan_lengths::lengths;
 use plan_passes::passes;
 use std::io::Stdout;
-use test_text::parts::naturals_part;
-use test_text::print::{count, line, refused, text};
-use test_text::words::{fill_naturals, number};
+use test_text::parts::{part, part_mut};
+use test_text::print::{item, line, number, refused, text};
+use test_text::words::{self, behind, fill};
 
 fn model_lengths(out: Stdout, l: BufferLengths) {
-    count(out, l.bounds);
-    count(out, l.coefs);
-    count(out, l.rhs);
-    count(out, l.kinds);
-    count(out, l.table);
+    number(out, l.bounds);
+    number(out, l.coefs);
+    number(out, l.rhs);
+    number(out, l.kinds);
+    number(out, l.table);
 }
 
 fn other_lengths(out: Stdout, l: BufferLengths) {
-    count(out, l.ties);
-    count(out, l.clique_coefs);
-    count(out, l.clique_rhs);
-    count(out, l.book);
+    number(out, l.ties);
+    number(out, l.clique_coefs);
+    number(out, l.clique_rhs);
+    number(out, l.book);
 }
 
 // The lengths of the buffers that n and m fix, from the bytes, a trailer alone.
@@ -28,8 +28,8 @@ pub fn of_trailer(out: Stdout, bytes: &[u8]) {
     match lengths(bytes) {
         LengthsAnswer::Refused(number) => refused(out, number),
         LengthsAnswer::Needed(l) => {
-            count(out, l.n);
-            count(out, l.m);
+            number(out, l.n);
+            number(out, l.m);
             model_lengths(out, l);
             other_lengths(out, l);
         }
@@ -41,10 +41,8 @@ fn told(out: Stdout, answer: WidthAnswer) {
     match answer {
         WidthAnswer::Refused(number) => refused(out, number),
         WidthAnswer::Told { width, budget } => {
-            text(out, b" width");
-            count(out, width as usize);
-            text(out, b" budget");
-            count(out, budget as usize);
+            item(out, b" width", width);
+            item(out, b" budget", budget);
         }
     }
 }
@@ -56,21 +54,17 @@ fn at_most(out: Stdout, answer: PassesAnswer) {
             width: _,
             budget: _,
             passes,
-        } => {
-            text(out, b" passes");
-            count(out, passes as usize);
-        }
+        } => item(out, b" passes", passes),
     }
 }
 
 // The total width of the bounds and a budget that is never spent; of the list of numbers the passes at most.
 pub fn of_list(out: Stdout, words: &[u8], n: usize, bounds: &[i32]) {
     let mut calls = [0u32; 64];
-    let len = number(words, 1);
-    let all = len.magnitude as usize;
-    fill_naturals(words, len.next, all, &mut calls);
+    let len = words::number(words, 1);
+    fill(behind(words, 1), part_mut(&mut calls, len));
     text(out, b":");
     told(out, width(n, bounds));
-    at_most(out, passes(n, bounds, naturals_part(&calls, all)));
+    at_most(out, passes(n, bounds, part(&calls, len)));
     line(out);
 }

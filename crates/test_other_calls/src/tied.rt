@@ -1,8 +1,8 @@
 // A tie of two variables as a line: the variables, the answer, and the tie list after it.
 use std::io::Stdout;
-use test_text::parts::places_part_mut;
-use test_text::print::{count, line, refused, text};
-use test_text::words::{fill_places, natural, number};
+use test_text::parts::part_mut;
+use test_text::print::{item, list, number, refused, text};
+use test_text::words::{self, behind, fill};
 use tie_call::{TieAnswer, tie};
 
 fn answer(out: Stdout, a: TieAnswer) {
@@ -11,14 +11,6 @@ fn answer(out: Stdout, a: TieAnswer) {
         TieAnswer::Tied => text(out, b" tied"),
         TieAnswer::Unchanged => text(out, b" unchanged"),
     }
-}
-
-fn places(out: Stdout, ties: &[u16]) {
-    text(out, b":");
-    for place in ties {
-        count(out, *place as usize);
-    }
-    line(out);
 }
 
 // The line has k and j, the length of the list, and its places, over and over.
@@ -34,15 +26,12 @@ pub fn of_line(
     table: &[u8],
 ) {
     let mut room = [0u16; 160];
-    let k = natural(number(words, 1));
-    let j = natural(number(words, 2));
-    let len = number(words, 3);
-    let all = len.magnitude as usize;
-    fill_places(words, len.next, all, &mut room);
-    let ties = places_part_mut(&mut room, all);
-    text(out, b"tie");
-    count(out, k as usize);
-    count(out, j as usize);
+    let k = words::number(words, 1);
+    let j = words::number(words, 2);
+    let ties = part_mut(&mut room, words::number(words, 3));
+    fill(behind(words, 3), ties);
+    item(out, b"tie", k);
+    number(out, j);
     answer(out, tie(n, m, bounds, coefs, rhs, kinds, table, ties, k, j));
-    places(out, ties);
+    list(out, b":", ties);
 }
