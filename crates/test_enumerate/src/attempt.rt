@@ -19,7 +19,7 @@ pub struct Case<'a> {
     pub lie: Option<Lie>,
 }
 
-// What a call said of the model, where the number of bounds that it moved is right.
+// What a call said of the model, where the number of bounds that it moved is right; else that it is not.
 #[derive(Clone, Copy, PartialEq, Eq)]
 enum Said {
     Infeasible,
@@ -27,7 +27,7 @@ enum Said {
     Miscounted,
 }
 
-fn said(is_infeasible: bool) -> Said {
+fn verdict(is_infeasible: bool) -> Said {
     if is_infeasible { Said::Infeasible } else { Said::Open }
 }
 
@@ -56,7 +56,7 @@ fn say_call(
     boxes(before, case.code);
     spoil_before(case.lie, before);
     if moved::agrees(made, before, bounds) {
-        said(is_infeasible(made))
+        verdict(is_infeasible(made))
     } else {
         Said::Miscounted
     }
@@ -72,7 +72,7 @@ fn say_rounds(
     table: &mut [u8],
 ) -> Said {
     let answer = rounds_call::run(n, row_count(n), bounds, coefs, rhs, kinds, table, 8);
-    said(matches!(answer, RoundsAnswer::Infeasible(_, _)))
+    verdict(matches!(answer, RoundsAnswer::Infeasible(_, _)))
 }
 
 // Whether the points are those that were marked before, a model that is said to be infeasible has none, and each
