@@ -112,7 +112,9 @@ fn answer(
             table,
             record(behind(line, 0)),
         ),
-        Some(b'e' | b'D' | b'F') => lists::answer(out, line, n, m, bounds, coefs, rhs, kinds, table),
+        Some(b'e' | b'D' | b'F') => lists::answer(
+            out, line, n, m, bounds, coefs, rhs, kinds, table,
+        ),
         Some(b'K') => tied::of_line(out, line, n, m, bounds, coefs, rhs, kinds, table),
         Some(b'R' | b'T' | b'W' | b'B' | b'S') => {
             book_cases::answer(out, line, n, m, bounds, coefs, rhs, kinds, table)

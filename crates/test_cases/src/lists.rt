@@ -1,18 +1,19 @@
 // Call lists (01's run sheets), as numbers and as records, and what they leave.
-use call::Call;
+use call::{Call, Counts};
 use call_list::run_four;
-use flat_list::{RunAnswer, run, run_classes};
-use reducer::calls::RestAnswer;
+use flat_list::{run, run_classes};
+use model::refusal::Refusal;
+use rest::Rest;
 use std::io::Stdout;
 use test_text::parts::{part, part_mut};
 use test_text::print::{item, line, list, number, refused, text};
 use test_text::words::{self, behind, fill};
 
 // The four counts: refused, infeasible, changed, unchanged.
-fn ran(out: Stdout, a: RunAnswer) {
+fn ran(out: Stdout, a: Result<Counts, Refusal>) {
     match a {
-        RunAnswer::Refused(number) => refused(out, number),
-        RunAnswer::Ran(counts) => {
+        Err(refusal) => refused(out, refusal),
+        Ok(counts) => {
             text(out, b" ran");
             number(out, counts.refused);
             number(out, counts.infeasible);
@@ -119,15 +120,15 @@ pub fn answer(
 }
 
 // Whether the box that a list leaves is at rest.
-pub fn rest(out: Stdout, answer: RestAnswer) {
+pub fn rest(out: Stdout, answer: Result<Rest, Refusal>) {
     match answer {
-        RestAnswer::Refused(number) => {
+        Err(refusal) => {
             text(out, b" ");
-            refused(out, number);
+            refused(out, refusal);
         }
-        RestAnswer::Yes => text(out, b"  at rest"),
-        RestAnswer::NoByRow(r) => item(out, b"  not at rest by row", r),
-        RestAnswer::NoByVariable(k) => item(out, b"  not at rest by variable", k),
+        Ok(Rest::AtRest) => text(out, b"  at rest"),
+        Ok(Rest::ByRow(r)) => item(out, b"  not at rest by row", r),
+        Ok(Rest::ByVariable(k)) => item(out, b"  not at rest by variable", k),
     }
     line(out);
 }

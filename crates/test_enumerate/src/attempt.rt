@@ -3,7 +3,7 @@ use crate::lies::{Lie, spoil, spoil_before};
 use crate::moved;
 use crate::rooms::{bounds_part, coefs_part, row_count, rows_part, table_part};
 use call::{Call, REMOVE_ROW};
-use rounds::RoundsAnswer;
+use rounds::RoundsMade;
 use test_one_call::made::{is_infeasible, make};
 use test_points::grid;
 use test_points::models::{boxes, put_model};
@@ -28,7 +28,11 @@ enum Said {
 }
 
 fn verdict(is_infeasible: bool) -> Said {
-    if is_infeasible { Said::Infeasible } else { Said::Open }
+    if is_infeasible {
+        Said::Infeasible
+    } else {
+        Said::Open
+    }
 }
 
 // Makes a call on the case's model.
@@ -55,7 +59,7 @@ fn say_call(
     let before = bounds_part(&mut room, case.n);
     boxes(before, case.code);
     spoil_before(case.lie, before);
-    if moved::agrees(made, before, bounds) {
+    if moved::agrees(call.kind, made, before, bounds) {
         verdict(is_infeasible(made))
     } else {
         Said::Miscounted
@@ -72,7 +76,7 @@ fn say_rounds(
     table: &mut [u8],
 ) -> Said {
     let answer = rounds_call::run(n, row_count(n), bounds, coefs, rhs, kinds, table, 8);
-    verdict(matches!(answer, RoundsAnswer::Infeasible(_, _)))
+    verdict(matches!(answer, Ok(RoundsMade::Infeasible(_, _))))
 }
 
 // Whether the points are those that were marked before, a model that is said to be infeasible has none, and each

@@ -1,7 +1,10 @@
 // The bounds that a call says it moved, held against the bounds before and after it.
-use reducer::calls::{ProbeAnswer, PropagateAnswer, PropagateRowAnswer};
-use test_one_call::made::Made;
-use two_sides::Side;
+use call::{PROPAGATE, PROPAGATE_ROW};
+use model::refusal::Refusal;
+use propagation::Propagation;
+use row::propagation::RowPropagation;
+use test_one_call::made::Done;
+use two_sides::{Probing, Side};
 
 // How many bounds differ.
 fn differing(before: &[i32], after: &[i32]) -> usize {
@@ -13,12 +16,11 @@ fn differing(before: &[i32], after: &[i32]) -> usize {
 }
 
 // A row moved each bound that differs once; one that is infeasible tells no number.
-fn row_agrees(a: PropagateRowAnswer, differ: usize) -> bool {
+fn row_agrees(a: RowPropagation, differ: usize) -> bool {
     match a {
-        PropagateRowAnswer::Refused(_) => differ == 0,
-        PropagateRowAnswer::Infeasible => true,
-        PropagateRowAnswer::Tightened(moved) => differ != 0 && differ == moved as usize,
-        PropagateRowAnswer::Unchanged => differ == 0,
+        RowPropagation::Infeasible => true,
+        RowPropagation::Tightened(moved) => differ != 0 && differ == moved as usize,
+        RowPropagation::Unchanged => differ == 0,
     }
 }
 
@@ -32,12 +34,11 @@ fn sum_agrees(passes: u32, moved: u32, differ: usize) -> bool {
     fits(passes, moved) && differ <= moved as usize
 }
 
-fn rows_agree(a: PropagateAnswer, differ: usize) -> bool {
+fn rows_agree(a: Propagation, differ: usize) -> bool {
     match a {
-        PropagateAnswer::Refused(_) => differ == 0,
-        PropagateAnswer::Infeasible(passes, moved) => fits(passes, moved),
-        PropagateAnswer::Converged(passes, moved) => sum_agrees(passes, moved, differ),
-        PropagateAnswer::BudgetSpent(passes, moved) => sum_agrees(passes, moved, differ),
+        Propagation::Infeasible(passes, moved) => fits(passes, moved),
+        Propagation::Converged(passes, moved) => sum_agrees(passes, moved, differ),
+        Propagation::BudgetSpent(passes, moved) => sum_agrees(passes, moved, differ),
     }
 }
 
@@ -45,20 +46,21 @@ fn sides_agree(side0: Side, side1: Side) -> bool {
     fits(side0.passes, side0.moved) && fits(side1.passes, side1.moved)
 }
 
-fn probe_agrees(a: ProbeAnswer) -> bool {
+fn probe_agrees(a: Probing) -> bool {
     match a {
-        ProbeAnswer::Refused(_) => true,
-        ProbeAnswer::Infeasible(side0, side1) => sides_agree(side0, side1),
-        ProbeAnswer::Fixed(_, side0, side1) => sides_agree(side0, side1),
-        ProbeAnswer::BothFeasible(_, side0, side1) => sides_agree(side0, side1),
+        Probing::Infeasible(side0, side1) => sides_agree(side0, side1),
+        Probing::Fixed(_, side0, side1) => sides_agree(side0, side1),
+        Probing::BothFeasible(_, side0, side1) => sides_agree(side0, side1),
     }
 }
 
-pub fn agrees(made: Made, before: &[i32], after: &[i32]) -> bool {
+pub fn agrees(kind: u32, made: Result<Done, Refusal>, before: &[i32], after: &[i32]) -> bool {
     match made {
-        Made::PropagatedRow(a) => row_agrees(a, differing(before, after)),
-        Made::Propagated(a) => rows_agree(a, differing(before, after)),
-        Made::Probed(a) => probe_agrees(a),
-        Made::Tightened(_) | Made::Removed(_) | Made::Rest(_) => true,
+        // A propagation that is refused moved no bound.
+        Err(_) => !matches!(kind, PROPAGATE_ROW | PROPAGATE) || differing(before, after) == 0,
+        Ok(Done::PropagatedRow(a)) => row_agrees(a, differing(before, after)),
+        Ok(Done::Propagated(a)) => rows_agree(a, differing(before, after)),
+        Ok(Done::Probed(a)) => probe_agrees(a),
+        Ok(Done::Tightened(_) | Done::Removed(_) | Done::Rested(_)) => true,
     }
 }

@@ -3,7 +3,7 @@
 use crate::attempt::{Case, agrees};
 use crate::rooms::{bounds_part, coefs_part, row_count, rows_part, table_part};
 use call::{Call, PROBE, PROPAGATE, PROPAGATE_ROW};
-use reducer::calls::RestAnswer;
+use rest::Rest;
 use rest_call::is_probing_fixpoint;
 use test_one_call::made::make;
 use test_points::models::put_model;
@@ -66,13 +66,13 @@ fn sweep(
     order: Order,
 ) {
     for i in 0..8 {
-        make(n, m, bounds, coefs, rhs, kinds, table, sweep_call(i, order));
+        let _ = make(n, m, bounds, coefs, rhs, kinds, table, sweep_call(i, order));
     }
 }
 
 fn rests(n: usize, m: usize, bounds: &[i32], coefs: &[i32], rhs: &[i32], kinds: &[u8]) -> bool {
     let answer = is_probing_fixpoint(n, m, bounds, coefs, rhs, kinds);
-    matches!(answer, RestAnswer::Yes)
+    matches!(answer, Ok(Rest::AtRest))
 }
 
 // Sweeps until the box is at rest. Each sweep of a box that is not narrows it, and no box here is wider than 12 in all.

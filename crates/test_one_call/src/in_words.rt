@@ -1,11 +1,14 @@
-// What the open calls answer, in words: one function for each type of answer, `answer` for that of any call on a model.
-use crate::made::Made;
-use reducer::Side;
-use reducer::calls::{
-    ProbeAnswer, PropagateAnswer, PropagateRowAnswer, RemoveAnswer, RestAnswer, TightenAnswer,
-};
+// What the open calls answer, in words: one function for each thing that a call does, `answer` for that of any call.
+use crate::made::Done;
+use model::refusal::Refusal;
+use propagation::Propagation;
+use rest::Rest;
+use row::propagation::RowPropagation;
+use row::redundancy::RowRemoval;
+use row::tightening::CoefficientTightening;
 use std::io::Stdout;
-use test_text::print::{item, text};
+use test_text::print::{item, refused, text};
+use two_sides::{Probing, Side};
 
 // How a propagation ended, its passes and the bounds that it moved.
 fn ended(out: Stdout, word: &[u8], passes: u32, moved: u32) {
@@ -13,21 +16,19 @@ fn ended(out: Stdout, word: &[u8], passes: u32, moved: u32) {
     item(out, b" moved", moved);
 }
 
-fn propagated_row(out: Stdout, a: PropagateRowAnswer) {
+fn propagated_row(out: Stdout, a: RowPropagation) {
     match a {
-        PropagateRowAnswer::Refused(number) => item(out, b" refused", number),
-        PropagateRowAnswer::Infeasible => text(out, b" infeasible"),
-        PropagateRowAnswer::Tightened(moved) => item(out, b" tightened", moved),
-        PropagateRowAnswer::Unchanged => text(out, b" unchanged"),
+        RowPropagation::Infeasible => text(out, b" infeasible"),
+        RowPropagation::Tightened(moved) => item(out, b" tightened", moved),
+        RowPropagation::Unchanged => text(out, b" unchanged"),
     }
 }
 
-fn propagated(out: Stdout, a: PropagateAnswer) {
+fn propagated(out: Stdout, a: Propagation) {
     match a {
-        PropagateAnswer::Refused(number) => item(out, b" refused", number),
-        PropagateAnswer::Infeasible(passes, moved) => ended(out, b" infeasible", passes, moved),
-        PropagateAnswer::Converged(passes, moved) => ended(out, b" converged", passes, moved),
-        PropagateAnswer::BudgetSpent(passes, moved) => ended(out, b" spent", passes, moved),
+        Propagation::Infeasible(passes, moved) => ended(out, b" infeasible", passes, moved),
+        Propagation::Converged(passes, moved) => ended(out, b" converged", passes, moved),
+        Propagation::BudgetSpent(passes, moved) => ended(out, b" spent", passes, moved),
     }
 }
 
@@ -44,58 +45,55 @@ fn sides(out: Stdout, side0: Side, side1: Side) {
     side(out, side1);
 }
 
-fn probed(out: Stdout, a: ProbeAnswer) {
+fn probed(out: Stdout, a: Probing) {
     match a {
-        ProbeAnswer::Refused(number) => item(out, b" refused", number),
-        ProbeAnswer::Infeasible(side0, side1) => {
+        Probing::Infeasible(side0, side1) => {
             text(out, b" infeasible");
             sides(out, side0, side1);
         }
-        ProbeAnswer::Fixed(value, side0, side1) => {
+        Probing::Fixed(value, side0, side1) => {
             item(out, b" fixed", value);
             sides(out, side0, side1);
         }
-        ProbeAnswer::BothFeasible(added, side0, side1) => {
+        Probing::BothFeasible(added, side0, side1) => {
             item(out, b" both", added);
             sides(out, side0, side1);
         }
     }
 }
 
-fn tightened(out: Stdout, a: TightenAnswer) {
+fn tightened(out: Stdout, a: CoefficientTightening) {
     match a {
-        TightenAnswer::Refused(number) => item(out, b" refused", number),
-        TightenAnswer::Infeasible => text(out, b" infeasible"),
-        TightenAnswer::Tightened => text(out, b" tightened"),
-        TightenAnswer::Unchanged => text(out, b" unchanged"),
+        CoefficientTightening::Infeasible => text(out, b" infeasible"),
+        CoefficientTightening::Tightened => text(out, b" tightened"),
+        CoefficientTightening::Unchanged => text(out, b" unchanged"),
     }
 }
 
-fn removed(out: Stdout, a: RemoveAnswer) {
+fn removed(out: Stdout, a: RowRemoval) {
     match a {
-        RemoveAnswer::Refused(number) => item(out, b" refused", number),
-        RemoveAnswer::Infeasible => text(out, b" infeasible"),
-        RemoveAnswer::Removed => text(out, b" removed"),
-        RemoveAnswer::Unchanged => text(out, b" unchanged"),
+        RowRemoval::Infeasible => text(out, b" infeasible"),
+        RowRemoval::Removed => text(out, b" removed"),
+        RowRemoval::Unchanged => text(out, b" unchanged"),
     }
 }
 
-fn rest(out: Stdout, a: RestAnswer) {
+fn rested(out: Stdout, a: Rest) {
     match a {
-        RestAnswer::Refused(number) => item(out, b" refused", number),
-        RestAnswer::Yes => text(out, b" yes"),
-        RestAnswer::NoByRow(r) => item(out, b" no by row", r),
-        RestAnswer::NoByVariable(k) => item(out, b" no by variable", k),
+        Rest::AtRest => text(out, b" yes"),
+        Rest::ByRow(r) => item(out, b" no by row", r),
+        Rest::ByVariable(k) => item(out, b" no by variable", k),
     }
 }
 
-pub fn answer(out: Stdout, made: Made) {
+pub fn answer(out: Stdout, made: Result<Done, Refusal>) {
     match made {
-        Made::PropagatedRow(a) => propagated_row(out, a),
-        Made::Propagated(a) => propagated(out, a),
-        Made::Probed(a) => probed(out, a),
-        Made::Tightened(a) => tightened(out, a),
-        Made::Removed(a) => removed(out, a),
-        Made::Rest(a) => rest(out, a),
+        Err(refusal) => refused(out, refusal),
+        Ok(Done::PropagatedRow(a)) => propagated_row(out, a),
+        Ok(Done::Propagated(a)) => propagated(out, a),
+        Ok(Done::Probed(a)) => probed(out, a),
+        Ok(Done::Tightened(a)) => tightened(out, a),
+        Ok(Done::Removed(a)) => removed(out, a),
+        Ok(Done::Rested(a)) => rested(out, a),
     }
 }

@@ -1,22 +1,26 @@
-// One open call by value, and what it answered.
+// One open call by value, and what it did.
 use call::{Call, PROBE, PROPAGATE, PROPAGATE_ROW, REMOVE_ROW, TIGHTEN_COEFFICIENT};
 use change_call::{remove_redundant_row, tighten_coefficient};
+use model::refusal::Refusal;
 use probe_call::probe;
-use reducer::calls::{
-    ProbeAnswer, PropagateAnswer, PropagateRowAnswer, RemoveAnswer, RestAnswer, TightenAnswer,
-    propagate, propagate_row,
-};
+use propagation::Propagation;
+use reducer::calls::{propagate, propagate_row};
+use rest::Rest;
 use rest_call::is_probing_fixpoint;
+use row::propagation::RowPropagation;
+use row::redundancy::RowRemoval;
+use row::tightening::CoefficientTightening;
+use two_sides::Probing;
 
-// The answer, whichever call it is of.
+// What a call did, whichever it is.
 #[derive(Clone, Copy)]
-pub enum Made {
-    PropagatedRow(PropagateRowAnswer),
-    Propagated(PropagateAnswer),
-    Probed(ProbeAnswer),
-    Tightened(TightenAnswer),
-    Removed(RemoveAnswer),
-    Rest(RestAnswer),
+pub enum Done {
+    PropagatedRow(RowPropagation),
+    Propagated(Propagation),
+    Probed(Probing),
+    Tightened(CoefficientTightening),
+    Removed(RowRemoval),
+    Rested(Rest),
 }
 
 // Makes a call that leaves the rows. Every kind that is none of a record is the rest call here.
@@ -29,16 +33,22 @@ fn make_on_box(
     kinds: &[u8],
     table: &mut [u8],
     call: Call,
-) -> Made {
-    let row = call.row;
-    let variable = call.variable;
-    let budget = call.budget;
-    let kind = call.kind;
+) -> Result<Done, Refusal> {
+    let Call {
+        kind,
+        row,
+        variable,
+        budget,
+    } = call;
     match kind {
-        PROPAGATE_ROW => Made::PropagatedRow(propagate_row(n, m, bounds, coefs, rhs, kinds, row)),
-        PROPAGATE => Made::Propagated(propagate(n, m, bounds, coefs, rhs, kinds, budget)),
-        PROBE => Made::Probed(probe(n, m, bounds, coefs, rhs, kinds, table, variable, budget)),
-        _ => Made::Rest(is_probing_fixpoint(n, m, bounds, coefs, rhs, kinds)),
+        PROPAGATE_ROW => {
+            propagate_row(n, m, bounds, coefs, rhs, kinds, row).map(Done::PropagatedRow)
+        }
+        PROPAGATE => propagate(n, m, bounds, coefs, rhs, kinds, budget).map(Done::Propagated),
+        PROBE => {
+            probe(n, m, bounds, coefs, rhs, kinds, table, variable, budget).map(Done::Probed)
+        }
+        _ => is_probing_fixpoint(n, m, bounds, coefs, rhs, kinds).map(Done::Rested),
     }
 }
 
@@ -52,27 +62,29 @@ pub fn make(
     kinds: &mut [u8],
     table: &mut [u8],
     call: Call,
-) -> Made {
-    let row = call.row;
-    let variable = call.variable;
-    let kind = call.kind;
-    match kind {
-        TIGHTEN_COEFFICIENT => Made::Tightened(tighten_coefficient(
-            n, m, bounds, coefs, rhs, kinds, row, variable,
-        )),
-        REMOVE_ROW => Made::Removed(remove_redundant_row(n, m, bounds, coefs, rhs, kinds, row)),
+) -> Result<Done, Refusal> {
+    let Call { row, variable, .. } = call;
+    match call.kind {
+        TIGHTEN_COEFFICIENT => {
+            tighten_coefficient(n, m, bounds, coefs, rhs, kinds, row, variable).map(Done::Tightened)
+        }
+        REMOVE_ROW => {
+            remove_redundant_row(n, m, bounds, coefs, rhs, kinds, row).map(Done::Removed)
+        }
         _ => make_on_box(n, m, bounds, coefs, rhs, kinds, table, call),
     }
 }
 
 // Whether the answer is that the model is infeasible.
-pub fn is_infeasible(made: Made) -> bool {
+pub fn is_infeasible(made: Result<Done, Refusal>) -> bool {
     matches!(
         made,
-        Made::PropagatedRow(PropagateRowAnswer::Infeasible)
-            | Made::Propagated(PropagateAnswer::Infeasible(_, _))
-            | Made::Probed(ProbeAnswer::Infeasible(_, _))
-            | Made::Tightened(TightenAnswer::Infeasible)
-            | Made::Removed(RemoveAnswer::Infeasible)
+        Ok(
+            Done::PropagatedRow(RowPropagation::Infeasible)
+                | Done::Propagated(Propagation::Infeasible(_, _))
+                | Done::Probed(Probing::Infeasible(_, _))
+                | Done::Tightened(CoefficientTightening::Infeasible)
+                | Done::Removed(RowRemoval::Infeasible)
+        )
     )
 }

@@ -1,18 +1,18 @@
 // What a line asks of a book: the bytes in the table's place.
-use book::writing::WriteAnswer;
-use book::{SizesAnswer, trailer};
+use book::{Sizes, trailer};
 use book_reading::read;
 use book_writing::write;
+use model::refusal::Refusal;
 use std::io::Stdout;
 use test_text::parts::{part, part_mut};
 use test_text::print::{line, number, refused, text};
 use test_text::words;
 
-fn sizes(out: Stdout, answer: SizesAnswer) {
+fn sizes(out: Stdout, answer: Result<Sizes, Refusal>) {
     text(out, b":");
     match answer {
-        SizesAnswer::Refused(number) => refused(out, number),
-        SizesAnswer::Sizes { n, m } => {
+        Err(refusal) => refused(out, refusal),
+        Ok(Sizes { n, m }) => {
             number(out, n);
             text(out, b" variables,");
             number(out, m);
@@ -22,11 +22,11 @@ fn sizes(out: Stdout, answer: SizesAnswer) {
     line(out);
 }
 
-fn written(out: Stdout, answer: WriteAnswer) {
+fn written(out: Stdout, answer: Result<(), Refusal>) {
     text(out, b":");
     match answer {
-        WriteAnswer::Refused(number) => refused(out, number),
-        WriteAnswer::Written => text(out, b" written"),
+        Err(refusal) => refused(out, refusal),
+        Ok(()) => text(out, b" written"),
     }
     line(out);
 }
@@ -65,7 +65,7 @@ fn write_again(
 ) {
     let mut room = [0u8; 62_960];
     let again = part_mut(&mut room, book.len());
-    write(n, m, bounds, coefs, rhs, kinds, again);
+    let _ = write(n, m, bounds, coefs, rhs, kinds, again);
     text(out, b"round trip, bytes");
     same(out, book == &*again);
 }

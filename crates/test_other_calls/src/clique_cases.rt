@@ -1,19 +1,20 @@
 // The clique rows of a table, in words. The list has room for the rows of at most eight variables; more are refused.
-use clique_call::call::{CliquesAnswer, cliques};
+use clique_call::call::cliques;
+use model::refusal::Refusal;
 use std::io::Stdout;
 use test_text::parts::part_mut;
 use test_text::print::{line, list, number, refused, text};
 use test_text::rows::rows;
 
 // Their number and the list whole: what the call does not use of it is 0. A refusal leaves what it held.
-fn told(out: Stdout, answer: CliquesAnswer, n: usize, coefs: &[i32], rhs: &[i32]) {
+fn told(out: Stdout, answer: Result<usize, Refusal>, n: usize, coefs: &[i32], rhs: &[i32]) {
     text(out, b" cliques");
     match answer {
-        CliquesAnswer::Refused(number) => {
-            refused(out, number);
+        Err(refusal) => {
+            refused(out, refusal);
             list(out, b", rhs", rhs);
         }
-        CliquesAnswer::Written(count) => {
+        Ok(count) => {
             number(out, count);
             line(out);
             rows(out, n, coefs, rhs, &[]);

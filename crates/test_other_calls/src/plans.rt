@@ -1,5 +1,6 @@
 // What a book and a list of calls will take, told beforehand, in words.
-use plan::{BufferLengths, LengthsAnswer, PassesAnswer, WidthAnswer, width};
+use model::refusal::Refusal;
+use plan::{BoxBudget, BufferLengths, PassLimit, width};
 use plan_lengths::lengths;
 use plan_passes::passes;
 use std::io::Stdout;
@@ -26,8 +27,8 @@ fn other_lengths(out: Stdout, l: BufferLengths) {
 pub fn of_trailer(out: Stdout, bytes: &[u8]) {
     text(out, b":");
     match lengths(bytes) {
-        LengthsAnswer::Refused(number) => refused(out, number),
-        LengthsAnswer::Needed(l) => {
+        Err(refusal) => refused(out, refusal),
+        Ok(l) => {
             number(out, l.n);
             number(out, l.m);
             model_lengths(out, l);
@@ -37,24 +38,20 @@ pub fn of_trailer(out: Stdout, bytes: &[u8]) {
     line(out);
 }
 
-fn told(out: Stdout, answer: WidthAnswer) {
+fn told(out: Stdout, answer: Result<BoxBudget, Refusal>) {
     match answer {
-        WidthAnswer::Refused(number) => refused(out, number),
-        WidthAnswer::Told { width, budget } => {
+        Err(refusal) => refused(out, refusal),
+        Ok(BoxBudget { width, budget }) => {
             item(out, b" width", width);
             item(out, b" budget", budget);
         }
     }
 }
 
-fn at_most(out: Stdout, answer: PassesAnswer) {
+fn at_most(out: Stdout, answer: Result<PassLimit, Refusal>) {
     match answer {
-        PassesAnswer::Refused(number) => refused(out, number),
-        PassesAnswer::AtMost {
-            width: _,
-            budget: _,
-            passes,
-        } => item(out, b" passes", passes),
+        Err(refusal) => refused(out, refusal),
+        Ok(limit) => item(out, b" passes", limit.passes),
     }
 }
 

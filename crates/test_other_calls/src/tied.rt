@@ -1,15 +1,16 @@
 // A tie of two variables as a line: the variables, the answer, and the tie list after it.
+use model::refusal::Refusal;
 use std::io::Stdout;
 use test_text::parts::part_mut;
 use test_text::print::{item, list, number, refused, text};
 use test_text::words::{self, behind, fill};
-use tie_call::{TieAnswer, tie};
+use tie_call::{TieMade, tie};
 
-fn answer(out: Stdout, a: TieAnswer) {
+fn answer(out: Stdout, a: Result<TieMade, Refusal>) {
     match a {
-        TieAnswer::Refused(number) => refused(out, number),
-        TieAnswer::Tied => text(out, b" tied"),
-        TieAnswer::Unchanged => text(out, b" unchanged"),
+        Err(refusal) => refused(out, refusal),
+        Ok(TieMade::Tied) => text(out, b" tied"),
+        Ok(TieMade::Unchanged) => text(out, b" unchanged"),
     }
 }
 

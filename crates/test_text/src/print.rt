@@ -1,4 +1,5 @@
 // Words and numbers on standard output. Nothing stops at a write that fails: what is not written shows in the output.
+use model::refusal::Refusal;
 use std::fmt::Display;
 use std::io::Stdout;
 
@@ -19,6 +20,11 @@ pub fn number<T: Display + Drop>(out: Stdout, x: T) {
 pub fn item<T: Display + Drop>(out: Stdout, word: &[u8], x: T) {
     text(out, word);
     number(out, x);
+}
+
+// The check that a call fails, by its number.
+pub fn refused(out: Stdout, refusal: Refusal) {
+    item(out, b" refused", refusal.number());
 }
 
 // The numbers of a list.
