@@ -197,7 +197,8 @@ fn each_line(out: Stdout, text: &[u8]) {
     }
 }
 
-// Reads until the room is full, the input ends or a read fails, and returns how many bytes there are.
+// Reads until the room is full, the input ends or a read fails, and returns how many bytes there are. A turn goes on by
+// what its read gave, and not by 1, so the loop is a while.
 fn read_full(input: Stdin, room: &mut [u8]) -> usize
     ensures { result ≤ length room.new }
 {
