@@ -11,22 +11,27 @@ ghost use Rattle.replies.specs.declared.reply.Reply.TheVariants.{Numbers};
 ghost use Rattle.replies.specs.Replies.{bit as bit_of, book_reply, call_reply, list_reply, reply_of, rest_reply};
 ghost use Rattle.replies.specs.Replies.{rounds_reply};
 
-use book::SizesAnswer;
-use flat_list::RunAnswer;
-use reducer::calls::{
-    ProbeAnswer, PropagateAnswer, PropagateRowAnswer, RemoveAnswer, RestAnswer, TightenAnswer,
-};
+use book::Sizes;
+use call::Counts;
+use model::refusal::Refusal;
+use propagation::Propagation;
 use replies::reply::{Reply, bit};
-use rounds::RoundsAnswer;
+use rest::Rest;
+use rounds::RoundsMade;
+use row::propagation::RowPropagation;
+use row::redundancy::RowRemoval;
+use row::tightening::CoefficientTightening;
+use two_sides::Probing;
 
-pub fn row_reply(a: PropagateRowAnswer) -> Reply
+#[tactic(auto, unfolding(replies::specs::Replies::call_reply, replies::specs::Replies::outcome_case, replies::specs::Replies::reply_of, reducer::specs::OpenCalls::row_answer))]
+pub fn row_reply(a: Result<RowPropagation, Refusal>) -> Reply
     ensures { reply_of result ≡ call_reply (row_answer a) }
 {
     match a {
-        PropagateRowAnswer::Refused(number) => Reply::Refused(number),
-        PropagateRowAnswer::Infeasible => Reply::Numbers(0, 0, 0, 0),
-        PropagateRowAnswer::Tightened(moved) => Reply::Numbers(1, moved as u64, 0, 0),
-        PropagateRowAnswer::Unchanged => Reply::Numbers(2, 0, 0, 0),
+        Ok(RowPropagation::Infeasible) => Reply::Numbers(0, 0, 0, 0),
+        Ok(RowPropagation::Tightened(moved)) => Reply::Numbers(1, moved as u64, 0, 0),
+        Ok(RowPropagation::Unchanged) => Reply::Numbers(2, 0, 0, 0),
+        Err(refusal) => Reply::Refused(refusal.number()),
     }
 }
 
@@ -36,67 +41,73 @@ fn propagated(case: u64, passes: u32, moved: u32) -> Reply
     Reply::Numbers(case, passes as u64, moved as u64, 0)
 }
 
-pub fn propagate_reply(a: PropagateAnswer) -> Reply
+#[tactic(auto, unfolding(replies::specs::Replies::call_reply, replies::specs::Replies::ending_case, replies::specs::Replies::reply_of, reducer::specs::OpenCalls::propagate_answer))]
+pub fn propagate_reply(a: Result<Propagation, Refusal>) -> Reply
     ensures { reply_of result ≡ call_reply (propagate_answer a) }
 {
     match a {
-        PropagateAnswer::Refused(number) => Reply::Refused(number),
-        PropagateAnswer::Infeasible(passes, moved) => propagated(0, passes, moved),
-        PropagateAnswer::Converged(passes, moved) => propagated(1, passes, moved),
-        PropagateAnswer::BudgetSpent(passes, moved) => propagated(2, passes, moved),
+        Err(refusal) => Reply::Refused(refusal.number()),
+        Ok(Propagation::Infeasible(passes, moved)) => propagated(0, passes, moved),
+        Ok(Propagation::Converged(passes, moved)) => propagated(1, passes, moved),
+        Ok(Propagation::BudgetSpent(passes, moved)) => propagated(2, passes, moved),
     }
 }
 
-pub fn probe_reply(a: ProbeAnswer) -> Reply
+#[tactic(auto, unfolding(replies::specs::Replies::call_reply, replies::specs::Replies::probe_ended, replies::specs::Replies::reply_of, reducer::specs::OpenCalls::probe_answer))]
+pub fn probe_reply(a: Result<Probing, Refusal>) -> Reply
     ensures { reply_of result ≡ call_reply (probe_answer a) }
 {
     match a {
-        ProbeAnswer::Refused(number) => Reply::Refused(number),
-        ProbeAnswer::Infeasible(side0, side1) => Reply::Probed(0, 0, side0, side1),
-        ProbeAnswer::Fixed(value, side0, side1) => Reply::Probed(1, value, side0, side1),
-        ProbeAnswer::BothFeasible(added, side0, side1) => Reply::Probed(2, added, side0, side1),
+        Err(refusal) => Reply::Refused(refusal.number()),
+        Ok(Probing::Infeasible(side0, side1)) => Reply::Probed(0, 0, side0, side1),
+        Ok(Probing::Fixed(value, side0, side1)) => Reply::Probed(1, value, side0, side1),
+        Ok(Probing::BothFeasible(added, side0, side1)) => Reply::Probed(2, added, side0, side1),
     }
 }
 
-pub fn tighten_reply(a: TightenAnswer) -> Reply
+#[tactic(auto, unfolding(replies::specs::Replies::call_reply, replies::specs::Replies::outcome_case, replies::specs::Replies::reply_of, reducer::specs::OpenCalls::tighten_answer))]
+pub fn tighten_reply(a: Result<CoefficientTightening, Refusal>) -> Reply
     ensures { reply_of result ≡ call_reply (tighten_answer a) }
 {
     match a {
-        TightenAnswer::Refused(number) => Reply::Refused(number),
-        TightenAnswer::Infeasible => Reply::Numbers(0, 0, 0, 0),
-        TightenAnswer::Tightened => Reply::Numbers(1, 0, 0, 0),
-        TightenAnswer::Unchanged => Reply::Numbers(2, 0, 0, 0),
+        Err(refusal) => Reply::Refused(refusal.number()),
+        Ok(CoefficientTightening::Infeasible) => Reply::Numbers(0, 0, 0, 0),
+        Ok(CoefficientTightening::Tightened) => Reply::Numbers(1, 0, 0, 0),
+        Ok(CoefficientTightening::Unchanged) => Reply::Numbers(2, 0, 0, 0),
     }
 }
 
-pub fn remove_reply(a: RemoveAnswer) -> Reply
+#[tactic(auto, unfolding(replies::specs::Replies::call_reply, replies::specs::Replies::outcome_case, replies::specs::Replies::reply_of, reducer::specs::OpenCalls::remove_answer))]
+pub fn remove_reply(a: Result<RowRemoval, Refusal>) -> Reply
     ensures { reply_of result ≡ call_reply (remove_answer a) }
 {
     match a {
-        RemoveAnswer::Refused(number) => Reply::Refused(number),
-        RemoveAnswer::Infeasible => Reply::Numbers(0, 0, 0, 0),
-        RemoveAnswer::Removed => Reply::Numbers(1, 0, 0, 0),
-        RemoveAnswer::Unchanged => Reply::Numbers(2, 0, 0, 0),
+        Err(refusal) => Reply::Refused(refusal.number()),
+        Ok(RowRemoval::Infeasible) => Reply::Numbers(0, 0, 0, 0),
+        Ok(RowRemoval::Removed) => Reply::Numbers(1, 0, 0, 0),
+        Ok(RowRemoval::Unchanged) => Reply::Numbers(2, 0, 0, 0),
     }
 }
 
-pub fn rest_reply(a: RestAnswer) -> Reply
+#[tactic(auto, unfolding(replies::specs::Replies::rest_reply, replies::specs::Replies::reply_of, reducer::specs::OpenCalls::rest_verdict))]
+pub fn rest_reply(a: Result<Rest, Refusal>) -> Reply
     ensures { reply_of result ≡ rest_reply (rest_verdict a) }
 {
     match a {
-        RestAnswer::Refused(number) => Reply::Refused(number),
-        RestAnswer::Yes => Reply::Numbers(1, 0, 0, 0),
-        RestAnswer::NoByRow(r) => Reply::Numbers(0, 0, r as u64, 0),
-        RestAnswer::NoByVariable(k) => Reply::Numbers(0, 1, k as u64, 0),
+        Err(refusal) => Reply::Refused(refusal.number()),
+        Ok(Rest::AtRest) => Reply::Numbers(1, 0, 0, 0),
+        Ok(Rest::ByRow(r)) => Reply::Numbers(0, 0, r as u64, 0),
+        Ok(Rest::ByVariable(k)) => Reply::Numbers(0, 1, k as u64, 0),
     }
 }
 
-pub fn run_reply(a: RunAnswer) -> Reply
+#[tactic(auto, unfolding(replies::specs::Replies::list_reply, replies::specs::Replies::reply_of, flat_list::specs::ListAnswers::list_answer, call::specs::Classes::counts_of))]
+pub fn run_reply(a: Result<Counts, Refusal>) -> Reply
     ensures { reply_of result ≡ list_reply (list_answer a) }
 {
     match a {
-        RunAnswer::Refused(number) => Reply::Refused(number),
-        RunAnswer::Ran(counts) => Reply::Numbers(
+        Err(refusal) => Reply::Refused(refusal.number()),
+        Ok(counts) => Reply::Numbers(
             counts.refused as u64,
             counts.infeasible as u64,
             counts.changed as u64,
@@ -111,22 +122,24 @@ fn ended(case: u64, made: u64, spent: bool) -> Reply
     Reply::Numbers(case, made, bit(spent), 0)
 }
 
-pub fn rounds_reply(a: RoundsAnswer) -> Reply
+#[tactic(auto, unfolding(replies::specs::Replies::rounds_reply, replies::specs::Replies::rounds_case, replies::specs::Replies::reply_of, rounds::specs::Answers::rounds_answer))]
+pub fn rounds_reply(a: Result<RoundsMade, Refusal>) -> Reply
     ensures { reply_of result ≡ rounds_reply (rounds_answer a) }
 {
     match a {
-        RoundsAnswer::Refused(number) => Reply::Refused(number),
-        RoundsAnswer::Infeasible(made, spent) => ended(0, made, spent),
-        RoundsAnswer::NothingChanged(made, spent) => ended(1, made, spent),
-        RoundsAnswer::AtLimit(made, spent) => ended(2, made, spent),
+        Err(refusal) => Reply::Refused(refusal.number()),
+        Ok(RoundsMade::Infeasible(made, spent)) => ended(0, made, spent),
+        Ok(RoundsMade::NothingChanged(made, spent)) => ended(1, made, spent),
+        Ok(RoundsMade::AtLimit(made, spent)) => ended(2, made, spent),
     }
 }
 
-pub fn sizes_reply(a: SizesAnswer) -> Reply
+#[tactic(auto, unfolding(replies::specs::Replies::book_reply, replies::specs::Replies::reply_of, book::specs::Answers::sizes_answer))]
+pub fn sizes_reply(a: Result<Sizes, Refusal>) -> Reply
     ensures { reply_of result ≡ book_reply (sizes_answer a) }
 {
     match a {
-        SizesAnswer::Refused(number) => Reply::Refused(number),
-        SizesAnswer::Sizes { n, m } => Reply::Numbers(n as u64, m as u64, 0, 0),
+        Err(refusal) => Reply::Refused(refusal.number()),
+        Ok(sizes) => Reply::Numbers(sizes.n as u64, sizes.m as u64, 0, 0),
     }
 }

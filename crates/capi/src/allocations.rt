@@ -27,5 +27,8 @@ pub extern "C" fn astrolabe_check_allocations(
         let M = model_of n m bounds.now A in
         verdicts.new ≡ verdicts_left M proposals.now count verdicts.old }
 {
-    check_allocations(n, m, bounds, coefs, rhs, kinds, proposals, count, verdicts)
+    match check_allocations(n, m, bounds, coefs, rhs, kinds, proposals, count, verdicts) {
+        Ok(()) => 0,
+        Err(refusal) => refusal.number(),
+    }
 }

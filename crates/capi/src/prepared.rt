@@ -32,7 +32,10 @@ pub extern "C" fn astrolabe_prepare(
         let W = workspace.new in
         (result ≡ 0 → Prepared W A × (variables_of W ≡ n) × (rows_in W ≡ m)) }
 {
-    prepare(n, m, bounds, coefs, rhs, kinds, workspace)
+    match prepare(n, m, bounds, coefs, rhs, kinds, workspace) {
+        Ok(()) => 0,
+        Err(refusal) => refusal.number(),
+    }
 }
 
 // 01's settle: {0 None | 1 Settled | 2 Spent, passes, moved, the infeasible row}. Refused by 5, 6, 7, 23 and 15.

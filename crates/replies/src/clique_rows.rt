@@ -5,13 +5,14 @@ ghost use Rattle.replies.specs.CliqueReplies.{clique_reply};
 ghost use Rattle.replies.specs.Replies.{reply_of};
 
 use crate::reply::Reply;
-use clique_call::call::CliquesAnswer;
+use model::refusal::Refusal;
 
-pub fn cliques_reply(a: CliquesAnswer) -> Reply
+#[tactic(auto, unfolding(clique_call::specs::CliqueAnswers::cliques_answer, crate::specs::CliqueReplies::clique_reply, crate::specs::Replies::reply_of))]
+pub fn cliques_reply(a: Result<usize, Refusal>) -> Reply
     ensures { reply_of result ≡ clique_reply (cliques_answer a) }
 {
     match a {
-        CliquesAnswer::Refused(number) => Reply::Refused(number),
-        CliquesAnswer::Written(number) => Reply::Numbers(number as u64, 0, 0, 0),
+        Err(refusal) => Reply::Refused(refusal.number()),
+        Ok(number) => Reply::Numbers(number as u64, 0, 0, 0),
     }
 }

@@ -5,22 +5,24 @@ ghost use Rattle.replies.specs.PageReplies.{page_reply};
 ghost use Rattle.replies.specs.Replies.{reply_of, returned};
 
 use crate::reply::Reply;
-use page_call::{CountAnswer, PagesAnswer};
+use model::refusal::Refusal;
 
-pub fn count_reply(a: CountAnswer) -> Reply
+#[tactic(auto, unfolding(page_call::specs::Answers::count_answer, crate::specs::PageReplies::page_reply, crate::specs::Replies::reply_of))]
+pub fn count_reply(a: Result<usize, Refusal>) -> Reply
     ensures { reply_of result ≡ page_reply (count_answer a) }
 {
     match a {
-        CountAnswer::Refused(number) => Reply::Refused(number),
-        CountAnswer::Pages(pages) => Reply::Numbers(pages as u64, 0, 0, 0),
+        Err(refusal) => Reply::Refused(refusal.number()),
+        Ok(pages) => Reply::Numbers(pages as u64, 0, 0, 0),
     }
 }
 
-pub fn pages_number(a: PagesAnswer) -> u32
+#[tactic(auto, unfolding(page_call::specs::Answers::pages_answer, crate::specs::PageReplies::page_reply, crate::specs::Replies::returned))]
+pub fn pages_number(a: Result<(), Refusal>) -> u32
     ensures { result ≡ returned (page_reply (pages_answer a)) }
 {
     match a {
-        PagesAnswer::Refused(number) => number,
-        PagesAnswer::Written => 0,
+        Err(refusal) => refusal.number(),
+        Ok(()) => 0,
     }
 }

@@ -3,6 +3,8 @@ ghost use Rattle.std.specs.Prelude.{◌≡◌, ◌+◌, ◌<◌, length, replica
 ghost use Rattle.model.specs.Checks.{size_checks};
 ghost use Rattle.replies.specs.Replies.{answer_length, bit as bit_of, reply_of, returned, written, wrong_length};
 
+use model::refusal::Refusal;
+use model_checks::check_size;
 use two_sides::Side;
 
 // The length of every answer buffer.
@@ -21,28 +23,23 @@ pub enum Reply {
 pub fn answer_fault(n: usize, m: usize) -> u32
     ensures { result ≡ wrong_length (size_checks n m) }
 {
-    let size = model_checks::size_fault(n, m);
-    if size != 0 {
-        return size;
+    match check_size(n, m) {
+        Err(size) => size.number(),
+        Ok(()) => Refusal::BufferLength.number(),
     }
-    5
 }
 
 // Sets every place to 0.
 pub fn clear(answer: &mut [u64])
     ensures { answer.new ≡ replicate (length answer.old) 0 }
 {
-    let mut i: usize = 0;
-    while i < answer.len() {
-        answer[i] = 0;
-        i += 1;
-    }
+    answer.fill(0)
 }
 
 pub fn bit(b: bool) -> u64
     ensures { result ≡ bit_of b }
 {
-    if b { 1 } else { 0 }
+    b as u64
 }
 
 // A side's passes, whether it spent its budget, and the bounds that it moved, from place `at` on.

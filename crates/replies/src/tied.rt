@@ -4,14 +4,16 @@ ghost use Rattle.tie_call.specs.TieAnswers.{tie_answer};
 ghost use Rattle.replies.specs.Replies.{reply_of, tie_reply};
 
 use crate::reply::Reply;
-use tie_call::TieAnswer;
+use model::refusal::Refusal;
+use tie_call::TieMade;
 
-pub fn tie_reply(a: TieAnswer) -> Reply
+#[tactic(auto, unfolding(tie_call::specs::TieAnswers::tie_answer, crate::specs::Replies::tie_reply, crate::specs::Replies::reply_of))]
+pub fn tie_reply(a: Result<TieMade, Refusal>) -> Reply
     ensures { reply_of result ≡ tie_reply (tie_answer a) }
 {
     match a {
-        TieAnswer::Refused(number) => Reply::Refused(number),
-        TieAnswer::Tied => Reply::Numbers(1, 0, 0, 0),
-        TieAnswer::Unchanged => Reply::Numbers(2, 0, 0, 0),
+        Err(refusal) => Reply::Refused(refusal.number()),
+        Ok(TieMade::Tied) => Reply::Numbers(1, 0, 0, 0),
+        Ok(TieMade::Unchanged) => Reply::Numbers(2, 0, 0, 0),
     }
 }

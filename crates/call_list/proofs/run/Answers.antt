@@ -35,7 +35,7 @@ loop-i-preserved c =
     let s = state_of a.n a.m a.bounds.now A a.table.now in
     let r = list_run c.loop-i.answer (state_of a.n a.m c.loop-i.bounds A c.loop-i.table) in
     subst (λ (q : ListRun). Running s a.calls.now q (c.loop-i.i + 1)) (sym c.run_next-answer.ensures)
-          (running-next s a.calls.now c.loop-i.i r c.record_at-call.result c.loop-i.invariant c.loop-i-test.true c.record_at-call.ensures)
+    (running-next s a.calls.now c.loop-i.i r c.record_at-call.result c.loop-i.invariant c.loop-i-test.true c.record_at-call.ensures)
 
 pub returns-clause-defined : goal.returns-clause-defined
 returns-clause-defined c =
