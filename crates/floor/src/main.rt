@@ -2,7 +2,7 @@
 // what is left of the model.
 #![tactic(auto)]
 
-ghost use Rattle.std.specs.Prelude.{true, ◌≡◌};
+ghost use Rattle.std.specs.Prelude.{◌≡◌, OnOk};
 ghost use Rattle.reduce_book.specs.Printed.{Printed};
 ghost use Rattle.reduction.specs.declared.Form.TheVariants.{Paper};
 ghost use Rattle.rounds.specs.NoLimit.{no_limit};
@@ -14,13 +14,14 @@ use std::io;
 
 fn main(rt: HostRuntime) {
     let mut printed = 0;
-    print_pages(&rt, &mut printed);
+    // A failure is told on standard error already.
+    let _ = print_pages(&rt, &mut printed);
 }
 
-// True where the whole text was printed.
-fn print_pages(rt: &(impl io::Input + Print + Eprint), printed: &mut usize) -> bool
+// Ok where the whole text was printed.
+fn print_pages(rt: &(impl io::Input + Print + Eprint), printed: &mut usize) -> io::Result<()>
     requires { printed.old ≡ 0 }
-    ensures { result ≡ true → Printed Paper no_limit printed.new }
+    ensures { OnOk result (Printed Paper no_limit printed.new) }
 {
     program(rt, Form::Paper, NO_LIMIT, printed)
 }

@@ -1,6 +1,6 @@
 -- Laws of the program: an input is refused, or held whole, as its last 16 bytes and its length say; what the rounds leave can be
 -- printed. Assumes nothing.
-use Prim.Native.Nat.{◌+◌, ◌-◌, ◌≤◌, ℕ}
+use Prim.Native.Nat.{◌≤◌, ℕ}
 use borrow.Author.Tests.{ne_eqb}
 use lib.IntN.{ℤ}
 use lib.ListN.{length, take}

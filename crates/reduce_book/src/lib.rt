@@ -6,7 +6,7 @@
 // told on standard error, and then nothing more is printed; the code has no other way to end without its text.
 #![tactic(auto)]
 
-ghost use Rattle.std.specs.Prelude.{true, ◌≡◌, List, ℕ, ◌≤◌, length};
+ghost use Rattle.std.specs.Prelude.{◌≡◌, List, ℕ, ◌≤◌, OnOk, length};
 ghost use Rattle.model.specs.Limits.{max_rows, max_variables};
 ghost use Rattle.model.specs.Rows.{rows_of};
 ghost use Rattle.model.specs.State.{state_of};
@@ -16,38 +16,36 @@ ghost use Rattle.reduction.specs.Answers.{Ready, Sized};
 ghost use Rattle.reduction.specs.Output.{output_as as printed_text};
 ghost use Rattle.reduce_book.specs.Printed.{Printed};
 
-use book::SizesAnswer;
 use reduction::buffers::{
     largest_table, longest_book, most_bounds, most_coefs, most_kinds, most_rhs,
 };
-use reduction::{Answer, Form, solve};
+use reduction::{Form, solve};
 use std::io;
-use streams::input::{Input, read_all};
+use streams::input::read_all;
 use streams::output::refused;
 
 // The whole program, with at most `limit` rounds; `reduce` and `floor` have the limit that is none, `reduce8` has 8.
-// True where the whole text was printed.
+// Ok where the whole text was printed.
 pub fn program(
     rt: &(impl io::Input + Print + Eprint),
     form: Form,
     limit: u64,
     printed: &mut usize,
-) -> bool
+) -> io::Result<()>
     requires { printed.old ≡ 0 }
-    ensures { result ≡ true → Printed form limit printed.new }
+    ensures { OnOk result (Printed form limit printed.new) }
 {
     let mut start = longest_book();
     let mut tail = [0u8; 16];
-    match read_all(rt, &mut start, &mut tail) {
-        Input::Length(len) => answer(rt, &start, &tail, len, form, limit, printed),
-        Input::TooLong => refused(rt, 2, printed),
-        Input::Failed => false,
+    match read_all(rt, &mut start, &mut tail)? {
+        Ok(len) => answer(rt, &start, &tail, len, form, limit, printed),
+        Err(refusal) => refused(rt, refusal, printed),
     }
 }
 
 // The answer to an input of `len` bytes that ends in `tail`; where it is no longer than `start`, `start`
-// begins with it. A number by which `sizes` refuses the input is the one of its text (`head-output`). True
-// where the whole text was printed.
+// begins with it. A refusal of `sizes` is the one of its text (`head-output`). Ok where the whole text was
+// printed.
 fn answer(
     rt: &(impl Print + Eprint),
     start: &[u8],
@@ -56,15 +54,15 @@ fn answer(
     form: Form,
     limit: u64,
     printed: &mut usize,
-) -> bool
+) -> io::Result<()>
     requires max_book_in_bounds { (max_book ≤ length start.now) × ((bs : List ℕ) × Held bs start.now tail.now len) }
     requires printed_value { printed.old ≡ 0 }
-    ensures { (bs : List ℕ) → Held bs start.now tail.now len → result ≡ true →
-        printed.new ≡ length (printed_text form limit bs) }
+    ensures { (bs : List ℕ) → Held bs start.now tail.now len →
+        OnOk result (printed.new ≡ length (printed_text form limit bs)) }
 {
     match intake::sizes(tail, len) {
-        SizesAnswer::Refused(number) => refused(rt, number, printed),
-        SizesAnswer::Sizes { n, m } => reduce(rt, n, m, &start[..len], form, limit, printed),
+        Err(refusal) => refused(rt, refusal, printed),
+        Ok(sizes) => reduce(rt, sizes.n, sizes.m, &start[..len], form, limit, printed),
     }
 }
 
@@ -77,10 +75,10 @@ fn reduce(
     form: Form,
     limit: u64,
     printed: &mut usize,
-) -> bool
+) -> io::Result<()>
     requires n_le_max_variables { (n ≤ max_variables) × (m ≤ max_rows) × Sized n m book.now }
     requires printed_value { printed.old ≡ 0 }
-    ensures { result ≡ true → printed.new ≡ length (printed_text form limit book.now) }
+    ensures { OnOk result (printed.new ≡ length (printed_text form limit book.now)) }
 {
     let mut bounds = most_bounds();
     let mut coefs = most_coefs();
@@ -119,17 +117,15 @@ fn reduce_in(
     form: Form,
     limit: u64,
     printed: &mut usize,
-) -> bool
+) -> io::Result<()>
     requires fact { let s = state_of n m bounds.old (rows_of coefs.old rhs.old kinds.old) table.old in
         Ready book.now s }
     requires printed_value { printed.old ≡ 0 }
-    ensures { result ≡ true → printed.new ≡ length (printed_text form limit book.now) }
+    ensures { OnOk result (printed.new ≡ length (printed_text form limit book.now)) }
 {
     match solve(n, m, book, bounds, coefs, rhs, kinds, table, limit) {
-        Answer::Refused(number) => refused(rt, number, printed),
-        Answer::Infeasible => printing::none(rt, printed),
-        Answer::Reduced(made) => printing::left(
-            rt, form, n, m, made, bounds, coefs, rhs, table, printed,
-        ),
+        Err(refusal) => refused(rt, refusal, printed),
+        Ok(None) => printing::none(rt, printed),
+        Ok(Some(made)) => printing::left(rt, form, n, m, made, bounds, coefs, rhs, table, printed),
     }
 }
