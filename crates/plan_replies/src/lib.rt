@@ -6,28 +6,25 @@ ghost use Rattle.plan.specs.Answers.{lengths_answer, passes_answer, width_answer
 ghost use Rattle.plan.specs.Lengths.{lengths_of};
 ghost use Rattle.replies.specs.Replies.{answer_length, lengths_reply, plan_reply, reply_of, returned, written};
 
-use plan::{BufferLengths, LengthsAnswer, PassesAnswer, WidthAnswer};
+use model::refusal::Refusal;
+use plan::{BoxBudget, BufferLengths, PassLimit};
 use replies::reply::{Reply, clear};
 
-pub fn width_reply(a: WidthAnswer) -> Reply
+pub fn width_reply(a: Result<BoxBudget, Refusal>) -> Reply
     ensures { reply_of result ≡ plan_reply (width_answer a) }
 {
     match a {
-        WidthAnswer::Refused(number) => Reply::Refused(number),
-        WidthAnswer::Told { width, budget } => Reply::Numbers(width as u64, budget as u64, 0, 0),
+        Err(refusal) => Reply::Refused(refusal.number()),
+        Ok(told) => Reply::Numbers(told.width as u64, told.budget as u64, 0, 0),
     }
 }
 
-pub fn passes_reply(a: PassesAnswer) -> Reply
+pub fn passes_reply(a: Result<PassLimit, Refusal>) -> Reply
     ensures { reply_of result ≡ plan_reply (passes_answer a) }
 {
     match a {
-        PassesAnswer::Refused(number) => Reply::Refused(number),
-        PassesAnswer::AtMost {
-            width,
-            budget,
-            passes,
-        } => Reply::Numbers(width as u64, budget as u64, passes, 0),
+        Err(refusal) => Reply::Refused(refusal.number()),
+        Ok(most) => Reply::Numbers(most.width as u64, most.budget as u64, most.passes, 0),
     }
 }
 
@@ -51,15 +48,15 @@ fn put_lengths(l: BufferLengths, answer: &mut [u64])
 }
 
 // Writes the answer of the call on a trailer: as `put` does, but for more numbers than a `Reply` holds.
-pub fn put_plan(a: LengthsAnswer, answer: &mut [u64]) -> u32
+pub fn put_plan(a: Result<BufferLengths, Refusal>, answer: &mut [u64]) -> u32
     requires { length answer.old ≡ answer_length }
     ensures number { result ≡ returned (plan_reply (lengths_answer a)) }
     ensures answer { answer.new ≡ written (plan_reply (lengths_answer a)) answer.old }
 {
     match a {
-        LengthsAnswer::Refused(number) => number,
-        LengthsAnswer::Needed(l) => {
-            put_lengths(l, answer);
+        Err(refusal) => refusal.number(),
+        Ok(lengths) => {
+            put_lengths(lengths, answer);
             0
         }
     }
