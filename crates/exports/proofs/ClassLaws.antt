@@ -5,7 +5,9 @@ use mathlib.Core.List.{List}
 use mathlib.Core.Path.{◌∙◌, ◌≡◌, ap}
 use Rattle.flat_record.specs.Classes.{ClassesRun, run_classes}
 use Rattle.flat_list.specs.ListAnswers.{classes_run, list_answer, list_run}
-use Rattle.flat_list.specs.declared.RunAnswer.{RunAnswer}
+use Rattle.std.specs.Prelude.{Result}
+use Rattle.call.specs.declared.Counts.{Counts}
+use Rattle.model.specs.declared.refusal.Refusal.{Refusal}
 use Rattle.model.specs.Checks.{size_checks}
 use Rattle.model.specs.State.{State}
 use Rattle.replies.specs.Replies.{Reply, answer_length, list_reply, returned, written, wrong_length}
@@ -19,7 +21,7 @@ module _ (A : List ℕ) (s : State) (calls C : List ℕ) where
   unfolding classes_export classes_left
   classes-refused wrong e = (length-refused A s _ _ wrong e, lent-stays A C _ wrong)
 
-  pub classes-replied : (r : State) (D : List ℕ) (x : RunAnswer) {q : Reply} {number : ℕ} {places : List ℕ} → length A ≡ answer_length
+  pub classes-replied : (r : State) (D : List ℕ) (x : Result Counts Refusal) {q : Reply} {number : ℕ} {places : List ℕ} → length A ≡ answer_length
       → (number ≡ returned q) × (places ≡ written q A) → q ≡ list_reply (list_answer x) → classes_run x r D ≡ run_classes s calls C
       → (exported number places r ≡ classes_export A s calls C) × (D ≡ classes_left A s calls C)
   unfolding classes_export classes_left classes_run list_run

@@ -8,7 +8,9 @@ use mathlib.Core.Path.{◌∙◌, ◌≡◌, ap, ap₂, refl, sym}
 use Rattle.model.specs.Checks.{size_checks}
 use Rattle.flat_list.specs.ListAnswers.{list_answer, list_run}
 use Rattle.reducer.specs.OpenCalls.{RestVerdict, performed, rest}
-use Rattle.flat_list.specs.declared.RunAnswer.{RunAnswer}
+use Rattle.std.specs.Prelude.{Result}
+use Rattle.call.specs.declared.Counts.{Counts}
+use Rattle.model.specs.declared.refusal.Refusal.{Refusal}
 use Rattle.rounds.specs.Rounds.{RoundsAnswer, run_rounds}
 use Rattle.semantics.specs.CallList.{ListRun, run_list}
 use Rattle.semantics.specs.Perform.{Answer, Performed, perform}
@@ -63,7 +65,7 @@ module _ (A : List ℕ) (s : State) where
   unfolding list_export
   list-refused calls wrong e = length-refused A s _ _ wrong e
 
-  pub list-replied : (r : State) (calls : List ℕ) (x : RunAnswer) {q : Reply} {number : ℕ} {places : List ℕ} → length A ≡ answer_length
+  pub list-replied : (r : State) (calls : List ℕ) (x : Result Counts Refusal) {q : Reply} {number : ℕ} {places : List ℕ} → length A ≡ answer_length
       → (number ≡ returned q) × (places ≡ written q A) → q ≡ list_reply (list_answer x) → list_run x r ≡ run_list s calls
       → exported number places r ≡ list_export A s calls
   unfolding list_export list_run

@@ -5,7 +5,9 @@ use mathlib.Core.List.{List}
 use mathlib.Core.Path.{◌∙◌, ◌≡◌, ap}
 use Rattle.model.specs.Checks.{size_checks}
 use Rattle.tie_call.specs.TieAnswers.{performed_tie, tie_answer}
-use Rattle.tie_call.specs.declared.TieAnswer.{TieAnswer}
+use Rattle.std.specs.Prelude.{Result}
+use Rattle.tie_call.specs.declared.TieMade.{TieMade}
+use Rattle.model.specs.declared.refusal.Refusal.{Refusal}
 use Rattle.ties.specs.TieCall.{TiePerformed, perform_tie, tie_call_of}
 use Rattle.ties.specs.Ties.{TiedState}
 use Rattle.replies.specs.Replies.{Reply, answer_length, returned, tie_reply, written, wrong_length}
@@ -19,7 +21,7 @@ module _ (A : List ℕ) (s : TiedState) (k j : ℕ) where
   unfolding tie_export ties_export
   tie-refused wrong e = (length-refused A s.state _ _ wrong e, lent-stays A s.ties _ wrong)
 
-  pub tie-replied : (r : TiedState) (x : TieAnswer) {q : Reply} {number : ℕ} {places : List ℕ} → length A ≡ answer_length
+  pub tie-replied : (r : TiedState) (x : Result TieMade Refusal) {q : Reply} {number : ℕ} {places : List ℕ} → length A ≡ answer_length
       → (number ≡ returned q) × (places ≡ written q A) → q ≡ tie_reply (tie_answer x) → performed_tie x r ≡ perform_tie s (tie_call_of s k j)
       → (exported number places r.state ≡ tie_export A s k j) × (r.ties ≡ ties_export A s k j)
   unfolding tie_export ties_export performed_tie
