@@ -1,2 +1,3 @@
+pub mod CheckedLaws
 pub mod ConvertLaws
 pub mod TripLaws

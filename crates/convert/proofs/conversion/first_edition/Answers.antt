@@ -1,6 +1,7 @@
 -- n and m are within their limits, so the part that is lent is as long as the book to be written.
 use Rattle.std.proofs.Common.{◌≡◌, ◌≤◌, ◌∙◌, ap₂, sym, arith, ℕ, List, length, take}
 use Rattle.std.proofs.Math.Seq.{length-take-le}
+use Rattle.std.proofs.lemmas.Result.{err_from_is_err_and}
 use Rattle.book.specs.Answers.{write_answer}
 use Rattle.book.specs.Book.{book_length, rows, trailer_of, variables}
 use Rattle.book.proofs.EncodeLaws.{length-below}
@@ -29,27 +30,28 @@ pub slice_bounds-to_first-end-2 : goal.slice_bounds-to_first-end-2
 slice_bounds-to_first-end-2 c =
     sym (lent _ _ c.requires.0 c.requires.1 _ _ _ c.book_length-len.ensures c.trailer_u16.ensures c.trailer_u16-2.ensures)
 
-pub returns-in-Refused-clause-bytes : goal.returns-in-Refused-clause-bytes
+pub returns-in_err-to_first : goal.returns-in_err-to_first
 unfolding answer_bytes write_answer
-returns-in-Refused-clause-bytes c =
+returns-in_err-to_first c =
+    let p = err_from_is_err_and c.from_residual.result c.from_residual.ensures.1 in
     let from = c.args.from.now in
     let r = c.requires in
     let is = len_is from _ r.0 r.1 _ _ _ c.book_length-len.ensures c.trailer_u16.ensures c.trailer_u16-2.ensures in
     let l = lent from _ r.0 r.1 _ _ _ c.book_length-len.ensures c.trailer_u16.ensures c.trailer_u16-2.ensures in
-    first-refused from _ (l ∙ is) _ c.in-Refused.ensures.answer
+    rw (p.1, p.2) (record { bytes = first-refused from _ (l ∙ is) _ c.in_err-to_first.ensures.answer; fits = tt })
 
-pub returns-in-Written-clause-bytes : goal.returns-in-Written-clause-bytes
+pub returns-clause-bytes : goal.returns-clause-bytes
 unfolding answer_bytes write_answer
-returns-in-Written-clause-bytes c =
+returns-clause-bytes c =
     let from = c.args.from.now in
     let r = c.requires in
     let w = c.to_first in
     let is = len_is from _ r.0 r.1 _ _ _ c.book_length-len.ensures c.trailer_u16.ensures c.trailer_u16-2.ensures in
     let l = lent from _ r.0 r.1 _ _ _ c.book_length-len.ensures c.trailer_u16.ensures c.trailer_u16-2.ensures in
-    first-book from _ (l ∙ is) w.new.to _ _ c.in-Written.ensures.answer (w.auto.to ∙ l) w.ensures.book_written
+    first-book from _ (l ∙ is) w.new.to _ _ c.in_ok-to_first.ensures.answer (w.auto.to ∙ l) w.ensures.book_written
 
-pub returns-in-Written-clause-fits : goal.returns-in-Written-clause-fits
-returns-in-Written-clause-fits c =
+pub returns-clause-fits : goal.returns-clause-fits
+returns-clause-fits c =
     let r = c.requires in
     let w = c.to_first in
     let l = lent c.args.from.now _ r.0 r.1 _ _ _ c.book_length-len.ensures c.trailer_u16.ensures c.trailer_u16-2.ensures in
