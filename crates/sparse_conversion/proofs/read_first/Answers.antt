@@ -1,14 +1,8 @@
 -- `sparse_conversion::read_first`: each call fills its buffer with the book's numbers. Assumes nothing.
-use Rattle.std.proofs.Common.{◌*◌, ◌+◌, ℕ, ◌∙◌, ap, arith}
+use Rattle.std.proofs.Common.{◌*◌, ◌+◌, ℕ, ◌∙◌, ap}
 use Rattle.little_endian.specs.Bytes.{integers_at}
 use Rattle.book.specs.Book.{bounds_of, rhs_of, row_place}
-use Rattle.book.proofs.EncodeLaws.{row_within}
 use Rattle.sparse_conversion.proofs.read_first.Goals as goal
-
-pub read_integers-requires-2 : goal.read_integers-requires-2
-unfolding row_place
-read_integers-requires-2 c = λ i h.
-    omega (arith, c.requires.layout.body, c.requires.lengths.2, row_within c.args.n c.args.m i (omega (arith, c.requires.lengths.2)))
 
 pub returns : goal.returns
 unfolding bounds_of rhs_of row_place integers_at
