@@ -55,7 +55,7 @@ fn value_at(coefs: &[i32], steps: &[u8], x: &[i32]) -> i64
     sum
 }
 
-// Whether the row holds at x, by its kind.
+// Whether the row holds at x, by its kind: a byte and no enum, since a book and C's buffers have the byte.
 pub fn meets_row(coefs: &[i32], steps: &[u8], b: i32, kind: u8, x: &[i32]) -> bool
     requires holdable { Holdable (length coefs.now) coefs.now x.now }
     requires steps { Steps (length coefs.now) coefs.now steps.now }

@@ -23,7 +23,7 @@ fn list_fits(len: usize) -> bool
     len % 4 == 0 && len <= MAX_NUMBERS
 }
 
-// What a record of this kind and budget counts, where the box is `width` wide.
+// What a record of this kind and budget counts, where the box is `width` wide. The kind is a number, as C's list has it.
 fn call_limit(width: u32, kind: u32, budget: u32) -> u64
     ensures { (result ≡ call_limit width (kind_of kind) budget) × (result ≤ 8589934590) }
 {
