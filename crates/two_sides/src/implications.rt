@@ -75,15 +75,15 @@ pub fn record_implications(
         table.old).added }
 {
     let mut added: u32 = 0;
-    let mut j = 0;
-    while j < n {
-        if j != k {
-            if is_free(bounds, j) {
-                added += record_side(n, k, 0, j, zero, table);
-                added += record_side(n, k, 1, j, one, table);
-            }
+    for j in 0..n {
+        if j == k {
+            continue;
         }
-        j += 1;
+        if !is_free(bounds, j) {
+            continue;
+        }
+        added += record_side(n, k, 0, j, zero, table);
+        added += record_side(n, k, 1, j, one, table);
     }
     added
 }
