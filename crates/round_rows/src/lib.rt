@@ -23,10 +23,7 @@ use row_tightening::may_tighten;
 pub fn is_changed(class: CallClass) -> bool
     ensures { result ≡ is_change (class_is class) }
 {
-    let CallClass::Changed = class else {
-        return false;
-    };
-    true
+    matches!(class, CallClass::Changed)
 }
 
 // Removes each redundant row, upwards; says whether a number changed.
@@ -47,13 +44,9 @@ pub fn remove_rows(
         return false;
     }
     let mut changed = false;
-    let mut r: u32 = 0;
-    while (r as usize) < m {
-        let removal = remove_redundant_row_at(n, coefs, rhs, kinds, r as usize, bounds);
-        if is_changed(class_of_removal(removal)) {
-            changed = true;
-        }
-        r += 1;
+    for r in 0..m {
+        let removal = remove_redundant_row_at(n, coefs, rhs, kinds, r, bounds);
+        changed |= is_changed(class_of_removal(removal));
     }
     changed
 }
@@ -88,7 +81,7 @@ fn tighten_row(
     coefs: &mut [i32],
     rhs: &mut [i32],
     kinds: &[u8],
-    row: u32,
+    row: usize,
 ) -> bool
     requires row_lt_m { row < m }
     requires valid_model { ValidModel (model_of n m bounds.now (rows_of coefs.old rhs.old kinds.now)) }
@@ -96,26 +89,14 @@ fn tighten_row(
         let A' = rows_of coefs.new rhs.new kinds.now in
         Phase (tighten_row row) n m bounds.now A A' result }
 {
-    let mut most = maximum_activity_at(n, coefs, row as usize, bounds);
+    let mut most = maximum_activity_at(n, coefs, row, bounds);
     let mut changed = false;
-    let mut k: u32 = 0;
-    while (k as usize) < n {
-        if may_tighten_at(n, bounds, coefs, rhs, row as usize, k as usize, most) {
-            let tightening = tighten_coefficient_at(
-                n,
-                coefs,
-                rhs,
-                kinds,
-                row as usize,
-                bounds,
-                k as usize,
-            );
-            if is_changed(class_of_tightening(tightening)) {
-                changed = true;
-            }
-            most = maximum_activity_at(n, coefs, row as usize, bounds);
+    for k in 0..n {
+        if may_tighten_at(n, bounds, coefs, rhs, row, k, most) {
+            let tightening = tighten_coefficient_at(n, coefs, rhs, kinds, row, bounds, k);
+            changed |= is_changed(class_of_tightening(tightening));
+            most = maximum_activity_at(n, coefs, row, bounds);
         }
-        k += 1;
     }
     changed
 }
@@ -135,12 +116,8 @@ pub fn tighten_rows(
         Phase tightenings n m bounds.now A A' result }
 {
     let mut changed = false;
-    let mut r: u32 = 0;
-    while (r as usize) < m {
-        if tighten_row(n, m, bounds, coefs, rhs, kinds, r) {
-            changed = true;
-        }
-        r += 1;
+    for r in 0..m {
+        changed |= tighten_row(n, m, bounds, coefs, rhs, kinds, r);
     }
     changed
 }
