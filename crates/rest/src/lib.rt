@@ -36,16 +36,13 @@ fn hull_is(zero: &[i32], one: &[i32], bounds: &[i32]) -> bool
     ensures { (n : ℕ) → length bounds.now ≡ 2 * n → result
         ≡ same_list (hulled n zero.now one.now) bounds.now }
 {
-    let half = bounds.len() / 2;
-    let mut j = 0;
-    while j < half {
+    for j in 0..bounds.len() / 2 {
         if lesser(zero[2 * j], one[2 * j]) != bounds[2 * j] {
             return false;
         }
         if greater(zero[2 * j + 1], one[2 * j + 1]) != bounds[2 * j + 1] {
             return false;
         }
-        j += 1;
     }
     true
 }
@@ -168,12 +165,10 @@ fn first_unspanned_marked(
     ensures { let A = rows_of coefs.now rhs.now kinds.now in
         result ≡ first_unspanned n m A bounds.now }
 {
-    let mut k = 0;
-    while k < n {
+    for k in 0..n {
         if !spans_at(n, m, bounds, coefs, rhs, kinds, k, across, signs, marks) {
             return k;
         }
-        k += 1;
     }
     n
 }
