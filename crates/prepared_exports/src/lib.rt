@@ -4,6 +4,7 @@
 
 ghost use Rattle.prepared_exports.specs.PreparedSaid.{ProbeSaid, PropagateSaid};
 
+use model::refusal::Refusal;
 use prepared_call::propagate;
 use prepared_probe::probe;
 use prepared_replies::{prepared_reply, put_probe};
@@ -22,7 +23,7 @@ pub fn propagate_said(
         answer.new }
 {
     if answer.len() != ANSWER {
-        return 5;
+        return Refusal::BufferLength.number();
     }
     put(
         prepared_reply(propagate(workspace, bounds, budget, reasons)),
@@ -46,7 +47,7 @@ pub fn probe_said(
         reasons.new answer.new }
 {
     if answer.len() != ANSWER {
-        return 5;
+        return Refusal::BufferLength.number();
     }
     put_probe(
         probe(workspace, bounds, table, variable, budget, reasons),

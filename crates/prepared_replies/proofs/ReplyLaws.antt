@@ -1,19 +1,12 @@
 -- What a reply returns and writes, by whether its answer is a refusal; and the checks of a call that is lent an answer. Assumes nothing.
 use Prim.Native.Nat.{ℕ}
 use borrow.Author.Tests.{eq-eqb, ne_eqb}
-use denote.Enum.Declared.{tag_of}
 use lib.Dec.{T}
 use lib.ListN.{length, set}
 use mathlib.Core.Bool.{Bool, cond, not}
 use mathlib.Core.List.{List, [], ◌∷◌}
-use mathlib.Core.Logic.{⊎_elim}
 use mathlib.Core.Path.{◌∙◌, ◌≡◌, ap, refl, sym}
 use native.Mathlib.Omega.{arith}
-use types.Run.{OneOf}
-use Rattle.reducer.specs.OpenCalls.{probe_answer}
-use Rattle.reducer.specs.declared.calls.ProbeAnswer.{ProbeAnswer}
-use Rattle.reducer.specs.declared.calls.ProbeAnswer.TheVariants as code
-use Rattle.reducer.specs.contracts.calls.ProbeAnswer.{the_type}
 use Rattle.replies.specs.Replies.{Reply, answer_length, call_reply, places, probe_ended, refused_by, returned, written}
 use Rattle.semantics.specs.Perform.{Answer, probed, propagated, propagated_row, refused, removed, tightened}
 use Rattle.semantics.specs.Probe as probe
@@ -74,15 +67,6 @@ rows_written (removed o) t row0 row1 A = refl
 pub rows-refusal : {a : Answer} {number : ℕ} → a ≡ refused number → (row0 row1 : ℕ) → with_rows (call_reply a) row0 row1 ≡ call_reply a
 unfolding with_rows call_reply
 rows-refusal e row0 row1 = rw e refl
-
-pub probe-some : (a : ProbeAnswer) → OneOf (1 ∷ 2 ∷ 3 ∷ []) (tag_of the_type a) → T (not (is_refused (probe_answer a)))
-unfolding probe_answer is_refused
-probe-some (code.Refused number) h =
-    ⊎_elim (λ e. let z : ◌≡◌ {A = ℕ} 0 1 = e in absurd (omega arith))
-    (⊎_elim (λ e. let z : ◌≡◌ {A = ℕ} 0 2 = e in absurd (omega arith)) (λ e. let z : ◌≡◌ {A = ℕ} 0 3 = e in absurd (omega arith))) h
-probe-some (code.Infeasible s0 s1) h = tt
-probe-some (code.Fixed v s0 s1) h = tt
-probe-some (code.BothFeasible added s0 s1) h = tt
 
 -- ---- the answer's length
 

@@ -4,16 +4,16 @@
 
 ghost use Rattle.std.specs.Prelude.{◌≡◌, length};
 ghost use Rattle.prepared_call.specs.PreparedCall.{infeasible_row, prepared_answer};
-ghost use Rattle.reducer.specs.OpenCalls.{probe_answer};
+ghost use Rattle.prepared_probe.specs.ProbeAnswers.{prepared_probe_answer, row0_of, row1_of};
 ghost use Rattle.replies.specs.Replies.{answer_length, call_reply, reply_of, returned, written};
 ghost use Rattle.replies.specs.declared.reply.Reply.TheVariants.{Numbers};
 ghost use Rattle.prepared_replies.specs.PreparedReplies.{prepared_reply, with_rows};
 
 use call_replies::probe_reply;
+use model::refusal::Refusal;
 use prepared_call::PreparedPropagation;
-use prepared_probe::PreparedProbe;
 use prepared_propagation::reasons::NO_ROW;
-use reducer::calls::ProbeAnswer;
+use prepared_sides::ProbedSides;
 use replies::reply::{Reply, put};
 
 fn ended(case: u64, passes: u32, moved: u32, row: u32) -> Reply
@@ -22,30 +22,32 @@ fn ended(case: u64, passes: u32, moved: u32, row: u32) -> Reply
     Reply::Numbers(case, passes as u64, moved as u64, row as u64)
 }
 
-pub fn prepared_reply(a: PreparedPropagation) -> Reply
-    ensures { reply_of result ≡ prepared_reply (prepared_answer a) (infeasible_row a) }
+#[tactic(auto, unfolding(replies::specs::Replies::call_reply, replies::specs::Replies::ending_case, replies::specs::Replies::reply_of, prepared_call::specs::PreparedCall::prepared_answer, prepared_call::specs::PreparedCall::infeasible_row, crate::specs::PreparedReplies::prepared_reply))]
+pub fn prepared_reply(told: Result<PreparedPropagation, Refusal>) -> Reply
+    ensures { reply_of result ≡ prepared_reply (prepared_answer told) (infeasible_row told) }
 {
-    match a {
-        PreparedPropagation::Refused(number) => Reply::Refused(number),
-        PreparedPropagation::Infeasible(passes, moved, row) => ended(0, passes, moved, row),
-        PreparedPropagation::Converged(passes, moved) => ended(1, passes, moved, NO_ROW),
-        PreparedPropagation::BudgetSpent(passes, moved) => ended(2, passes, moved, NO_ROW),
+    match told {
+        Err(refusal) => Reply::Refused(refusal.number()),
+        Ok(PreparedPropagation::Infeasible(passes, moved, row)) => ended(0, passes, moved, row),
+        Ok(PreparedPropagation::Converged(passes, moved)) => ended(1, passes, moved, NO_ROW),
+        Ok(PreparedPropagation::BudgetSpent(passes, moved)) => ended(2, passes, moved, NO_ROW),
     }
 }
 
 // Writes the reply to a probe: after the places of any probe the two rows.
-pub fn put_probe(told: PreparedProbe, answer: &mut [u64]) -> u32
+pub fn put_probe(told: Result<ProbedSides, Refusal>, answer: &mut [u64]) -> u32
     requires { length answer.old ≡ answer_length }
-    ensures number { result ≡ returned (with_rows (call_reply (probe_answer told.answer)) told.row0 told.row1) }
-    ensures answer { answer.new ≡ written (with_rows (call_reply (probe_answer told.answer)) told.row0 told.row1)
-        answer.old }
+    ensures number { result ≡ returned (with_rows (call_reply (prepared_probe_answer told)) (row0_of told) (row1_of told)) }
+    ensures answer { answer.new
+        ≡ written (with_rows (call_reply (prepared_probe_answer told)) (row0_of told) (row1_of told)) answer.old }
 {
-    let probed = told.answer;
-    let ProbeAnswer::Refused(number) = probed else {
-        put(probe_reply(probed), answer);
-        answer[8] = told.row0 as u64;
-        answer[9] = told.row1 as u64;
-        return 0;
-    };
-    number
+    match told {
+        Err(refusal) => refusal.number(),
+        Ok(sides) => {
+            put(probe_reply(Ok(sides.probing)), answer);
+            answer[8] = sides.row0 as u64;
+            answer[9] = sides.row1 as u64;
+            0
+        }
+    }
 }
