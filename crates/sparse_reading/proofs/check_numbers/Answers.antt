@@ -28,9 +28,6 @@ returns-in_err-check_bounds c =
     let p = err_from_is_err_and c.from_residual.result c.from_residual.ensures.1 in
     rw (p.1, p.2) (refuses _ _ _ c.in_err-check_bounds.ensures)
 
-pub overflow_mul-p : goal.overflow_mul-p
-overflow_mul-p c = omega (arith, c.requires.0.few)
-
 pub loop-i-init : goal.loop-i-init
 unfolding all
 loop-i-init c = record { starts = sym (start_first _ _); coefs_in = refl; rhs_in = refl; kinds_in = refl }

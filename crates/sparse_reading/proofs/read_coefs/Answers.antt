@@ -19,19 +19,6 @@ pub loop-i-init : goal.loop-i-init
 unfolding sparse_coefs_of
 loop-i-init c = (sym (start_first _ _), overwrite-start 0 _ _)
 
--- row i lies within the book, and its coefficients within the buffer
-pub overflow_mul-start : goal.overflow_mul-start
-overflow_mul-start c = omega (arith, piece-within c.args.m c.args.n c.loop-i.i c.loop-i-test.true)
-
-pub overflow_add-end : goal.overflow_add-end
-overflow_add-end c = omega (arith, piece-within c.args.m c.args.n c.loop-i.i c.loop-i-test.true)
-
-pub offset_bounds-coefs-start : goal.offset_bounds-coefs-start
-offset_bounds-coefs-start c = omega (arith, piece-within c.args.m c.args.n c.loop-i.i c.loop-i-test.true)
-
-pub slice_bounds-read_row-end : goal.slice_bounds-read_row-end
-slice_bounds-read_row-end c = omega (arith, piece-within c.args.m c.args.n c.loop-i.i c.loop-i-test.true)
-
 pub read_row-requires : goal.read_row-requires
 read_row-requires c =
     let a = c.args in

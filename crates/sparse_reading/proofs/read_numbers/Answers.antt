@@ -9,12 +9,6 @@ use Rattle.sparse_reading.proofs.read_numbers.Goals as goal
 pub read_integers-requires : goal.read_integers-requires
 read_integers-requires c = λ i h. omega (arith, c.requires.layout.0.body, c.requires.lengths.0, start-within c.args.n c.args.m c.args.book.now)
 
-pub read_rhs-requires : goal.read_rhs-requires
-read_rhs-requires c = rw c.requires.lengths.2 c.requires.layout.0
-
-pub read_kinds-requires : goal.read_kinds-requires
-read_kinds-requires c = rw c.requires.lengths.3 c.requires.layout.0
-
 pub returns : goal.returns
 unfolding bounds_of
 returns c =

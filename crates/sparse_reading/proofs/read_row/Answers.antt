@@ -1,8 +1,7 @@
 -- `sparse_reading::read_row`: zeros first, and then the entries. Assumes nothing.
 use Rattle.std.proofs.Common.{ℕ, pos, replicate, ◌∙◌, ap, ap₂, sym, arith}
-use Rattle.little_endian.specs.Pieces.{joined, list_of}
+use Rattle.little_endian.specs.Pieces.{joined}
 use Rattle.model.specs.Checks.{first}
-use Rattle.sparse_layout.specs.SparseBook.{dense_at}
 use Rattle.sparse_layout.specs.SparseChecks.{entry_checks, row_entry_checks}
 use Rattle.sparse_reading.proofs.read_row.Goals as goal
 
@@ -16,8 +15,3 @@ store_entries-requires c =
       entries = (omega (arith, count), ap₂ (λ (k l : ℕ). first (joined k (entry_checks l c.args.p bs))) count kept ∙ c.requires.1);
       zeros = c.fill.ensures.after (λ y e. e) ∙ ap (λ (k : ℕ). replicate k (pos 0)) (sym kept);
     }
-
-pub returns : goal.returns
-returns c =
-    c.store_entries.ensures
-    ∙ ap₂ (λ (k l : ℕ). list_of k (dense_at c.args.p c.args.book.now l)) c.fill.ensures.len c.row_count.ensures

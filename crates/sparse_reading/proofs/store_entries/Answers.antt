@@ -32,8 +32,3 @@ loop-e-preserved c =
     let column : c.read_u16-column.result ≡ column_at a.p bs e = column-read a.p e bs c.read_u16-column.ensures in
     let within = ((entries-test (length a.row.now) a.p bs a.count).0 c.requires.entries.1).below e c.loop-e-test.true in
     rw (x, column, c.loop-e.invariant) (dense-stored (length a.row.now) a.p bs e within)
-
-pub returns : goal.returns
-returns c =
-    let end : c.loop-e.e ≡ c.args.count = omega arith in
-    rw end at c.loop-e.invariant
