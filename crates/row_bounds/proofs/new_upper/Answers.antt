@@ -14,22 +14,7 @@ use Rattle.integer.proofs.Parts.{le-false, le-true}
 use Rattle.row_bounds.proofs.new_upper.Goals as goal
 
 pub overflow_cast-g : goal.overflow_cast-g
-overflow_cast-g c =
-    let q = c.requires.implies_bounds in
-    let fa = c.ranges.a in
-    let fb = c.ranges.b in
-    let f-least = c.ranges.least in
-    let fl = c.ranges.l in
-    let fu = c.ranges.u in
-    let wa : SFits w64 c.args.a = sfits_widen tt fa in
-    let wl : SFits w64 c.args.l = sfits_widen tt fl in
-    let wu : SFits w64 c.args.u = sfits_widen tt fu in
-    let f-sub : SFits w64 (c.args.b -ℤ c.args.least) = within-fits w64 tt (within-sub q.rhs q.activity) in
-    let f-al : SFits w64 (c.args.a *ℤ c.args.l) = within-fits w64 tt (within-mul q.coef q.low) in
-    let f-au : SFits w64 (c.args.a *ℤ c.args.u) = within-fits w64 tt (within-mul q.coef q.high) in
-    let f-room : SFits w64 (c.args.b -ℤ c.args.least +ℤ c.args.a *ℤ c.args.l) =
-    within-fits w64 tt (within-add (within-sub q.rhs q.activity) (within-mul q.coef q.low)) in
-    simp to_z-of_z wa
+overflow_cast-g c = let fa = c.ranges.a in simp to_z-of_z (sfits_widen tt fa)
 
 pub overflow_sub-room : goal.overflow_sub-room
 overflow_sub-room c =
@@ -50,22 +35,7 @@ overflow_sub-room c =
     simp to_z-of_z f-sub
 
 pub overflow_cast-room : goal.overflow_cast-room
-overflow_cast-room c =
-    let q = c.requires.implies_bounds in
-    let fa = c.ranges.a in
-    let fb = c.ranges.b in
-    let f-least = c.ranges.least in
-    let fl = c.ranges.l in
-    let fu = c.ranges.u in
-    let wa : SFits w64 c.args.a = sfits_widen tt fa in
-    let wl : SFits w64 c.args.l = sfits_widen tt fl in
-    let wu : SFits w64 c.args.u = sfits_widen tt fu in
-    let f-sub : SFits w64 (c.args.b -ℤ c.args.least) = within-fits w64 tt (within-sub q.rhs q.activity) in
-    let f-al : SFits w64 (c.args.a *ℤ c.args.l) = within-fits w64 tt (within-mul q.coef q.low) in
-    let f-au : SFits w64 (c.args.a *ℤ c.args.u) = within-fits w64 tt (within-mul q.coef q.high) in
-    let f-room : SFits w64 (c.args.b -ℤ c.args.least +ℤ c.args.a *ℤ c.args.l) =
-    within-fits w64 tt (within-add (within-sub q.rhs q.activity) (within-mul q.coef q.low)) in
-    simp to_z-of_z wl
+overflow_cast-room c = let fl = c.ranges.l in simp to_z-of_z (sfits_widen tt fl)
 
 pub overflow_mul-room : goal.overflow_mul-room
 overflow_mul-room c =
@@ -104,22 +74,7 @@ overflow_add-room c =
     simp to_z-of_z f-room
 
 pub overflow_cast-u : goal.overflow_cast-u
-overflow_cast-u c =
-    let q = c.requires.implies_bounds in
-    let fa = c.ranges.a in
-    let fb = c.ranges.b in
-    let f-least = c.ranges.least in
-    let fl = c.ranges.l in
-    let fu = c.ranges.u in
-    let wa : SFits w64 c.args.a = sfits_widen tt fa in
-    let wl : SFits w64 c.args.l = sfits_widen tt fl in
-    let wu : SFits w64 c.args.u = sfits_widen tt fu in
-    let f-sub : SFits w64 (c.args.b -ℤ c.args.least) = within-fits w64 tt (within-sub q.rhs q.activity) in
-    let f-al : SFits w64 (c.args.a *ℤ c.args.l) = within-fits w64 tt (within-mul q.coef q.low) in
-    let f-au : SFits w64 (c.args.a *ℤ c.args.u) = within-fits w64 tt (within-mul q.coef q.high) in
-    let f-room : SFits w64 (c.args.b -ℤ c.args.least +ℤ c.args.a *ℤ c.args.l) =
-    within-fits w64 tt (within-add (within-sub q.rhs q.activity) (within-mul q.coef q.low)) in
-    simp to_z-of_z wu
+overflow_cast-u c = let fu = c.ranges.u in simp to_z-of_z (sfits_widen tt fu)
 
 pub overflow_mul-g : goal.overflow_mul-g
 overflow_mul-g c =
@@ -161,20 +116,8 @@ returns-then-g-u c =
 
 pub floor_div-requires : goal.floor_div-requires
 floor_div-requires c =
-    let q = c.requires.implies_bounds in
     let fa = c.ranges.a in
-    let fb = c.ranges.b in
-    let f-least = c.ranges.least in
-    let fl = c.ranges.l in
-    let fu = c.ranges.u in
     let wa : SFits w64 c.args.a = sfits_widen tt fa in
-    let wl : SFits w64 c.args.l = sfits_widen tt fl in
-    let wu : SFits w64 c.args.u = sfits_widen tt fu in
-    let f-sub : SFits w64 (c.args.b -ℤ c.args.least) = within-fits w64 tt (within-sub q.rhs q.activity) in
-    let f-al : SFits w64 (c.args.a *ℤ c.args.l) = within-fits w64 tt (within-mul q.coef q.low) in
-    let f-au : SFits w64 (c.args.a *ℤ c.args.u) = within-fits w64 tt (within-mul q.coef q.high) in
-    let f-room : SFits w64 (c.args.b -ℤ c.args.least +ℤ c.args.a *ℤ c.args.l) =
-    within-fits w64 tt (within-add (within-sub q.rhs q.activity) (within-mul q.coef q.low)) in
     simp to_z-of_z c.requires.pos_bound
 
 pub overflow_cast-result : goal.overflow_cast-result
