@@ -101,17 +101,10 @@ fn answer(
     table: &mut [u8],
 ) {
     match line.first() {
-        Some(b'C') => step(
-            out,
-            n,
-            m,
-            bounds,
-            coefs,
-            rhs,
-            kinds,
-            table,
-            record(behind(line, 0)),
-        ),
+        Some(b'C') => {
+            let call = record(behind(line, 0));
+            step(out, n, m, bounds, coefs, rhs, kinds, table, call);
+        }
         Some(b'e' | b'D' | b'F') => lists::answer(
             out, line, n, m, bounds, coefs, rhs, kinds, table,
         ),

@@ -5,7 +5,7 @@ use flat_list::{run, run_classes};
 use model::refusal::Refusal;
 use rest::Rest;
 use std::io::Stdout;
-use test_text::parts::{part, part_mut};
+use test_text::parts::part_mut;
 use test_text::print::{item, line, list, number, refused, text};
 use test_text::words::{self, behind, fill};
 
