@@ -59,22 +59,16 @@ fn probe_variables_marked(
 {
     let mut changed = false;
     let mut spent = false;
-    let mut k: u32 = 0;
-    while (k as usize) < n {
-        if is_free(bounds, k as usize) {
+    for k in 0..n {
+        if is_free(bounds, k) {
             let step = run_probe_marked(
-                n, m, bounds, coefs, rhs, kinds, table, k, PASSES, across, signs, marks,
+                n, m, bounds, coefs, rhs, kinds, table, k as u32, PASSES, across, signs, marks,
             );
-            let class = step.class;
-            spent = spent | step.spent;
-            changed = changed | is_changed(class);
+            spent |= step.spent;
+            changed |= is_changed(step.class);
         }
-        k += 1;
     }
-    Made {
-        changed: changed,
-        spent: spent,
-    }
+    Made { changed, spent }
 }
 
 // The same, of rows of which nothing is known yet. No probe changes a row, and each leaves a box inside the one
@@ -143,12 +137,8 @@ pub fn round(
 {
     let propagation = propagate(n, m, bounds, coefs, rhs, kinds, PASSES);
     let mut changed = is_changed(class_of_propagation(propagation));
-    if remove_rows(n, m, bounds, coefs, rhs, kinds) {
-        changed = true;
-    }
-    if tighten_rows(n, m, bounds, coefs, rhs, kinds) {
-        changed = true;
-    }
+    changed |= remove_rows(n, m, bounds, coefs, rhs, kinds);
+    changed |= tighten_rows(n, m, bounds, coefs, rhs, kinds);
     let probing = probe_variables(n, m, bounds, coefs, rhs, kinds, table);
     Made {
         changed: changed | probing.changed,
