@@ -18,21 +18,8 @@ lent_length k n xs h = let e : k + n - k ≡ n = omega arith in rw e (length_par
 pub loop-i-init : goal.loop-i-init
 loop-i-init c = overwrite-start 0 _ _
 
--- row i lies within the book, and its coefficients within the buffer
-pub overflow_mul-start : goal.overflow_mul-start
-overflow_mul-start c = omega (arith, piece-within c.args.m c.args.n c.loop-i.i c.loop-i-test.true)
-
-pub overflow_add-end : goal.overflow_add-end
-overflow_add-end c = omega (arith, piece-within c.args.m c.args.n c.loop-i.i c.loop-i-test.true)
-
 pub overflow_add-row : goal.overflow_add-row
 overflow_add-row c = omega (arith, row_within c.args.n c.args.m c.loop-i.i c.loop-i-test.true)
-
-pub offset_bounds-coefs-start : goal.offset_bounds-coefs-start
-offset_bounds-coefs-start c = omega (arith, piece-within c.args.m c.args.n c.loop-i.i c.loop-i-test.true)
-
-pub slice_bounds-read_integers-end : goal.slice_bounds-read_integers-end
-slice_bounds-read_integers-end c = omega (arith, piece-within c.args.m c.args.n c.loop-i.i c.loop-i-test.true)
 
 pub read_integers-requires : goal.read_integers-requires
 read_integers-requires c = λ j h.
