@@ -77,12 +77,12 @@ pub fn propagate_accepted(
     }
     let mut dirty = [0u32; SET_WORDS];
     let p = run(ws, bounds, budget, &mut dirty, reasons);
-    let row = p.row;
     let end = p.end;
     match end {
-        Propagation::Infeasible(passes, moved) => PreparedPropagation::Infeasible(
-            passes, moved, row,
-        ),
+        Propagation::Infeasible(passes, moved) => {
+            let last = p.row;
+            PreparedPropagation::Infeasible(passes, moved, last)
+        }
         Propagation::Converged(passes, moved) => {
             keep(bounds, &dirty, ws);
             PreparedPropagation::Converged(passes, moved)
