@@ -1,5 +1,5 @@
 -- What the functions of this crate need of the definition: the cases of one coefficient, and that what is written is in range.
-use Prim.Native.Nat.{◌+◌, ◌<◌, ◌≤◌, ℕ}
+use Prim.Native.Nat.{ℕ}
 use lib.IntN.{◌+ℤ◌, ◌-ℤ◌, nat_abs, negsuc, pos, ℤ}
 use lib.ListN.{set}
 use lib.Signed.{◌<ℤ◌, ◌≤ℤ◌, lt_z}
