@@ -4,6 +4,7 @@ use book_reading::read;
 use book_writing::write;
 use model::refusal::Refusal;
 use std::io::Stdout;
+use test_text::model::Model;
 use test_text::parts::{part, part_mut};
 use test_text::print::{line, number, refused, text};
 use test_text::words;
@@ -31,6 +32,18 @@ fn written(out: Stdout, answer: Result<(), Refusal>) {
     line(out);
 }
 
+fn write_model(model: Model<'_>, book: &mut [u8]) -> Result<(), Refusal> {
+    write(
+        model.n,
+        model.m,
+        model.bounds,
+        model.coefs,
+        model.rhs,
+        model.kinds,
+        book,
+    )
+}
+
 fn same(out: Stdout, is_same: bool) {
     if is_same {
         text(out, b": the same");
@@ -53,75 +66,44 @@ fn compare_numbers(out: Stdout, word: &[u8], a: &[i32], b: &[i32]) {
     same(out, a == b);
 }
 
-fn write_again(
-    out: Stdout,
-    n: usize,
-    m: usize,
-    bounds: &[i32],
-    coefs: &[i32],
-    rhs: &[i32],
-    kinds: &[u8],
-    book: &[u8],
-) {
+fn write_again(out: Stdout, model: Model<'_>, book: &[u8]) {
     let mut room = [0u8; 62_960];
     let again = part_mut(&mut room, book.len());
-    let _ = write(n, m, bounds, coefs, rhs, kinds, again);
+    let _ = write_model(model, again);
     text(out, b"round trip, bytes");
     same(out, book == &*again);
 }
 
 // The kinds' room is not 0: reading makes it so.
-fn read_back(
-    out: Stdout,
-    n: usize,
-    m: usize,
-    bounds: &[i32],
-    coefs: &[i32],
-    rhs: &[i32],
-    book: &[u8],
-) {
+fn read_back(out: Stdout, model: Model<'_>, book: &[u8]) {
     let mut bounds_room = [0i32; 256];
     let mut coefs_room = [0i32; 15_360];
     let mut rhs_room = [0i32; 120];
     let mut kinds_room = [1u8; 120];
-    let bounds_read = part_mut(&mut bounds_room, bounds.len());
-    let coefs_read = part_mut(&mut coefs_room, coefs.len());
-    let rhs_read = part_mut(&mut rhs_room, rhs.len());
-    let kinds_read = part_mut(&mut kinds_room, rhs.len());
+    let bounds = part_mut(&mut bounds_room, model.bounds.len());
+    let coefs = part_mut(&mut coefs_room, model.coefs.len());
+    let rhs = part_mut(&mut rhs_room, model.rhs.len());
+    let kinds = part_mut(&mut kinds_room, model.rhs.len());
     text(out, b"round trip, read");
-    sizes(
-        out,
-        read(book, bounds_read, coefs_read, rhs_read, kinds_read),
-    );
-    compare_numbers(out, b"round trip, bounds", bounds, bounds_read);
-    compare_numbers(out, b"round trip, coefficients", coefs, coefs_read);
-    compare_numbers(out, b"round trip, right sides", rhs, rhs_read);
-    write_again(
-        out,
-        n,
-        m,
-        bounds_read,
-        coefs_read,
-        rhs_read,
-        kinds_read,
-        book,
-    );
+    sizes(out, read(book, bounds, coefs, rhs, kinds));
+    compare_numbers(out, b"round trip, bounds", model.bounds, bounds);
+    compare_numbers(out, b"round trip, coefficients", model.coefs, coefs);
+    compare_numbers(out, b"round trip, right sides", model.rhs, rhs);
+    let back = Model {
+        bounds,
+        coefs,
+        rhs,
+        kinds,
+        ..model
+    };
+    write_again(out, back, book);
 }
 
 // The round trip: a model is written, the book is read into other buffers, and what was read is written again.
-fn round_trip(
-    out: Stdout,
-    n: usize,
-    m: usize,
-    bounds: &[i32],
-    coefs: &[i32],
-    rhs: &[i32],
-    kinds: &[u8],
-    book: &mut [u8],
-) {
+fn round_trip(out: Stdout, model: Model<'_>, book: &mut [u8]) {
     text(out, b"round trip, written");
-    written(out, write(n, m, bounds, coefs, rhs, kinds, book));
-    read_back(out, n, m, bounds, coefs, rhs, book);
+    written(out, write_model(model, book));
+    read_back(out, model, book);
 }
 
 pub fn answer(
@@ -139,7 +121,18 @@ pub fn answer(
         Some(b'R') => sizes(out, read(book, bounds, coefs, rhs, kinds)),
         Some(b'T') => sizes(out, trailer(book)),
         Some(b'W') => written(out, write(n, m, bounds, coefs, rhs, kinds, book)),
-        Some(b'B') => round_trip(out, n, m, bounds, coefs, rhs, kinds, book),
+        Some(b'B') => {
+            let model = Model {
+                n,
+                m,
+                bounds,
+                coefs,
+                rhs,
+                kinds,
+                table: &[],
+            };
+            round_trip(out, model, book);
+        }
         _ => compare(out, words, book),
     }
 }
