@@ -40,7 +40,7 @@ fn print_allocations(rt: &(impl io::Input + Print + Eprint), printed: &mut usize
     let mut tail = [0u8; 16];
     match read_all(rt, &mut start, &mut tail)? {
         Ok(len) => answer(rt, &start, &tail, len, printed),
-        Err(refusal) => refused(rt, refusal, printed),
+        Err(refusal) => refused(rt, refusal.number(), printed),
     }
 }
 
@@ -77,11 +77,11 @@ fn answer(
         OnOk result (printed.new ≡ length (output bs)) }
 {
     if MAX_INPUT < len {
-        return refused(rt, Refusal::BookLength, printed);
+        return refused(rt, Refusal::BookLength.number(), printed);
     }
     let mut verdicts = [0u32; 128];
     match judge(&start[..len], &mut verdicts) {
-        Err(refusal) => refused(rt, refusal, printed),
+        Err(refusal) => refused(rt, refusal.number(), printed),
         Ok(count) => print_verdicts(rt, &verdicts[..2 * count], count, printed),
     }
 }

@@ -35,7 +35,7 @@ fn write_converted(rt: &(impl io::Input + Print + Eprint), printed: &mut usize) 
     let mut tail = [0u8; 16];
     match read_all(rt, &mut start, &mut tail)? {
         Ok(len) => answer(rt, &start, &tail, len, printed),
-        Err(refusal) => refused(rt, refusal, printed),
+        Err(refusal) => refused(rt, refusal.number(), printed),
     }
 }
 
@@ -55,7 +55,7 @@ fn answer(
 {
     let mut to = longest_sparse();
     match convert(start, tail, len, &mut to) {
-        Err(refusal) => refused(rt, refusal, printed),
+        Err(refusal) => refused(rt, refusal.number(), printed),
         Ok(end) => print(rt, &to[..end], printed),
     }
 }

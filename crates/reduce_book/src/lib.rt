@@ -39,7 +39,7 @@ pub fn program(
     let mut tail = [0u8; 16];
     match read_all(rt, &mut start, &mut tail)? {
         Ok(len) => answer(rt, &start, &tail, len, form, limit, printed),
-        Err(refusal) => refused(rt, refusal, printed),
+        Err(refusal) => refused(rt, refusal.number(), printed),
     }
 }
 
@@ -61,7 +61,7 @@ fn answer(
         OnOk result (printed.new ≡ length (printed_text form limit bs)) }
 {
     match intake::sizes(tail, len) {
-        Err(refusal) => refused(rt, refusal, printed),
+        Err(refusal) => refused(rt, refusal.number(), printed),
         Ok(sizes) => reduce(rt, sizes.n, sizes.m, &start[..len], form, limit, printed),
     }
 }
@@ -124,7 +124,7 @@ fn reduce_in(
     ensures { OnOk result (printed.new ≡ length (printed_text form limit book.now)) }
 {
     match solve(n, m, book, bounds, coefs, rhs, kinds, table, limit) {
-        Err(refusal) => refused(rt, refusal, printed),
+        Err(refusal) => refused(rt, refusal.number(), printed),
         Ok(None) => printing::none(rt, printed),
         Ok(Some(made)) => printing::left(rt, form, n, m, made, bounds, coefs, rhs, table, printed),
     }

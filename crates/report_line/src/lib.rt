@@ -5,22 +5,20 @@
 ghost use Rattle.std.specs.Prelude.{◌+◌, ◌≤◌, length};
 ghost use Rattle.report.specs.Report.{refused_line, none_line, reduced_line, variable_line, row_line, implication_line};
 ghost use Rattle.report.specs.Report.{max_row_line, max_short_line};
-ghost use Rattle.model.specs.Refusals.{number_of};
 ghost use Rattle.text.specs.Text.{Wrote};
 
-use model::refusal::Refusal;
 use text::number::{
     write_byte, write_integer, write_integers, write_long, write_natural, write_text,
 };
 
 // refused N
-pub fn write_refused(refusal: Refusal, buf: &mut [u8], at: usize) -> usize
+pub fn write_refused(number: u32, buf: &mut [u8], at: usize) -> usize
     requires { at + max_short_line ≤ length buf.old }
-    ensures text { Wrote buf.old at (refused_line (number_of refusal)) result buf.new }
+    ensures text { Wrote buf.old at (refused_line number) result buf.new }
     ensures room { result ≤ at + max_short_line }
 {
     let word = write_text(b"refused", buf, at);
-    let end = write_natural(refusal.number(), buf, word);
+    let end = write_natural(number, buf, word);
     write_byte(b'\n', buf, end)
 }
 

@@ -1,10 +1,8 @@
 // Standard output. `printed` counts the bytes that were written: so a contract can say that a text is printed once, and
 // whole. A write that fails is told on standard error.
 ghost use Rattle.std.specs.Prelude.{◌≡◌, ◌+◌, ◌<◌, OnOk, length};
-ghost use Rattle.model.specs.Refusals.{number_of};
 ghost use Rattle.report.specs.Report.{refused_line};
 
-use model::refusal::Refusal;
 use report_line::write_refused;
 use std::io;
 
@@ -26,11 +24,11 @@ pub fn print(rt: &(impl Print + Eprint), text: &[u8], printed: &mut usize) -> io
 }
 
 // Prints the line `refused N`.
-pub fn refused(rt: &(impl Print + Eprint), refusal: Refusal, printed: &mut usize) -> io::Result<()>
+pub fn refused(rt: &(impl Print + Eprint), number: u32, printed: &mut usize) -> io::Result<()>
     requires { printed.old ≡ 0 }
-    ensures { OnOk result (printed.new ≡ length (refused_line (number_of refusal))) }
+    ensures { OnOk result (printed.new ≡ length (refused_line number)) }
 {
     let mut buf = [0u8; 64];
-    let end = write_refused(refusal, &mut buf, 0);
+    let end = write_refused(number, &mut buf, 0);
     print(rt, &buf[..end], printed)
 }

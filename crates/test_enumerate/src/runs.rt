@@ -7,7 +7,7 @@ use rest::Rest;
 use rest_call::is_probing_fixpoint;
 use test_one_call::made::make;
 use test_points::models::put_model;
-use test_text::model::Model;
+use test_text::seen::Model;
 
 fn propagate_row(row: u32) -> Call {
     Call {

@@ -6,7 +6,7 @@ use crate::transcript::name;
 use call::{Call, PROBE, PROPAGATE, PROPAGATE_ROW, TIGHTEN_COEFFICIENT};
 use std::fmt::Display;
 use std::io::Stdout;
-use test_text::model::Model;
+use test_text::seen::Model;
 use test_text::print::{item, line, text};
 
 // A copy, in room that is lent for it.

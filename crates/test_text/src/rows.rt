@@ -1,7 +1,7 @@
 // A model as `reduce` prints it: its rows, and the recorded implications.
-use crate::model::Model;
 use crate::parts::columns;
 use crate::print::{item, line, list, number, numbers, text};
+use crate::seen::Model;
 use std::io::Stdout;
 
 // How the line of row r starts: r, row, b; of an = row, = before b.

@@ -11,7 +11,7 @@ returns-in-Err g c = λ bs h.
     let a = c.args in
     let r = c.in-Err.ensures in
     let within : a.len ≤ length a.start.now = omega (arith, c.requires.max_input_value.0) in
-    IfOk-equal c.refused-in-Err.result _ _ _ c.refused-in-Err.ensures
+    IfOk-equal c.refused-in-Err.result _ _ _ (rw c.number-in-Err.ensures at c.refused-in-Err.ensures)
     (ap length (output-refused (take a.len a.start.now) r.0 r.1 ∙ ap output (held_whole h within)))
 
 pub returns-in-Ok : goal.returns-in-Ok

@@ -6,7 +6,7 @@ use Rattle.convert.proofs.answer.Goals as goal
 
 pub returns-in-Err : goal.returns-in-Err
 unfolding answer_bytes
-returns-in-Err g c = λ bs h. IfOk-equal c.refused.result _ _ _ c.refused.ensures (ap length (c.in-Err.ensures.bytes bs h))
+returns-in-Err g c = λ bs h. IfOk-equal c.refused.result _ _ _ (rw c.number.ensures at c.refused.ensures) (ap length (c.in-Err.ensures.bytes bs h))
 
 pub returns-in-Ok : goal.returns-in-Ok
 unfolding answer_bytes

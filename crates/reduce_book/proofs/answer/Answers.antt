@@ -24,7 +24,7 @@ reduce-requires-clause-n_le_max_variables g c =
 pub returns-in-Err : goal.returns-in-Err
 unfolding sizes_answer
 returns-in-Err g c = λ bs h.
-    IfOk-equal c.refused.result _ _ _ c.refused.ensures
+    IfOk-equal c.refused.result _ _ _ (rw c.number.ensures at c.refused.ensures)
     (ap length (head-output c.args.form c.args.limit bs _ (c.in-Err.ensures.right bs h.size h.end)))
 
 pub returns-in-Ok : goal.returns-in-Ok

@@ -14,7 +14,7 @@ left-requires-clause-fact g c =
 
 pub returns-in-Err : goal.returns-in-Err
 unfolding answer_text
-returns-in-Err g c = IfOk-equal c.refused.result _ _ _ c.refused.ensures (ap length (c.in-Err.ensures.text c.args.form))
+returns-in-Err g c = IfOk-equal c.refused.result _ _ _ (rw c.number.ensures at c.refused.ensures) (ap length (c.in-Err.ensures.text c.args.form))
 
 pub returns-in-Ok-None : goal.returns-in-Ok-None
 unfolding answer_text

@@ -5,5 +5,4 @@ use Rattle.report_line.proofs.write_refused.Goals as goal
 
 pub returns-clause-text : goal.returns-clause-text
 unfolding refused_line
-returns-clause-text c =
-    rw (← c.number.ensures) (c.write_text-word.ensures ⨾ c.write_natural-end.ensures.text ⨾ c.write_byte.ensures)
+returns-clause-text c = c.write_text-word.ensures ⨾ c.write_natural-end.ensures.text ⨾ c.write_byte.ensures
