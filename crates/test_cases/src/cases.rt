@@ -34,8 +34,8 @@ use std::io::{Read, Stdin, Stdout};
 use test_one_call::copies;
 use test_one_call::transcript::step;
 use test_other_calls::{book_cases, clique_cases, plans, tied};
-use test_text::seen::Model;
 use test_text::parts::part_mut;
+use test_text::seen::Model;
 use test_text::words::behind;
 use test_text::{print, rows, words};
 

@@ -7,8 +7,8 @@ use rounds::RoundsMade;
 use test_one_call::made::{is_infeasible, make};
 use test_points::grid;
 use test_points::models::{boxes, put_model};
-use test_text::seen::Model;
 use test_text::parts::part_mut;
+use test_text::seen::Model;
 
 // A model by its number, its points, and the mistake put into what a call leaves.
 #[derive(Clone, Copy)]

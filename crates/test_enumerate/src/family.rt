@@ -7,8 +7,8 @@ use call::{Call, PROBE, PROPAGATE_ROW, REMOVE_ROW, TIGHTEN_COEFFICIENT};
 use std::io::Stdout;
 use test_points::models::put_model;
 use test_points::{grid, models};
-use test_text::seen::Model;
 use test_text::print::{item, line, text};
+use test_text::seen::Model;
 
 // What a family had, and what was found.
 #[derive(Clone, Copy, Default)]

@@ -6,8 +6,8 @@ use crate::transcript::name;
 use call::{Call, PROBE, PROPAGATE, PROPAGATE_ROW, TIGHTEN_COEFFICIENT};
 use std::fmt::Display;
 use std::io::Stdout;
-use test_text::seen::Model;
 use test_text::print::{item, line, text};
+use test_text::seen::Model;
 
 // A copy, in room that is lent for it.
 fn copied<'a, T: Copy>(from: &[T], room: &'a mut [T]) -> &'a mut [T] {

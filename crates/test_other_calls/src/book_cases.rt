@@ -4,9 +4,9 @@ use book_reading::read;
 use book_writing::write;
 use model::refusal::Refusal;
 use std::io::Stdout;
-use test_text::seen::Model;
 use test_text::parts::{part, part_mut};
 use test_text::print::{line, number, refused, text};
+use test_text::seen::Model;
 use test_text::words;
 
 fn sizes(out: Stdout, answer: Result<Sizes, Refusal>) {

@@ -1,7 +1,7 @@
 // The points of a model of at most four variables, and what holds at them. The points are those of a grid: every whole
 // number from -2 to 3 for each variable.
-use test_text::seen::Model;
 use test_text::parts::columns;
+use test_text::seen::Model;
 
 pub type Point = [i32; 4];
 
