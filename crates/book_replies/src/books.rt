@@ -3,10 +3,11 @@ ghost use Rattle.std.specs.Prelude.{◌∷◌, [], ◌≡◌, leb, length};
 ghost use Rattle.model.specs.Checks.{must};
 ghost use Rattle.book.specs.Answers.{write_answer};
 ghost use Rattle.book.specs.BookChecks.{head_checks};
-ghost use Rattle.replies.specs.Replies.{book_reply, returned, wrong_length};
+ghost use Rattle.replies.specs.Replies.{book_reply, numbered_reply, returned, wrong_length};
 
 use book::layout::{TRAILER, check_head};
 use model::refusal::Refusal;
+use replies::numbered::Numbered;
 
 // C is told numbers: the one by which a call on a trailer refuses an answer buffer of a wrong length, 1, else 5.
 pub fn trailer_fault(bytes: &[u8]) -> u32
@@ -28,8 +29,8 @@ pub fn read_fault(book: &[u8]) -> u32
     }
 }
 
-pub fn write_number(a: Result<(), Refusal>) -> u32
-    ensures { result ≡ returned (book_reply (write_answer a)) }
+pub fn write_number<E: Numbered>(a: Result<(), E>) -> u32
+    ensures { result ≡ returned (numbered_reply E.number (λ r. book_reply (write_answer r)) a) }
 {
     match a {
         Err(refusal) => refusal.number(),

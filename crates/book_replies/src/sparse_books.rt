@@ -1,16 +1,17 @@
 // The same of the calls on sparse books.
 ghost use Rattle.std.specs.Prelude.{◌≡◌};
-ghost use Rattle.replies.specs.Replies.{reply_of, wrong_length};
+ghost use Rattle.replies.specs.Replies.{numbered_reply, reply_of, wrong_length};
 ghost use Rattle.sparse_layout.specs.SparseChecks.{sparse_layout_checks};
 ghost use Rattle.sparse_calls.specs.SparseCalls.{length_answer};
 ghost use Rattle.book_replies.specs.SparseReplies.{length_reply};
 
 use model::refusal::Refusal;
+use replies::numbered::Numbered;
 use replies::reply::Reply;
 use sparse_reading::check_layout;
 
-pub fn length_reply(a: Result<usize, Refusal>) -> Reply
-    ensures { reply_of result ≡ length_reply (length_answer a) }
+pub fn length_reply<E: Numbered>(a: Result<usize, E>) -> Reply
+    ensures { reply_of result ≡ numbered_reply E.number (λ r. length_reply (length_answer r)) a }
 {
     match a {
         Err(refusal) => Reply::Refused(refusal.number()),

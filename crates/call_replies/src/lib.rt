@@ -8,13 +8,13 @@ ghost use Rattle.reducer.specs.OpenCalls.{probe_answer, propagate_answer, remove
 ghost use Rattle.reducer.specs.OpenCalls.{tighten_answer};
 ghost use Rattle.rounds.specs.Answers.{rounds_answer};
 ghost use Rattle.replies.specs.declared.reply.Reply.TheVariants.{Numbers};
-ghost use Rattle.replies.specs.Replies.{bit as bit_of, book_reply, call_reply, list_reply, reply_of, rest_reply};
-ghost use Rattle.replies.specs.Replies.{rounds_reply};
+ghost use Rattle.replies.specs.Replies.{bit as bit_of, book_reply, call_reply, list_reply, numbered_reply, reply_of};
+ghost use Rattle.replies.specs.Replies.{rest_reply, rounds_reply};
 
 use book::Sizes;
 use call::Counts;
-use model::refusal::Refusal;
 use propagation::Propagation;
+use replies::numbered::Numbered;
 use replies::reply::{Reply, bit};
 use rest::Rest;
 use rounds::RoundsMade;
@@ -24,8 +24,8 @@ use row::tightening::CoefficientTightening;
 use two_sides::Probing;
 
 #[tactic(auto, unfolding(replies::specs::Replies::call_reply, replies::specs::Replies::outcome_case, replies::specs::Replies::reply_of, reducer::specs::OpenCalls::row_answer))]
-pub fn row_reply(a: Result<RowPropagation, Refusal>) -> Reply
-    ensures { reply_of result ≡ call_reply (row_answer a) }
+pub fn row_reply<E: Numbered>(a: Result<RowPropagation, E>) -> Reply
+    ensures { reply_of result ≡ numbered_reply E.number (λ r. call_reply (row_answer r)) a }
 {
     match a {
         Ok(RowPropagation::Infeasible) => Reply::Numbers(0, 0, 0, 0),
@@ -42,8 +42,8 @@ fn propagated(case: u64, passes: u32, moved: u32) -> Reply
 }
 
 #[tactic(auto, unfolding(replies::specs::Replies::call_reply, replies::specs::Replies::ending_case, replies::specs::Replies::reply_of, reducer::specs::OpenCalls::propagate_answer))]
-pub fn propagate_reply(a: Result<Propagation, Refusal>) -> Reply
-    ensures { reply_of result ≡ call_reply (propagate_answer a) }
+pub fn propagate_reply<E: Numbered>(a: Result<Propagation, E>) -> Reply
+    ensures { reply_of result ≡ numbered_reply E.number (λ r. call_reply (propagate_answer r)) a }
 {
     match a {
         Err(refusal) => Reply::Refused(refusal.number()),
@@ -54,8 +54,8 @@ pub fn propagate_reply(a: Result<Propagation, Refusal>) -> Reply
 }
 
 #[tactic(auto, unfolding(replies::specs::Replies::call_reply, replies::specs::Replies::probe_ended, replies::specs::Replies::reply_of, reducer::specs::OpenCalls::probe_answer))]
-pub fn probe_reply(a: Result<Probing, Refusal>) -> Reply
-    ensures { reply_of result ≡ call_reply (probe_answer a) }
+pub fn probe_reply<E: Numbered>(a: Result<Probing, E>) -> Reply
+    ensures { reply_of result ≡ numbered_reply E.number (λ r. call_reply (probe_answer r)) a }
 {
     match a {
         Err(refusal) => Reply::Refused(refusal.number()),
@@ -66,8 +66,8 @@ pub fn probe_reply(a: Result<Probing, Refusal>) -> Reply
 }
 
 #[tactic(auto, unfolding(replies::specs::Replies::call_reply, replies::specs::Replies::outcome_case, replies::specs::Replies::reply_of, reducer::specs::OpenCalls::tighten_answer))]
-pub fn tighten_reply(a: Result<CoefficientTightening, Refusal>) -> Reply
-    ensures { reply_of result ≡ call_reply (tighten_answer a) }
+pub fn tighten_reply<E: Numbered>(a: Result<CoefficientTightening, E>) -> Reply
+    ensures { reply_of result ≡ numbered_reply E.number (λ r. call_reply (tighten_answer r)) a }
 {
     match a {
         Err(refusal) => Reply::Refused(refusal.number()),
@@ -78,8 +78,8 @@ pub fn tighten_reply(a: Result<CoefficientTightening, Refusal>) -> Reply
 }
 
 #[tactic(auto, unfolding(replies::specs::Replies::call_reply, replies::specs::Replies::outcome_case, replies::specs::Replies::reply_of, reducer::specs::OpenCalls::remove_answer))]
-pub fn remove_reply(a: Result<RowRemoval, Refusal>) -> Reply
-    ensures { reply_of result ≡ call_reply (remove_answer a) }
+pub fn remove_reply<E: Numbered>(a: Result<RowRemoval, E>) -> Reply
+    ensures { reply_of result ≡ numbered_reply E.number (λ r. call_reply (remove_answer r)) a }
 {
     match a {
         Err(refusal) => Reply::Refused(refusal.number()),
@@ -90,8 +90,8 @@ pub fn remove_reply(a: Result<RowRemoval, Refusal>) -> Reply
 }
 
 #[tactic(auto, unfolding(replies::specs::Replies::rest_reply, replies::specs::Replies::reply_of, reducer::specs::OpenCalls::rest_verdict))]
-pub fn rest_reply(a: Result<Rest, Refusal>) -> Reply
-    ensures { reply_of result ≡ rest_reply (rest_verdict a) }
+pub fn rest_reply<E: Numbered>(a: Result<Rest, E>) -> Reply
+    ensures { reply_of result ≡ numbered_reply E.number (λ r. rest_reply (rest_verdict r)) a }
 {
     match a {
         Err(refusal) => Reply::Refused(refusal.number()),
@@ -102,8 +102,8 @@ pub fn rest_reply(a: Result<Rest, Refusal>) -> Reply
 }
 
 #[tactic(auto, unfolding(replies::specs::Replies::list_reply, replies::specs::Replies::reply_of, flat_list::specs::ListAnswers::list_answer, call::specs::Classes::counts_of))]
-pub fn run_reply(a: Result<Counts, Refusal>) -> Reply
-    ensures { reply_of result ≡ list_reply (list_answer a) }
+pub fn run_reply<E: Numbered>(a: Result<Counts, E>) -> Reply
+    ensures { reply_of result ≡ numbered_reply E.number (λ r. list_reply (list_answer r)) a }
 {
     match a {
         Err(refusal) => Reply::Refused(refusal.number()),
@@ -123,8 +123,8 @@ fn ended(case: u64, made: u64, spent: bool) -> Reply
 }
 
 #[tactic(auto, unfolding(replies::specs::Replies::rounds_reply, replies::specs::Replies::rounds_case, replies::specs::Replies::reply_of, rounds::specs::Answers::rounds_answer))]
-pub fn rounds_reply(a: Result<RoundsMade, Refusal>) -> Reply
-    ensures { reply_of result ≡ rounds_reply (rounds_answer a) }
+pub fn rounds_reply<E: Numbered>(a: Result<RoundsMade, E>) -> Reply
+    ensures { reply_of result ≡ numbered_reply E.number (λ r. rounds_reply (rounds_answer r)) a }
 {
     match a {
         Err(refusal) => Reply::Refused(refusal.number()),
@@ -135,8 +135,8 @@ pub fn rounds_reply(a: Result<RoundsMade, Refusal>) -> Reply
 }
 
 #[tactic(auto, unfolding(replies::specs::Replies::book_reply, replies::specs::Replies::reply_of, book::specs::Answers::sizes_answer))]
-pub fn sizes_reply(a: Result<Sizes, Refusal>) -> Reply
-    ensures { reply_of result ≡ book_reply (sizes_answer a) }
+pub fn sizes_reply<E: Numbered>(a: Result<Sizes, E>) -> Reply
+    ensures { reply_of result ≡ numbered_reply E.number (λ r. book_reply (sizes_answer r)) a }
 {
     match a {
         Err(refusal) => Reply::Refused(refusal.number()),

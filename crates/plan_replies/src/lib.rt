@@ -4,14 +4,14 @@
 ghost use Rattle.std.specs.Prelude.{◌≡◌, length};
 ghost use Rattle.plan.specs.Answers.{lengths_answer, passes_answer, width_answer};
 ghost use Rattle.plan.specs.Lengths.{lengths_of};
-ghost use Rattle.replies.specs.Replies.{answer_length, lengths_reply, plan_reply, reply_of, returned, written};
+ghost use Rattle.replies.specs.Replies.{answer_length, lengths_reply, numbered_reply, plan_reply, reply_of, returned, written};
 
-use model::refusal::Refusal;
 use plan::{BoxBudget, BufferLengths, PassLimit};
+use replies::numbered::Numbered;
 use replies::reply::{Reply, clear};
 
-pub fn width_reply(a: Result<BoxBudget, Refusal>) -> Reply
-    ensures { reply_of result ≡ plan_reply (width_answer a) }
+pub fn width_reply<E: Numbered>(a: Result<BoxBudget, E>) -> Reply
+    ensures { reply_of result ≡ numbered_reply E.number (λ r. plan_reply (width_answer r)) a }
 {
     match a {
         Err(refusal) => Reply::Refused(refusal.number()),
@@ -19,8 +19,8 @@ pub fn width_reply(a: Result<BoxBudget, Refusal>) -> Reply
     }
 }
 
-pub fn passes_reply(a: Result<PassLimit, Refusal>) -> Reply
-    ensures { reply_of result ≡ plan_reply (passes_answer a) }
+pub fn passes_reply<E: Numbered>(a: Result<PassLimit, E>) -> Reply
+    ensures { reply_of result ≡ numbered_reply E.number (λ r. plan_reply (passes_answer r)) a }
 {
     match a {
         Err(refusal) => Reply::Refused(refusal.number()),
@@ -48,10 +48,10 @@ fn put_lengths(l: BufferLengths, answer: &mut [u64])
 }
 
 // Writes the answer of the call on a trailer: as `put` does, but for more numbers than a `Reply` holds.
-pub fn put_plan(a: Result<BufferLengths, Refusal>, answer: &mut [u64]) -> u32
+pub fn put_plan<E: Numbered>(a: Result<BufferLengths, E>, answer: &mut [u64]) -> u32
     requires { length answer.old ≡ answer_length }
-    ensures number { result ≡ returned (plan_reply (lengths_answer a)) }
-    ensures answer { answer.new ≡ written (plan_reply (lengths_answer a)) answer.old }
+    ensures number { result ≡ returned (numbered_reply E.number (λ r. plan_reply (lengths_answer r)) a) }
+    ensures answer { answer.new ≡ written (numbered_reply E.number (λ r. plan_reply (lengths_answer r)) a) answer.old }
 {
     match a {
         Err(refusal) => refusal.number(),

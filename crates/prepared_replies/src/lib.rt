@@ -5,15 +5,15 @@
 ghost use Rattle.std.specs.Prelude.{◌≡◌, length};
 ghost use Rattle.prepared_call.specs.PreparedCall.{infeasible_row, prepared_answer};
 ghost use Rattle.prepared_probe.specs.ProbeAnswers.{prepared_probe_answer, row0_of, row1_of};
-ghost use Rattle.replies.specs.Replies.{answer_length, call_reply, reply_of, returned, written};
+ghost use Rattle.replies.specs.Replies.{answer_length, call_reply, numbered_reply, reply_of, returned, written};
 ghost use Rattle.replies.specs.declared.reply.Reply.TheVariants.{Numbers};
 ghost use Rattle.prepared_replies.specs.PreparedReplies.{prepared_reply, with_rows};
 
 use call_replies::probe_reply;
-use model::refusal::Refusal;
 use prepared_call::PreparedPropagation;
 use prepared_propagation::reasons::NO_ROW;
 use prepared_sides::ProbedSides;
+use replies::numbered::Numbered;
 use replies::reply::{Reply, put};
 
 fn ended(case: u64, passes: u32, moved: u32, row: u32) -> Reply
@@ -23,8 +23,8 @@ fn ended(case: u64, passes: u32, moved: u32, row: u32) -> Reply
 }
 
 #[tactic(auto, unfolding(replies::specs::Replies::call_reply, replies::specs::Replies::ending_case, replies::specs::Replies::reply_of, prepared_call::specs::PreparedCall::prepared_answer, prepared_call::specs::PreparedCall::infeasible_row, crate::specs::PreparedReplies::prepared_reply))]
-pub fn prepared_reply(told: Result<PreparedPropagation, Refusal>) -> Reply
-    ensures { reply_of result ≡ prepared_reply (prepared_answer told) (infeasible_row told) }
+pub fn prepared_reply<E: Numbered>(told: Result<PreparedPropagation, E>) -> Reply
+    ensures { reply_of result ≡ numbered_reply E.number (λ r. prepared_reply (prepared_answer r) (infeasible_row r)) told }
 {
     match told {
         Err(refusal) => Reply::Refused(refusal.number()),
@@ -35,16 +35,17 @@ pub fn prepared_reply(told: Result<PreparedPropagation, Refusal>) -> Reply
 }
 
 // Writes the reply to a probe: after the places of any probe the two rows.
-pub fn put_probe(told: Result<ProbedSides, Refusal>, answer: &mut [u64]) -> u32
+pub fn put_probe<E: Numbered>(told: Result<ProbedSides, E>, answer: &mut [u64]) -> u32
     requires { length answer.old ≡ answer_length }
-    ensures number { result ≡ returned (with_rows (call_reply (prepared_probe_answer told)) (row0_of told) (row1_of told)) }
-    ensures answer { answer.new
-        ≡ written (with_rows (call_reply (prepared_probe_answer told)) (row0_of told) (row1_of told)) answer.old }
+    ensures number { let said = λ r. with_rows (call_reply (prepared_probe_answer r)) (row0_of r) (row1_of r) in
+        result ≡ returned (numbered_reply E.number said told) }
+    ensures answer { let said = λ r. with_rows (call_reply (prepared_probe_answer r)) (row0_of r) (row1_of r) in
+        answer.new ≡ written (numbered_reply E.number said told) answer.old }
 {
     match told {
         Err(refusal) => refusal.number(),
         Ok(sides) => {
-            put(probe_reply(Ok(sides.probing)), answer);
+            put(probe_reply::<E>(Ok(sides.probing)), answer);
             answer[8] = sides.row0 as u64;
             answer[9] = sides.row1 as u64;
             0

@@ -1,8 +1,9 @@
 -- What a call of the C interface says: the number that it returns and the twelve places of its answer, for each answer of the calls
 -- behind it. Words in quotation marks are D-28's (docs/DECISIONS.md).
-use Rattle.std.specs.Prelude.{suc, zero, ℕ, Bool, cond, false, List, [], ◌++◌, ◌∷◌}
+use Rattle.std.specs.Prelude.{suc, zero, ℕ, Bool, cond, false, List, [], ◌++◌, ◌∷◌, Result, Ok, Err}
 use Rattle.book.specs.Answers as books
 use Rattle.model.specs.Checks.{Check, first, must}
+use Rattle.model.specs.declared.refusal.Refusal.{Refusal}
 use Rattle.plan.specs.Answers as plans
 use Rattle.plan.specs.Lengths.{Lengths}
 use Rattle.two_sides.specs.Results.{report_of}
@@ -46,6 +47,12 @@ returned (places xs) = 0
 unfoldable pub written : Reply → List ℕ → List ℕ
 written (refused_by number) A = A
 written (places xs) A = xs
+
+-- the reply to an answer whose errors have numbers: an error is refused by its own, whether a check has that number or not, and of any
+-- other answer f says what is said. Of a refusal it is what f says too (`numbered-named`)
+abbrev pub numbered_reply : {X E : Type 0} → (E → ℕ) → (Result X Refusal → Reply) → Result X E → Reply
+numbered_reply number f (Err e) = refused_by (number e)
+numbered_reply number f (Ok x) = f (Ok x)
 
 -- ---- the five calls of a call list
 

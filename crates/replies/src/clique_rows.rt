@@ -2,14 +2,14 @@
 ghost use Rattle.std.specs.Prelude.{◌≡◌};
 ghost use Rattle.clique_call.specs.CliqueAnswers.{cliques_answer};
 ghost use Rattle.replies.specs.CliqueReplies.{clique_reply};
-ghost use Rattle.replies.specs.Replies.{reply_of};
+ghost use Rattle.replies.specs.Replies.{numbered_reply, reply_of};
 
+use crate::numbered::Numbered;
 use crate::reply::Reply;
-use model::refusal::Refusal;
 
 #[tactic(auto, unfolding(clique_call::specs::CliqueAnswers::cliques_answer, crate::specs::CliqueReplies::clique_reply, crate::specs::Replies::reply_of))]
-pub fn cliques_reply(a: Result<usize, Refusal>) -> Reply
-    ensures { reply_of result ≡ clique_reply (cliques_answer a) }
+pub fn cliques_reply<E: Numbered>(a: Result<usize, E>) -> Reply
+    ensures { reply_of result ≡ numbered_reply E.number (λ r. clique_reply (cliques_answer r)) a }
 {
     match a {
         Err(refusal) => Reply::Refused(refusal.number()),

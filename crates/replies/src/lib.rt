@@ -3,6 +3,7 @@
 #![tactic(auto)]
 
 pub mod clique_rows;
+pub mod numbered;
 pub mod paper;
 pub mod reply;
 pub mod tied;

@@ -1,15 +1,15 @@
 // What the call that ties two variables says.
 ghost use Rattle.std.specs.Prelude.{◌≡◌};
 ghost use Rattle.tie_call.specs.TieAnswers.{tie_answer};
-ghost use Rattle.replies.specs.Replies.{reply_of, tie_reply};
+ghost use Rattle.replies.specs.Replies.{numbered_reply, reply_of, tie_reply};
 
+use crate::numbered::Numbered;
 use crate::reply::Reply;
-use model::refusal::Refusal;
 use tie_call::TieMade;
 
 #[tactic(auto, unfolding(tie_call::specs::TieAnswers::tie_answer, crate::specs::Replies::tie_reply, crate::specs::Replies::reply_of))]
-pub fn tie_reply(a: Result<TieMade, Refusal>) -> Reply
-    ensures { reply_of result ≡ tie_reply (tie_answer a) }
+pub fn tie_reply<E: Numbered>(a: Result<TieMade, E>) -> Reply
+    ensures { reply_of result ≡ numbered_reply E.number (λ r. tie_reply (tie_answer r)) a }
 {
     match a {
         Err(refusal) => Reply::Refused(refusal.number()),

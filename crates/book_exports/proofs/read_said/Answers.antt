@@ -2,6 +2,7 @@
 use Rattle.std.proofs.Common.{◌∙◌, ap}
 use Rattle.exports.specs.Exports.{read_export}
 use Rattle.replies.specs.Replies.{book_reply}
+use Rattle.call_replies.proofs.NamedLaws.{sizes-named}
 use Rattle.exports.proofs.BookLaws.{book-refused, book-replied, lent-after, lent-stays}
 use Rattle.book_exports.proofs.read_said.Goals as goal
 
@@ -25,7 +26,7 @@ returns c =
     let right = c.if-answer-ne-ANSWER.false in
     let e = c.read.ensures in
     record {
-      answered = book-replied a.answer.now _ right (c.put.ensures.number, c.put.ensures.answer) (c.sizes_reply.ensures ∙ ap book_reply e.answer);
+      answered = book-replied a.answer.now _ right (c.put.ensures.number, c.put.ensures.answer) (c.sizes_reply.ensures ∙ sizes-named c.read.result ∙ ap book_reply e.answer);
       bounds_read = lent-after a.answer.now a.bounds.now right e.bounds_read;
       coefs_read = lent-after a.answer.now a.coefs.now right e.coefs_read;
       rhs_read = lent-after a.answer.now a.rhs.now right e.rhs_read;

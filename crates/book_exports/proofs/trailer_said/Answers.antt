@@ -2,6 +2,7 @@
 use Rattle.std.proofs.Common.{◌∙◌, ap}
 use Rattle.replies.specs.Replies.{book_reply}
 use Rattle.exports.specs.Exports.{trailer_export}
+use Rattle.call_replies.proofs.NamedLaws.{sizes-named}
 use Rattle.exports.proofs.BookLaws.{book-refused, book-replied}
 use Rattle.book_exports.proofs.trailer_said.Goals as goal
 
@@ -12,4 +13,4 @@ returns-then-answer-ne-ANSWER c = book-refused c.args.answer.now _ _ c.if-answer
 pub returns : goal.returns
 unfolding trailer_export
 returns c =
-    book-replied c.args.answer.now _ c.if-answer-ne-ANSWER.false (c.put.ensures.number, c.put.ensures.answer) (c.sizes_reply.ensures ∙ ap book_reply c.trailer.ensures)
+    book-replied c.args.answer.now _ c.if-answer-ne-ANSWER.false (c.put.ensures.number, c.put.ensures.answer) (c.sizes_reply.ensures ∙ sizes-named c.trailer.result ∙ ap book_reply c.trailer.ensures)

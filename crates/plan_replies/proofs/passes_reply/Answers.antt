@@ -5,8 +5,8 @@ use Rattle.plan_replies.proofs.passes_reply.Goals as goal
 
 pub returns-in-Err : goal.returns-in-Err
 unfolding plan_reply passes_answer reply_of
-returns-in-Err c = rw (c.in-Err.is, c.number.ensures)
+returns-in-Err g c = rw (c.in-Err.is, c.number.ensures)
 
 pub returns-in-Ok : goal.returns-in-Ok
 unfolding plan_reply passes_answer reply_of
-returns-in-Ok c = rw c.in-Ok.is
+returns-in-Ok g c = rw c.in-Ok.is

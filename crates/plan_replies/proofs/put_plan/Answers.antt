@@ -6,8 +6,8 @@ use Rattle.plan_replies.proofs.put_plan.Goals as goal
 
 pub returns-in-Err : goal.returns-in-Err
 unfolding plan_reply lengths_answer returned written
-returns-in-Err c = rw (c.in-Err.is, c.number.ensures) (record { number = refl; answer = refl })
+returns-in-Err g c = rw (c.in-Err.is, c.number.ensures) (record { number = refl; answer = refl })
 
 pub returns-in-Ok : goal.returns-in-Ok
 unfolding plan_reply lengths_reply lengths_answer returned written
-returns-in-Ok c = rw c.in-Ok.is (record { number = refl; answer = c.put_lengths.ensures })
+returns-in-Ok g c = rw c.in-Ok.is (record { number = refl; answer = c.put_lengths.ensures })

@@ -14,6 +14,7 @@ use Rattle.prepared_model.specs.Prepared.{Prepared}
 use Rattle.prepared_model.specs.ProbeReasons.{ProbeReasons, probe_reasons}
 use Rattle.prepared_probe.specs.ProbeAnswers.{prepared_probe_answer, row0_of, row1_of}
 use Rattle.prepared_replies.specs.PreparedReplies.{with_rows}
+use Rattle.prepared_replies.proofs.NamedLaws.{probe-named}
 use Rattle.prepared_replies.proofs.ReplyLaws.{call-accepted, call-refusal, fault-short, fault-whole, rows-refusal, rows-returned, short-refused}
 use Rattle.prepared_sides.specs.declared.ProbedSides.{ProbedSides}
 use Rattle.reducer.specs.OpenCalls.{performed}
@@ -57,7 +58,9 @@ returns c =
     let p = c.probe.ensures in
     let r = c.probe.result in
     let x = prepared_probe_answer r in
-    let put = c.put_probe.ensures in
+    let named = probe-named r in
+    let number = c.put_probe.ensures.number ∙ ap returned named in
+    let writes = c.put_probe.ensures.answer ∙ ap (λ (q : Reply). written q A) named in
     let whole = fault-whole A fault c.if-answer-ne-ANSWER.false in
     record {
       refused =
@@ -65,14 +68,14 @@ returns c =
           let f = p.refused (λ z. h (whole ∙ z)) in
           let e = rows-refusal f.0 (row0_of r) (row1_of r) in
           let said = call-refusal f.0 A in
-          (put.number ∙ ap returned e ∙ said.0 ∙ sym whole, f.1, f.2, f.3, f.4, put.answer ∙ ap (λ (q : Reply). written q A) e ∙ said.1);
-      accepted = λ z. put.number ∙ rows-returned (call_reply x) (row0_of r) (row1_of r) ∙ call-accepted x (p.accepted (sym whole ∙ z)).0;
+          (number ∙ ap returned e ∙ said.0 ∙ sym whole, f.1, f.2, f.3, f.4, writes ∙ ap (λ (q : Reply). written q A) e ∙ said.1);
+      accepted = λ z. number ∙ rows-returned (call_reply x) (row0_of r) (row1_of r) ∙ call-accepted x (p.accepted (sym whole ∙ z)).0;
       defined =
           λ M P fits right.
           let d = p.defined M P fits in
           let told = probe_reasons a.variable a.budget (variables_of W) (rows_in W) M a.bounds.now (length a.reasons.now) in
           let q = same_rows fault r told (λ n. (p.refused n).0) (λ z. p.reasons z M P) ∙ ap (λ (w : Performed). with_rows (call_reply w.answer) told.row0 told.row1) d in
-          (record { returns = put.number ∙ ap returned q; writes = put.answer ∙ ap (λ (q : Reply). written q A) q }, ap (λ (w : Performed). w.state) d);
+          (record { returns = number ∙ ap returned q; writes = writes ∙ ap (λ (q : Reply). written q A) q }, ap (λ (w : Performed). w.state) d);
       reasons = λ M P z. ap (λ (w : ProbeReasons). w.movers) (p.reasons (sym whole ∙ z) M P);
       prepared = p.prepared;
     }

@@ -15,6 +15,7 @@ use Rattle.prepared_model.specs.Layout.{rows_in, variables_of}
 use Rattle.prepared_model.specs.Prepared.{Prepared}
 use Rattle.prepared_model.specs.Reasons.{Reasons, reasons_of}
 use Rattle.prepared_replies.specs.PreparedReplies.{prepared_reply}
+use Rattle.prepared_replies.proofs.NamedLaws.{prepared-named}
 use Rattle.prepared_replies.proofs.ReplyLaws.{fault-short, fault-whole, prepared-accepted, prepared-refusal, row-unsaid, short-refused}
 use Rattle.reducer.specs.OpenCalls.{performed}
 use Rattle.replies.specs.Replies.{Reply, returned, written}
@@ -60,7 +61,7 @@ returns c =
     let p = c.propagate.ensures in
     let r = c.propagate.result in
     let put = c.put.ensures in
-    let e = c.prepared_reply.ensures in
+    let e = c.prepared_reply.ensures ∙ prepared-named r in
     let whole = fault-whole A (propagate_fault W B R budget) c.if-answer-ne-ANSWER.false in
     record {
       refused =

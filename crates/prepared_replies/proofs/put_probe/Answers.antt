@@ -15,11 +15,11 @@ use Rattle.prepared_replies.proofs.ReplyLaws.{call-accepted, rows-returned, rows
 use Rattle.prepared_replies.proofs.put_probe.Goals as goal
 
 pub bounds-answer-9 : goal.bounds-answer-9
-bounds-answer-9 c = simp length-set (omega (arith, c.put.auto.answer, c.requires))
+bounds-answer-9 g c = simp length-set (omega (arith, c.put.auto.answer, c.requires))
 
 pub returns-in-Ok : goal.returns-in-Ok
 unfolding is_refused
-returns-in-Ok c =
+returns-in-Ok g c =
     let p = c.in-Ok.sides in
     let a = probing_answer p.probing in
     let said = c.put.ensures.answer ∙ ap (λ (q : Reply). written q c.args.answer.now) c.probe_reply.ensures ∙ ap (λ (x : Answer). written (call_reply x) c.args.answer.now) (probing-told p.probing) in
@@ -30,4 +30,4 @@ returns-in-Ok c =
 
 pub returns-in-Err : goal.returns-in-Err
 unfolding call_reply with_rows returned written
-returns-in-Err c = rw c.in-Err.is (record { number = c.number.ensures; answer = refl })
+returns-in-Err g c = rw c.in-Err.is (record { number = c.number.ensures; answer = refl })

@@ -1,9 +1,11 @@
 -- `rest_exports::rest_said`: a wrong answer length, or the answer of the open call, written. Assumes nothing.
 use borrow.Author.Rules.{rules}
 use mathlib.Core.List.{[]}
+use mathlib.Core.Path.{◌∙◌}
 use Rattle.reducer.specs.OpenCalls.{rest_verdict}
 use Rattle.model.specs.Rows.{rows_of}
 use Rattle.model.specs.State.{State, state_of}
+use Rattle.call_replies.proofs.NamedLaws.{rest-named}
 use Rattle.exports.proofs.ExportLaws.{rest-refused, rest-replied}
 use Rattle.rest_exports.proofs.rest_said.Statement.{statement}
 use Rattle.rest_exports.proofs.rest_said.Tie as tie
@@ -34,7 +36,7 @@ returns-2 : tie.Need-returns
 returns-2 c =
     let p = c.before.before.before.before.before in
     let s = p.before.before.before.before in
-    rest-replied s.args.answer.now (before s) (rest_verdict p.is_probing_fixpoint.result) p.if-answer-ne-ANSWER.false c.put.ensures c.rest_reply.ensures
+    rest-replied s.args.answer.now (before s) (rest_verdict p.is_probing_fixpoint.result) p.if-answer-ne-ANSWER.false c.put.ensures (c.rest_reply.ensures ∙ rest-named p.is_probing_fixpoint.result)
     p.is_probing_fixpoint.ensures.0
 
 pub rest_said_spec : {M : Type 1} → statement M

@@ -5,8 +5,8 @@ use Rattle.book_replies.proofs.books.write_number.Goals as goal
 
 pub returns-in-Err : goal.returns-in-Err
 unfolding returned book_reply write_answer
-returns-in-Err c = rw c.in-Err.is c.number.ensures
+returns-in-Err g c = rw c.in-Err.is c.number.ensures
 
 pub returns-in-Ok : goal.returns-in-Ok
 unfolding returned book_reply write_answer
-returns-in-Ok c = rw c.in-Ok.is
+returns-in-Ok g c = rw c.in-Ok.is

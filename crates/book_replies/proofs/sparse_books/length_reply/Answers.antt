@@ -7,8 +7,8 @@ use Rattle.book_replies.proofs.sparse_books.length_reply.Goals as goal
 
 pub returns-in-Err : goal.returns-in-Err
 unfolding length_reply length_answer reply_of
-returns-in-Err c = rw c.in-Err.is (ap refused_by c.number.ensures)
+returns-in-Err g c = rw c.in-Err.is (ap refused_by c.number.ensures)
 
 pub returns-in-Ok : goal.returns-in-Ok
 unfolding length_reply length_answer reply_of
-returns-in-Ok c = rw c.in-Ok.is
+returns-in-Ok g c = rw c.in-Ok.is

@@ -1,5 +1,7 @@
 -- `capi::clique_rows::astrolabe_cliques`: a wrong answer length after 3, or the answer of the open call, written. Assumes nothing.
+use mathlib.Core.Path.{◌∙◌}
 use Rattle.clique_call.specs.CliqueAnswers.{cliques_answer, performed_cliques}
+use Rattle.replies.proofs.NamedLaws.{cliques-named}
 use Rattle.exports.proofs.CliqueLaws.{cliques-refused, cliques-replied}
 use borrow.Author.Rules.{rules}
 use Rattle.capi.proofs.clique_rows.astrolabe_cliques.Statement.{statement}
@@ -37,7 +39,7 @@ returns-2 c =
     let p = c.before.before.before.before.before.before.before in
     let s = p.args in
     cliques-replied s.answer.now s.n s.table.now s.coefs.now s.rhs.now (cliques_answer p.cliques.result) p.cliques.new.coefs p.cliques.new.rhs
-    p.if-answer-ne-ANSWER.false c.put.ensures c.cliques_reply.ensures p.cliques.ensures.0
+    p.if-answer-ne-ANSWER.false c.put.ensures (c.cliques_reply.ensures ∙ cliques-named p.cliques.result) p.cliques.ensures.0
 
 pub astrolabe_cliques_spec : {M : Type 1} → statement M
 astrolabe_cliques_spec =

@@ -3,9 +3,11 @@ use Prim.Native.Nat.{ℕ}
 use borrow.Author.Rules.{rules}
 use lib.IntN.{ℤ}
 use mathlib.Core.List.{List}
+use mathlib.Core.Path.{◌∙◌}
 use Rattle.reducer.specs.OpenCalls.{probe_answer}
 use Rattle.model.specs.Rows.{rows_of}
 use Rattle.model.specs.State.{State, state_of}
+use Rattle.call_replies.proofs.NamedLaws.{probe-named}
 use Rattle.exports.proofs.ExportLaws.{call-refused, call-replied}
 use Rattle.capi.proofs.model_calls.astrolabe_probe.Statement.{statement}
 use Rattle.capi.proofs.model_calls.astrolabe_probe.Tie as tie
@@ -47,7 +49,7 @@ returns-2 c =
     let p = c.before.before.before.before.before.before.before.before in
     let s = p.before.before.before.before.before.before.before in
     call-replied s.args.answer.now (before s) (state s p.probe.new.bounds p.probe.new.table) 3 0 s.args.variable s.args.budget (probe_answer p.probe.result) p.if-answer-ne-ANSWER.false
-    c.put.ensures c.probe_reply.ensures p.probe.ensures.0
+    c.put.ensures (c.probe_reply.ensures ∙ probe-named p.probe.result) p.probe.ensures.0
 
 pub astrolabe_probe_spec : {M : Type 1} → statement M
 astrolabe_probe_spec =

@@ -2,9 +2,11 @@
 use borrow.Author.Rules.{rules}
 use lib.IntN.{ℤ}
 use mathlib.Core.List.{List, []}
+use mathlib.Core.Path.{◌∙◌}
 use Rattle.reducer.specs.OpenCalls.{propagate_answer}
 use Rattle.model.specs.Rows.{rows_of}
 use Rattle.model.specs.State.{State, state_of}
+use Rattle.call_replies.proofs.NamedLaws.{propagate-named}
 use Rattle.exports.proofs.ExportLaws.{call-refused, call-replied}
 use Rattle.capi.proofs.model_calls.astrolabe_propagate.Statement.{statement}
 use Rattle.capi.proofs.model_calls.astrolabe_propagate.Tie as tie
@@ -43,7 +45,7 @@ returns-2 c =
     let p = c.before.before.before.before.before.before in
     let s = p.before.before.before.before.before in
     call-replied s.args.answer.now (before s) (state s p.propagate.new.bounds) 2 0 0 s.args.budget (propagate_answer p.propagate.result) p.if-answer-ne-ANSWER.false
-    c.put.ensures c.propagate_reply.ensures p.propagate.ensures.0
+    c.put.ensures (c.propagate_reply.ensures ∙ propagate-named p.propagate.result) p.propagate.ensures.0
 
 pub astrolabe_propagate_spec : {M : Type 1} → statement M
 astrolabe_propagate_spec =

@@ -2,9 +2,11 @@
 use borrow.Author.Rules.{rules}
 use lib.IntN.{ℤ}
 use mathlib.Core.List.{List, []}
+use mathlib.Core.Path.{◌∙◌}
 use Rattle.reducer.specs.OpenCalls.{row_answer}
 use Rattle.model.specs.Rows.{rows_of}
 use Rattle.model.specs.State.{State, state_of}
+use Rattle.call_replies.proofs.NamedLaws.{row-named}
 use Rattle.exports.proofs.ExportLaws.{call-refused, call-replied}
 use Rattle.capi.proofs.model_calls.astrolabe_propagate_row.Statement.{statement}
 use Rattle.capi.proofs.model_calls.astrolabe_propagate_row.Tie as tie
@@ -43,7 +45,7 @@ returns-2 c =
     let p = c.before.before.before.before.before.before in
     let s = p.before.before.before.before.before in
     call-replied s.args.answer.now (before s) (state s p.propagate_row.new.bounds) 1 s.args.row 0 0 (row_answer p.propagate_row.result) p.if-answer-ne-ANSWER.false
-    c.put.ensures c.row_reply.ensures p.propagate_row.ensures.0
+    c.put.ensures (c.row_reply.ensures ∙ row-named p.propagate_row.result) p.propagate_row.ensures.0
 
 pub astrolabe_propagate_row_spec : {M : Type 1} → statement M
 astrolabe_propagate_row_spec =

@@ -1,9 +1,11 @@
 -- `capi::model_calls::astrolabe_remove_redundant_row`: a wrong answer length, or the answer of the open call, written. Assumes nothing.
 use borrow.Author.Rules.{rules}
 use mathlib.Core.List.{[]}
+use mathlib.Core.Path.{◌∙◌}
 use Rattle.reducer.specs.OpenCalls.{remove_answer}
 use Rattle.model.specs.Rows.{Rows, rows_of}
 use Rattle.model.specs.State.{State, state_of}
+use Rattle.call_replies.proofs.NamedLaws.{remove-named}
 use Rattle.exports.proofs.ExportLaws.{call-refused, call-replied}
 use Rattle.capi.proofs.model_calls.astrolabe_remove_redundant_row.Statement.{statement}
 use Rattle.capi.proofs.model_calls.astrolabe_remove_redundant_row.Tie as tie
@@ -48,7 +50,7 @@ returns-2 c =
     let p = c.before.before.before.before.before.before.before.before.before in
     let s = p.before.before.before.before.before.before.before in
     call-replied s.args.answer.now (before s) (state s (rows_of p.remove_redundant_row.new.coefs p.remove_redundant_row.new.rhs p.remove_redundant_row.new.kinds)) 5 s.args.row 0 0 (remove_answer p.remove_redundant_row.result) p.if-answer-ne-ANSWER.false
-    c.put.ensures c.remove_reply.ensures p.remove_redundant_row.ensures.0
+    c.put.ensures (c.remove_reply.ensures ∙ remove-named p.remove_redundant_row.result) p.remove_redundant_row.ensures.0
 
 pub astrolabe_remove_redundant_row_spec : {M : Type 1} → statement M
 astrolabe_remove_redundant_row_spec =

@@ -3,9 +3,11 @@ use Prim.Native.Nat.{ℕ}
 use borrow.Author.Rules.{rules}
 use lib.IntN.{ℤ}
 use mathlib.Core.List.{List}
+use mathlib.Core.Path.{◌∙◌}
 use Rattle.model.specs.Rows.{Rows, rows_of}
 use Rattle.model.specs.State.{State, state_of}
 use Rattle.rounds.specs.Answers.{rounds_answer}
+use Rattle.call_replies.proofs.NamedLaws.{rounds-named}
 use Rattle.exports.proofs.ExportLaws.{rounds-refused, rounds-replied}
 use Rattle.capi.proofs.model_calls.astrolabe_rounds.Statement.{statement}
 use Rattle.capi.proofs.model_calls.astrolabe_rounds.Tie as tie
@@ -54,7 +56,7 @@ returns-2 : tie.Need-returns
 returns-2 c =
     let p = c.before.before.before.before.before.before.before.before.before.before.before.before in
     let s = p.before.before.before.before.before.before.before.before.before.before in
-    rounds-replied s.args.answer.now (before s) (state s p.run.new.bounds (rows_of p.run.new.coefs p.run.new.rhs p.run.new.kinds) p.run.new.table) s.args.limit (rounds_answer p.run.result) p.if-answer-ne-ANSWER.false c.put.ensures c.rounds_reply.ensures
+    rounds-replied s.args.answer.now (before s) (state s p.run.new.bounds (rows_of p.run.new.coefs p.run.new.rhs p.run.new.kinds) p.run.new.table) s.args.limit (rounds_answer p.run.result) p.if-answer-ne-ANSWER.false c.put.ensures (c.rounds_reply.ensures ∙ rounds-named p.run.result)
     p.run.ensures.0 p.run.ensures.1.0
 
 pub astrolabe_rounds_spec : {M : Type 1} → statement M

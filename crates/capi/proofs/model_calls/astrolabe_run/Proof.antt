@@ -3,8 +3,10 @@ use Prim.Native.Nat.{ℕ}
 use borrow.Author.Rules.{rules}
 use lib.IntN.{ℤ}
 use mathlib.Core.List.{List}
+use mathlib.Core.Path.{◌∙◌}
 use Rattle.model.specs.Rows.{Rows, rows_of}
 use Rattle.model.specs.State.{State, state_of}
+use Rattle.call_replies.proofs.NamedLaws.{run-named}
 use Rattle.exports.proofs.ExportLaws.{list-refused, list-replied}
 use Rattle.capi.proofs.model_calls.astrolabe_run.Statement.{statement}
 use Rattle.capi.proofs.model_calls.astrolabe_run.Tie as tie
@@ -46,7 +48,7 @@ returns-2 c =
     let s = p.before.before.before.before.before.before.before.before in
     list-replied s.args.answer.now (before s)
     (state s p.run.new.bounds (rows_of s.args.coefs.now s.args.rhs.now s.args.kinds.now) p.run.new.table)
-    s.args.calls.now p.run.result p.if-answer-ne-ANSWER.false c.put.ensures c.run_reply.ensures
+    s.args.calls.now p.run.result p.if-answer-ne-ANSWER.false c.put.ensures (c.run_reply.ensures ∙ run-named p.run.result)
     p.run.ensures.0
 
 pub astrolabe_run_spec : {M : Type 1} → statement M

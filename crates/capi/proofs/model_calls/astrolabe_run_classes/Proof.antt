@@ -3,8 +3,10 @@ use Prim.Native.Nat.{ℕ}
 use borrow.Author.Rules.{rules}
 use lib.IntN.{ℤ}
 use mathlib.Core.List.{List}
+use mathlib.Core.Path.{◌∙◌}
 use Rattle.model.specs.Rows.{Rows, rows_of}
 use Rattle.model.specs.State.{State, state_of}
+use Rattle.call_replies.proofs.NamedLaws.{run-named}
 use Rattle.exports.proofs.ClassLaws.{classes-refused, classes-replied}
 use Rattle.capi.proofs.model_calls.astrolabe_run_classes.Statement.{statement}
 use Rattle.capi.proofs.model_calls.astrolabe_run_classes.Tie as tie
@@ -51,7 +53,7 @@ returns-2 c =
     classes-replied s.args.answer.now (before s) s.args.calls.now s.args.classes.now
     (state s p.run_classes.new.bounds (rows_of s.args.coefs.now s.args.rhs.now s.args.kinds.now) p.run_classes.new.table)
     p.run_classes.new.classes p.run_classes.result p.if-answer-ne-ANSWER.false
-    c.put.ensures c.run_reply.ensures p.run_classes.ensures.0
+    c.put.ensures (c.run_reply.ensures ∙ run-named p.run_classes.result) p.run_classes.ensures.0
 
 pub astrolabe_run_classes_spec : {M : Type 1} → statement M
 astrolabe_run_classes_spec =

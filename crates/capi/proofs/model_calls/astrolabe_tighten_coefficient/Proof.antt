@@ -1,9 +1,11 @@
 -- `capi::model_calls::astrolabe_tighten_coefficient`: a wrong answer length, or the answer of the open call, written. Assumes nothing.
 use borrow.Author.Rules.{rules}
 use mathlib.Core.List.{[]}
+use mathlib.Core.Path.{◌∙◌}
 use Rattle.reducer.specs.OpenCalls.{tighten_answer}
 use Rattle.model.specs.Rows.{Rows, rows_of}
 use Rattle.model.specs.State.{State, state_of}
+use Rattle.call_replies.proofs.NamedLaws.{tighten-named}
 use Rattle.exports.proofs.ExportLaws.{call-refused, call-replied}
 use Rattle.capi.proofs.model_calls.astrolabe_tighten_coefficient.Statement.{statement}
 use Rattle.capi.proofs.model_calls.astrolabe_tighten_coefficient.Tie as tie
@@ -45,7 +47,7 @@ returns-2 c =
     let p = c.before.before.before.before.before.before.before in
     let s = p.before.before.before.before.before.before in
     call-replied s.args.answer.now (before s) (state s (rows_of p.tighten_coefficient.new.coefs p.tighten_coefficient.new.rhs s.args.kinds.now)) 4 s.args.row s.args.variable 0 (tighten_answer p.tighten_coefficient.result) p.if-answer-ne-ANSWER.false
-    c.put.ensures c.tighten_reply.ensures p.tighten_coefficient.ensures.0
+    c.put.ensures (c.tighten_reply.ensures ∙ tighten-named p.tighten_coefficient.result) p.tighten_coefficient.ensures.0
 
 pub astrolabe_tighten_coefficient_spec : {M : Type 1} → statement M
 astrolabe_tighten_coefficient_spec =

@@ -3,6 +3,7 @@ use borrow.Author.Rules.{rules}
 use mathlib.Core.Path.{◌∙◌, ap}
 use Rattle.replies.specs.PageReplies.{page_reply}
 use Rattle.exports.specs.PageExports.{count_export}
+use Rattle.replies.proofs.NamedLaws.{count-named}
 use Rattle.exports.proofs.BookLaws.{book-refused, book-replied}
 use Rattle.capi.proofs.paper.astrolabe_page_count.Statement.{statement}
 use Rattle.capi.proofs.paper.astrolabe_page_count.Tie as tie
@@ -31,7 +32,7 @@ unfolding count_export
 returns-2 c =
     let s = c.before.before.before.before.before.before.before.before.before in
     book-replied s.args.answer.now _ c.if-answer-ne-ANSWER.false c.put.ensures
-    (c.count_reply.ensures ∙ ap page_reply c.page_count.ensures)
+    (c.count_reply.ensures ∙ count-named c.page_count.result ∙ ap page_reply c.page_count.ensures)
 
 pub astrolabe_page_count_spec : {M : Type 1} → statement M
 astrolabe_page_count_spec =

@@ -4,6 +4,7 @@ use mathlib.Core.Path.{◌∙◌, ap}
 use Rattle.page_call.specs.Answers.{Answer}
 use Rattle.replies.specs.PageReplies.{page_reply}
 use Rattle.replies.specs.Replies.{returned}
+use Rattle.replies.proofs.NamedLaws.{pages-named}
 use Rattle.capi.proofs.paper.astrolabe_write_pages.Statement.{statement}
 use Rattle.capi.proofs.paper.astrolabe_write_pages.Tie as tie
 
@@ -18,7 +19,7 @@ same_length c = search rules
 
 returns : tie.Need-returns
 returns c =
-    let p = c.before.before.before in (c.pages_number.ensures ∙ ap (λ (a : Answer). returned (page_reply a)) p.write_pages.ensures.0, p.write_pages.ensures.1)
+    let p = c.before.before.before in (c.pages_number.ensures ∙ ap returned (pages-named p.write_pages.result) ∙ ap (λ (a : Answer). returned (page_reply a)) p.write_pages.ensures.0, p.write_pages.ensures.1)
 
 pub astrolabe_write_pages_spec : {M : Type 1} → statement M
 astrolabe_write_pages_spec =

@@ -1,7 +1,8 @@
 -- `capi::plans::astrolabe_plan_lengths`: a wrong answer length after 1, or the answer of the open call, written. Assumes nothing.
-use mathlib.Core.Path.{ap}
+use mathlib.Core.Path.{◌∙◌, ap}
 use Rattle.replies.specs.Replies.{plan_reply}
 use Rattle.exports.specs.Exports.{lengths_export}
+use Rattle.plan_replies.proofs.NamedLaws.{lengths-named}
 use Rattle.exports.proofs.BookLaws.{book-refused, book-replied}
 use borrow.Author.Rules.{rules}
 use Rattle.capi.proofs.plans.astrolabe_plan_lengths.Statement.{statement}
@@ -27,7 +28,7 @@ returns-2 : tie.Need-returns
 unfolding lengths_export
 returns-2 c =
     let s = c.before.before.before.before.before.before.before.before in
-    book-replied s.args.answer.now _ c.if-answer-ne-ANSWER.false c.put_plan.ensures (ap plan_reply c.lengths.ensures)
+    book-replied s.args.answer.now _ c.if-answer-ne-ANSWER.false c.put_plan.ensures (lengths-named c.lengths.result ∙ ap plan_reply c.lengths.ensures)
 
 pub astrolabe_plan_lengths_spec : {M : Type 1} → statement M
 astrolabe_plan_lengths_spec =

@@ -2,6 +2,7 @@
 use mathlib.Core.Path.{◌∙◌, ap}
 use Rattle.replies.specs.Replies.{plan_reply}
 use Rattle.exports.specs.Exports.{passes_export}
+use Rattle.plan_replies.proofs.NamedLaws.{passes-named}
 use Rattle.exports.proofs.BookLaws.{book-refused, book-replied}
 use borrow.Author.Rules.{rules}
 use Rattle.capi.proofs.plans.astrolabe_plan_run.Statement.{statement}
@@ -31,7 +32,7 @@ unfolding passes_export
 returns-2 c =
     let s = c.before.before.before.before.before.before.before.before.before in
     book-replied s.args.answer.now _ c.if-answer-ne-ANSWER.false c.put.ensures
-    (c.passes_reply.ensures ∙ ap plan_reply c.passes.ensures.0)
+    (c.passes_reply.ensures ∙ passes-named c.passes.result ∙ ap plan_reply c.passes.ensures.0)
 
 pub astrolabe_plan_run_spec : {M : Type 1} → statement M
 astrolabe_plan_run_spec =

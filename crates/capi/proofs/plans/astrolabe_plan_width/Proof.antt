@@ -2,6 +2,7 @@
 use mathlib.Core.Path.{◌∙◌, ap}
 use Rattle.replies.specs.Replies.{plan_reply}
 use Rattle.exports.specs.Exports.{width_export}
+use Rattle.plan_replies.proofs.NamedLaws.{width-named}
 use Rattle.exports.proofs.BookLaws.{book-refused, book-replied}
 use borrow.Author.Rules.{rules}
 use Rattle.capi.proofs.plans.astrolabe_plan_width.Statement.{statement}
@@ -31,7 +32,7 @@ unfolding width_export
 returns-2 c =
     let s = c.before.before.before.before.before.before.before.before in
     book-replied s.args.answer.now _ c.if-answer-ne-ANSWER.false c.put.ensures
-    (c.width_reply.ensures ∙ ap plan_reply c.width.ensures.0)
+    (c.width_reply.ensures ∙ width-named c.width.result ∙ ap plan_reply c.width.ensures.0)
 
 pub astrolabe_plan_width_spec : {M : Type 1} → statement M
 astrolabe_plan_width_spec =

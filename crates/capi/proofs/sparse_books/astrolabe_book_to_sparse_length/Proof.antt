@@ -3,6 +3,7 @@
 use mathlib.Core.Path.{◌∙◌, ap}
 use Rattle.book_replies.specs.SparseReplies.{length_reply}
 use Rattle.exports.specs.SparseExports.{to_sparse_length_export}
+use Rattle.book_replies.proofs.NamedLaws.{length-named}
 use Rattle.exports.proofs.BookLaws.{book-refused, book-replied}
 use borrow.Author.Rules.{rules}
 use Rattle.capi.proofs.sparse_books.astrolabe_book_to_sparse_length.Statement.{statement}
@@ -31,7 +32,7 @@ returns-2 : tie.Need-returns
 unfolding to_sparse_length_export
 returns-2 c =
     let s = c.before.before.before.before.before.before.before.before.before in
-    book-replied s.args.answer.now _ c.if-answer-ne-ANSWER.false c.put.ensures (c.length_reply.ensures ∙ ap length_reply c.to_sparse_length.ensures)
+    book-replied s.args.answer.now _ c.if-answer-ne-ANSWER.false c.put.ensures (c.length_reply.ensures ∙ length-named c.to_sparse_length.result ∙ ap length_reply c.to_sparse_length.ensures)
 
 pub astrolabe_book_to_sparse_length_spec : {M : Type 1} → statement M
 astrolabe_book_to_sparse_length_spec =

@@ -3,6 +3,7 @@ use borrow.Author.Rules.{rules}
 use mathlib.Core.Path.{◌∙◌, ap}
 use Rattle.exports.specs.SparseExports.{sparse_read_export}
 use Rattle.replies.specs.Replies.{book_reply}
+use Rattle.call_replies.proofs.NamedLaws.{sizes-named}
 use Rattle.exports.proofs.BookLaws.{book-refused, book-replied, lent-after, lent-stays}
 use Rattle.capi.proofs.sparse_books.astrolabe_sparse_read.Statement.{statement}
 use Rattle.capi.proofs.sparse_books.astrolabe_sparse_read.Tie as tie
@@ -55,7 +56,7 @@ returns-2 c =
     let p = c.before.before.before.before.before.before.before.before.before.before in
     let s = p.before.before.before.before.before.before.before.before.before in
     let right = p.if-answer-ne-ANSWER.false in (
-      book-replied s.args.answer.now _ right c.put.ensures (c.sizes_reply.ensures ∙ ap book_reply p.read.ensures.0),
+      book-replied s.args.answer.now _ right c.put.ensures (c.sizes_reply.ensures ∙ sizes-named p.read.result ∙ ap book_reply p.read.ensures.0),
       (
         lent-after s.args.answer.now s.args.bounds.now right p.read.ensures.1.0,
         (

@@ -6,6 +6,7 @@ use mathlib.Core.Path.{◌∙◌, ap, refl}
 use Rattle.model.proofs.CheckLaws.{fails, past}
 use Rattle.replies.specs.Replies.{book_reply, wrong_length}
 use Rattle.exports.specs.SparseExports.{sparse_trailer_export}
+use Rattle.call_replies.proofs.NamedLaws.{sizes-named}
 use Rattle.exports.proofs.BookLaws.{book-refused, book-replied}
 use Rattle.capi.proofs.sparse_books.astrolabe_sparse_trailer.Statement.{statement}
 use Rattle.capi.proofs.sparse_books.astrolabe_sparse_trailer.Tie as tie
@@ -34,7 +35,7 @@ returns-3 : tie.Need-returns
 unfolding sparse_trailer_export
 returns-3 c =
     let s = c.before.before.before.before.before.before.before.before.before in
-    book-replied s.args.answer.now _ c.if-answer-ne-ANSWER.false c.put.ensures (c.sizes_reply.ensures ∙ ap book_reply c.trailer.ensures)
+    book-replied s.args.answer.now _ c.if-answer-ne-ANSWER.false c.put.ensures (c.sizes_reply.ensures ∙ sizes-named c.trailer.result ∙ ap book_reply c.trailer.ensures)
 
 pub astrolabe_sparse_trailer_spec : {M : Type 1} → statement M
 astrolabe_sparse_trailer_spec =

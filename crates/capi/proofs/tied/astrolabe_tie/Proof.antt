@@ -2,9 +2,11 @@
 use borrow.Author.Rules.{rules}
 use mathlib.Core.List.{List}
 use Prim.Native.Nat.{ℕ}
+use mathlib.Core.Path.{◌∙◌}
 use Rattle.model.specs.Rows.{Rows, rows_of}
 use Rattle.model.specs.State.{state_of}
 use Rattle.ties.specs.Ties.{TiedState, tied_state_of}
+use Rattle.replies.proofs.NamedLaws.{tie-named}
 use Rattle.exports.proofs.TieLaws.{tie-refused, tie-replied}
 use Rattle.capi.proofs.tied.astrolabe_tie.Statement.{statement}
 use Rattle.capi.proofs.tied.astrolabe_tie.Tie as tie
@@ -51,7 +53,7 @@ returns-2 c =
     let s = p.before.before.before.before.before.before.before.before.before in
     let after = state s (rows_of p.tie.new.coefs p.tie.new.rhs s.args.kinds.now) p.tie.new.ties in
     tie-replied s.args.answer.now (before s) s.args.k s.args.j after p.tie.result p.if-answer-ne-ANSWER.false
-    c.put.ensures c.tie_reply.ensures p.tie.ensures.0
+    c.put.ensures (c.tie_reply.ensures ∙ tie-named p.tie.result) p.tie.ensures.0
 
 pub astrolabe_tie_spec : {M : Type 1} → statement M
 astrolabe_tie_spec =
