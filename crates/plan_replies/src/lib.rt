@@ -4,7 +4,8 @@
 ghost use Rattle.std.specs.Prelude.{◌≡◌, length};
 ghost use Rattle.plan.specs.Answers.{lengths_answer, passes_answer, width_answer};
 ghost use Rattle.plan.specs.Lengths.{lengths_of};
-ghost use Rattle.replies.specs.Replies.{answer_length, lengths_reply, numbered_reply, plan_reply, reply_of, returned, written};
+ghost use Rattle.replies.specs.Replies.{answer_length, lengths_reply, numbered_reply, plan_reply, reply_of};
+ghost use Rattle.replies.specs.Replies.{returned, written};
 
 use plan::{BoxBudget, BufferLengths, PassLimit};
 use replies::numbered::Numbered;

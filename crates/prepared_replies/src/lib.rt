@@ -24,7 +24,8 @@ fn ended(case: u64, passes: u32, moved: u32, row: u32) -> Reply
 
 #[tactic(auto, unfolding(replies::specs::Replies::call_reply, replies::specs::Replies::ending_case, replies::specs::Replies::reply_of, prepared_call::specs::PreparedCall::prepared_answer, prepared_call::specs::PreparedCall::infeasible_row, crate::specs::PreparedReplies::prepared_reply))]
 pub fn prepared_reply<E: Numbered>(told: Result<PreparedPropagation, E>) -> Reply
-    ensures { reply_of result ≡ numbered_reply E.number (λ r. prepared_reply (prepared_answer r) (infeasible_row r)) told }
+    ensures { reply_of result
+        ≡ numbered_reply E.number (λ r. prepared_reply (prepared_answer r) (infeasible_row r)) told }
 {
     match told {
         Err(refusal) => Reply::Refused(refusal.number()),
@@ -37,10 +38,11 @@ pub fn prepared_reply<E: Numbered>(told: Result<PreparedPropagation, E>) -> Repl
 // Writes the reply to a probe: after the places of any probe the two rows.
 pub fn put_probe<E: Numbered>(told: Result<ProbedSides, E>, answer: &mut [u64]) -> u32
     requires { length answer.old ≡ answer_length }
-    ensures number { let said = λ r. with_rows (call_reply (prepared_probe_answer r)) (row0_of r) (row1_of r) in
-        result ≡ returned (numbered_reply E.number said told) }
-    ensures answer { let said = λ r. with_rows (call_reply (prepared_probe_answer r)) (row0_of r) (row1_of r) in
-        answer.new ≡ written (numbered_reply E.number said told) answer.old }
+    ensures number { result ≡ returned
+        (numbered_reply E.number (λ r. with_rows (call_reply (prepared_probe_answer r)) (row0_of r) (row1_of r)) told) }
+    ensures answer { answer.new ≡ written
+        (numbered_reply E.number (λ r. with_rows (call_reply (prepared_probe_answer r)) (row0_of r) (row1_of r)) told)
+        answer.old }
 {
     match told {
         Err(refusal) => refusal.number(),
