@@ -36,12 +36,15 @@ pub fn is_free(bounds: &[i32], k: usize) -> bool
     bounds[2 * k + 1] == 1
 }
 
-// Copies a box over another of the same length.
+// Copies a box over another of the same length. By a loop: `copy_from_slice` is compiled to a call of memmove, a name that
+// the library for C would then need from outside (`docs/INTEGRATION.md` names the two that it needs).
 pub fn copy_box(from: &[i32], to: &mut [i32])
     requires { length from.now ≡ length to.old }
     ensures { to.new ≡ from.now }
 {
-    to.copy_from_slice(from);
+    for i in 0..from.len() {
+        to[i] = from[i];
+    }
 }
 
 // Whether two boxes have the same bounds.
