@@ -13,7 +13,13 @@ const LITERALS: usize = 8;
 fn ones(part: &[u8]) -> usize
     ensures { result ≡ length (ones_from part.now 0) }
 {
-    part.iter().filter(|b| **b == 1).count()
+    let mut count = 0;
+    for q in 0..part.len() {
+        if part[q] == 1 {
+            count += 1;
+        }
+    }
+    count
 }
 
 // The lines after the first of a variable whose part of the table this is: one for every eight literals after the
