@@ -24,9 +24,10 @@ fn change<T: Display + Copy>(out: Stdout, word: &[u8], place: usize, value: T) {
 
 // The places where a list differs from what it was.
 fn changes<T: Display + Copy + PartialEq>(out: Stdout, word: &[u8], before: &[T], after: &[T]) {
-    for (i, (old, new)) in before.iter().zip(after).enumerate() {
-        if *old != *new {
-            change(out, word, i, *new);
+    for i in 0..before.len().min(after.len()) {
+        let new = after[i];
+        if new != before[i] {
+            change(out, word, i, new);
         }
     }
 }

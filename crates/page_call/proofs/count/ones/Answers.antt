@@ -22,8 +22,8 @@ loop-q-preserved c =
     let part = c.args.part.now in
     record {
       counted = elim c.if-part-q-eq1.branch [
-        then-part-q-eq1 w ↦ let e = ap (λ (qs : List ℕ). length qs) (ones-here part l.q (omega arith) w.if-part-q-eq1.true) in omega (arith, w.count-is, e, l.invariant.counted)
-      | else-part-q-eq1 w ↦ let e = ap (λ (qs : List ℕ). length qs) (ones-not part l.q (omega arith) w.if-part-q-eq1.false) in omega (arith, w.count-is, e, l.invariant.counted)
+        | then-part-q-eq1 w ↦ let e = ap (λ (qs : List ℕ). length qs) (ones-here part l.q (omega arith) w.if-part-q-eq1.true) in omega (arith, w.count-is, e, l.invariant.counted)
+        | else-part-q-eq1 w ↦ let e = ap (λ (qs : List ℕ). length qs) (ones-not part l.q (omega arith) w.if-part-q-eq1.false) in omega (arith, w.count-is, e, l.invariant.counted)
       ];
     }
 

@@ -7,7 +7,7 @@ use Rattle.replies.proofs.reply.answer_fault.Goals as goal
 
 pub returns-in-Err : goal.returns-in-Err
 unfolding wrong_length
-returns-in-Err c = rw c.number.ensures (refuses (size_checks c.args.n c.args.m) _ c.in-Err.size c.in-Err.ensures)
+returns-in-Err c = rw c.number.ensures (refuses (size_checks c.args.n c.args.m) _ _ c.in-Err.ensures)
 
 pub returns-in-Ok : goal.returns-in-Ok
 unfolding wrong_length size_checks
