@@ -97,6 +97,7 @@ pub fn check_given_length(trailer: &[u8], len: usize) -> Result<(), Refusal>
 }
 
 // Checks 1 to 4 of a book: refused by the first that fails.
+#[tactic(auto, using(crate::proofs::HeadLaws::head_order))]
 pub fn check_head(book: &[u8]) -> Result<(), Refusal>
     ensures { fault_of result ≡ first (head_checks book.now) }
 {

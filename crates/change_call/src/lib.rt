@@ -17,6 +17,7 @@ use row::redundancy::RowRemoval;
 use row::tightening::CoefficientTightening;
 
 // Tightens the coefficient of the free binary variable `variable` in row `row` (01's sharpen). Refused by 12 to 14.
+#[tactic(auto, using(reducer::proofs::PromiseLaws::tightening_promises))]
 pub fn tighten_coefficient(
     n: usize,
     m: usize,
@@ -52,6 +53,7 @@ pub fn tighten_coefficient(
 }
 
 // Removes row `row` where the box implies it (01's drop). Refused by 12.
+#[tactic(auto, using(reducer::proofs::PromiseLaws::removal_promises))]
 pub fn remove_redundant_row(
     n: usize,
     m: usize,

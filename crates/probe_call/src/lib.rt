@@ -15,6 +15,7 @@ use two_sides::Probing;
 
 // Probes the free binary variable `variable`, each side with `budget` passes (01's probe). Refused by 10, 13 to
 // 15.
+#[tactic(auto, using(reducer::proofs::PromiseLaws::probing_promises))]
 pub fn probe(
     n: usize,
     m: usize,

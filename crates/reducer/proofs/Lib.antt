@@ -1,2 +1,3 @@
 pub mod OpenCallLaws
 pub mod OpenAnswers
+pub mod PromiseLaws

@@ -18,6 +18,7 @@ use propagation::Propagation;
 use row::propagation::RowPropagation;
 
 // Propagates row `row` once (01's visit). Refused by 12.
+#[tactic(auto, using(crate::proofs::PromiseLaws::row_promises))]
 pub fn propagate_row(
     n: usize,
     m: usize,
@@ -41,6 +42,7 @@ pub fn propagate_row(
 }
 
 // Propagates all rows in at most `budget` passes (01's settle). Refused by 15.
+#[tactic(auto, using(crate::proofs::PromiseLaws::rows_promises))]
 pub fn propagate(
     n: usize,
     m: usize,

@@ -14,6 +14,7 @@ use model_checks::check_model;
 use rest::{Rest, test_rest};
 
 // Whether the box is a probing fixpoint (01's rest call), and what shows that it is none.
+#[tactic(auto, using(reducer::proofs::PromiseLaws::rest_promises))]
 pub fn is_probing_fixpoint(
     n: usize,
     m: usize,

@@ -1,6 +1,7 @@
 -- `book_reading::read`: a refused call leaves the buffers; an accepted one fills them by what each call says, and the round
 -- trip follows from the other promises (`reads-back`). Assumes nothing.
-use Rattle.std.proofs.Common.{◌*◌, ◌+◌, ℕ, length, ◌∙◌, ◌≡◌, ap, ap₂, sym, arith, List, ℤ, replicate}
+use Rattle.std.proofs.Common.{◌*◌, ◌+◌, ℕ, ◌∙◌, ◌≡◌, ap, ap₂, sym, arith, List, ℤ}
+use Rattle.std.proofs.lemmas.List.{append-nil, drop_all, take_all}
 use Rattle.std.proofs.lemmas.Result.{err_from_is_err_and}
 use Rattle.model.specs.Model.{model_of}
 use Rattle.model.specs.Rows.{Rows, rows_of}
@@ -15,6 +16,9 @@ use Rattle.book.proofs.AnswerLaws.{accepted-by, becomes, refused-by, stays}
 use Rattle.book.proofs.EncodeLaws.{row_within}
 use Rattle.book.proofs.RoundTripLaws.{reads-back}
 use Rattle.book_reading.proofs.read.Goals as goal
+
+-- what is left of a list of which a part, or the whole, is filled
+ruleset filled = (drop_all, take_all, append-nil)
 
 -- the sizes that are read are the book's: they lie within it, and the buffers have their lengths
 sized : (n m : ℕ) (bs : List ℕ) (B : List ℤ) (A : Rows) → 0 ≡ read_fault bs B A → n ≡ (decode bs).n → m ≡ (decode bs).m
@@ -122,16 +126,16 @@ returns c =
     let known : Bytes bs = record { below = λ i. omega (arith, c.type_inv.book i) } in
     let z = sym c.in_ok-check_book.ensures in
     let said = ap₂ sizes_are n m ∙ accepted-by z (sizes_are M.n M.m) in
-    let zeros : c.fill.new.self ≡ replicate (length A.kinds) 0 = c.fill.ensures.after (λ y e. e) in
+    let zeros = c.fill.ensures.after (λ y e. e) in
     let new₁ = c.read_integers.ensures ∙ ap (λ (k : ℕ). integers_at 0 4 k bs) (s.2.0 ∙ ap (λ (k : ℕ). 2 * k) n) ∙ becomes z B M.box in
     let new₂ = c.read_coefs.ensures ∙ ap₂ (λ (j k : ℕ). coefs_of j k bs) n m ∙ becomes z A.coefs M.rows.coefs in
     let new₃ = c.read_integers-2.ensures ∙ ap₂ (λ (j k : ℕ). integers_at (8 * j) (4 + 4 * j) k bs) n (s.2.2 ∙ m) ∙ becomes z A.rhs M.rows.rhs in
-    let new₄ = zeros ∙ ap kinds_of (s.2.3 ∙ m) ∙ becomes z A.kinds M.rows.kinds in
+    let zeros_read = ap kinds_of (s.2.3 ∙ m) ∙ becomes z A.kinds M.rows.kinds in
     record {
       answer = said;
       bounds_read = new₁;
       coefs_read = new₂;
       rhs_read = new₃;
-      kinds_read = new₄;
-      round_trip = λ p q h. reads-back bs B _ A (rows_of _ _ _) known new₁ new₂ new₃ new₄ p q (sym said ∙ h);
+      kinds_read = grind (arith, filled);
+      round_trip = λ p q h. reads-back bs B _ A (rows_of _ _ _) known new₁ new₂ new₃ (grind (arith, filled)) p q (sym said ∙ h);
     }

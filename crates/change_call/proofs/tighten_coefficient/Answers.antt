@@ -1,16 +1,14 @@
 -- `change_call::tighten_coefficient` is `perform` of a sharpen: refused by the call's check, else the row's own answer, with what it left
--- of the row in its place.
-use Rattle.std.proofs.Common.{[], refl, sym}
+-- of the row in its place (`tightening_promises`, which the function names).
+use Rattle.std.proofs.Common.{[], sym}
 use Rattle.std.proofs.lemmas.Result.{err_from_is_err_and}
-use Rattle.model.specs.Rows.{row_at, rows_of}
+use Rattle.model.specs.Rows.{rows_of}
 use Rattle.model.specs.State.{state_of}
 use Rattle.model.proofs.RefusalLaws.{number_of-ne0}
-use Rattle.row.specs.KindChanges.{tighten_row_of}
 use Rattle.semantics.specs.Call.{call_of, has_row, has_variable, kind_of}
-use Rattle.semantics.specs.Perform.{act, tightened}
 use Rattle.call_laws.proofs.Accepted.{accepted}
 use Rattle.reducer.specs.OpenCalls.{tighten_answer}
-use Rattle.reducer.proofs.OpenCallLaws.{on_row, perform-refused, promised, row-changed, tightening-answered}
+use Rattle.reducer.proofs.OpenCallLaws.{on_row, perform-refused, promised}
 use Rattle.matrix_view.proofs.RowInLaws.{row_in, valid-row}
 use Rattle.change_call.proofs.tighten_coefficient.Goals as goal
 
@@ -35,17 +33,3 @@ tighten_coefficient_at-outcome-requires c =
       fact = (row_in v.0 a.row v.1, valid-row v.0 a.row v.1 v.0.box);
       k_lt_n = (accepted s (call_of s 4 a.row a.variable 0) (sym c.in_ok-check_tightening.ensures)).variable tt;
     }
-
-pub returns : goal.returns
-unfolding act kind_of call_of state_of
-returns c =
-    let a = c.args in
-    let A = rows_of a.coefs.now a.rhs.now a.kinds.now in
-    let t = c.tighten_coefficient_at-outcome in
-    let s = state_of a.n a.m a.bounds.now A [] in
-    let r = state_of a.n a.m a.bounds.now (rows_of t.new.coefs t.new.rhs a.kinds.now) [] in
-    let k = call_of s 4 a.row a.variable 0 in
-    let q = promised s r k _
-    (row-changed a.n a.m a.bounds.now A a.row (tighten_row_of a.n (row_at a.n A a.row) a.bounds.now a.variable)
-    tightened k refl (sym c.in_ok-check_tightening.ensures) (tightening-answered t.result) (t.ensures.answer, t.ensures.left)) in
-    record { defined = q.0; meaning = q.1 }

@@ -1,4 +1,5 @@
--- `probe_call::probe` is `perform` of a probe: refused by the call's check, else what the probing came to.
+-- `probe_call::probe` is `perform` of a probe: refused by the call's check, else what the probing came to (`probing_promises`, which
+-- the function names).
 use Rattle.std.proofs.Common.{sym}
 use Rattle.std.proofs.lemmas.Result.{err_from_is_err_and}
 use Rattle.model.specs.Rows.{rows_of}
@@ -7,7 +8,7 @@ use Rattle.model.proofs.RefusalLaws.{number_of-ne0}
 use Rattle.semantics.specs.Call.{call_of, has_table, has_variable, kind_of}
 use Rattle.call_laws.proofs.Accepted.{accepted}
 use Rattle.reducer.specs.OpenCalls.{probe_answer}
-use Rattle.reducer.proofs.OpenCallLaws.{perform-refused, probing-answered, promised-ends}
+use Rattle.reducer.proofs.OpenCallLaws.{perform-refused, promised-ends}
 use Rattle.probe_call.proofs.probe.Goals as goal
 
 pub returns-in_err-check_probe : goal.returns-in_err-check_probe
@@ -27,15 +28,3 @@ probe-probing-requires c =
     let s = state_of a.n a.m a.bounds.now (rows_of a.coefs.now a.rhs.now a.kinds.now) a.table.now in
     let k = accepted s (call_of s 3 0 a.variable a.budget) (sym c.in_ok-check_probe.ensures) in
     record { valid_model = k.model; valid_table = k.table tt; t = k.free tt; k_lt_n = k.variable tt }
-
-pub returns : goal.returns
-unfolding call_of
-returns c =
-    let a = c.args in
-    let A = rows_of a.coefs.now a.rhs.now a.kinds.now in
-    let t = c.probe-probing in
-    let s = state_of a.n a.m a.bounds.now A a.table.now in
-    let r = state_of a.n a.m t.new.bounds A t.new.table in
-    let q = promised-ends s r (call_of s 3 0 a.variable a.budget) _
-    (probing-answered a.n a.m a.bounds.now A a.budget a.table.now a.variable t.result t.new.bounds t.new.table (sym c.in_ok-check_probe.ensures) t.ensures) in
-    record { defined = q.0; meaning = q.1.0; ending = q.1.1 }

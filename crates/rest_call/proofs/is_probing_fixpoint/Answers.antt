@@ -1,4 +1,5 @@
--- `rest_call::is_probing_fixpoint` is `rest`: refused by the model's check, else what the test of the box found.
+-- `rest_call::is_probing_fixpoint` is `rest`: refused by the model's check, else what the test of the box found (`rest_promises`,
+-- which the function names).
 use Rattle.std.proofs.Common.{[], sym}
 use Rattle.std.proofs.lemmas.Result.{err_from_is_err_and}
 use Rattle.model.specs.Rows.{rows_of}
@@ -8,8 +9,7 @@ use Rattle.model.specs.Model.{model_of}
 use Rattle.model.proofs.CheckLaws.{fault-none}
 use Rattle.semantics.specs.RestTest.{rest_fault}
 use Rattle.reducer.specs.OpenCalls.{rest_verdict}
-use Rattle.reducer.proofs.OpenCallLaws.{rest-answered, rest-promised, rest-refused, rest-tested}
-use Rattle.std.proofs.Common.{◌∙◌}
+use Rattle.reducer.proofs.OpenCallLaws.{rest-promised, rest-refused}
 use Rattle.rest_call.proofs.is_probing_fixpoint.Goals as goal
 
 pub returns-in_err-check_model : goal.returns-in_err-check_model
@@ -25,11 +25,3 @@ pub test_rest-requires : goal.test_rest-requires
 test_rest-requires c =
     let a = c.args in
     (fault-none (model_of a.n a.m a.bounds.now (rows_of a.coefs.now a.rhs.now a.kinds.now))).0 (sym c.in_ok-check_model.ensures)
-
-pub returns : goal.returns
-unfolding rest_fault state_of
-returns c =
-    let a = c.args in
-    let s = state_of a.n a.m a.bounds.now (rows_of a.coefs.now a.rhs.now a.kinds.now) [] in
-    let q = rest-promised s (rest-answered c.test_rest.result ∙ rest-tested s (sym c.in_ok-check_model.ensures) c.test_rest.ensures) in
-    record { defined = q.0; meaning = q.1.0; found = q.1.1 }

@@ -1,4 +1,5 @@
--- `reducer::calls::propagate` is `perform` of a settle: refused by the call's check, else what the rows' propagation came to.
+-- `reducer::calls::propagate` is `perform` of a settle: refused by the call's check, else what the rows' propagation came to
+-- (`rows_promises`, which the function names).
 use Rattle.std.proofs.Common.{[], sym}
 use Rattle.std.proofs.lemmas.Result.{err_from_is_err_and}
 use Rattle.model.specs.Rows.{rows_of}
@@ -7,7 +8,7 @@ use Rattle.model.proofs.RefusalLaws.{number_of-ne0}
 use Rattle.semantics.specs.Call.{call_of}
 use Rattle.call_laws.proofs.Accepted.{accepted}
 use Rattle.reducer.specs.OpenCalls.{propagate_answer}
-use Rattle.reducer.proofs.OpenCallLaws.{perform-refused, promised-ends, rows-answered}
+use Rattle.reducer.proofs.OpenCallLaws.{perform-refused, promised-ends}
 use Rattle.reducer.proofs.calls.propagate.Goals as goal
 
 pub returns-in_err-check_propagation : goal.returns-in_err-check_propagation
@@ -30,14 +31,3 @@ propagate-requires c =
     let a = c.args in
     let s = state_of a.n a.m a.bounds.now (rows_of a.coefs.now a.rhs.now a.kinds.now) [] in
     (accepted s (call_of s 2 0 0 a.budget) (sym c.in_ok-check_propagation.ensures)).model
-
-pub returns : goal.returns
-unfolding call_of
-returns c =
-    let a = c.args in
-    let A = rows_of a.coefs.now a.rhs.now a.kinds.now in
-    let s = state_of a.n a.m a.bounds.now A [] in
-    let r = state_of a.n a.m c.propagate.new.bounds A [] in
-    let q = promised-ends s r (call_of s 2 0 0 a.budget) _
-    (rows-answered a.n a.m a.bounds.now A a.budget c.propagate.result c.propagate.new.bounds (sym c.in_ok-check_propagation.ensures) c.propagate.ensures) in
-    record { defined = q.0; meaning = q.1.0; ending = q.1.1 }

@@ -1,5 +1,5 @@
 -- `reducer::calls::propagate_row` is `perform` of a visit: refused by the call's check, else the row's own answer on its part of the
--- matrix.
+-- matrix (`row_promises`, which the function names).
 use Rattle.std.proofs.Common.{[], sym}
 use Rattle.std.proofs.lemmas.Result.{err_from_is_err_and}
 use Rattle.model.specs.Rows.{rows_of}
@@ -7,7 +7,7 @@ use Rattle.model.specs.State.{state_of}
 use Rattle.model.proofs.RefusalLaws.{number_of-ne0}
 use Rattle.semantics.specs.Call.{call_of, has_row, kind_of}
 use Rattle.reducer.specs.OpenCalls.{row_answer}
-use Rattle.reducer.proofs.OpenCallLaws.{on_row, perform-refused, promised, row-answered}
+use Rattle.reducer.proofs.OpenCallLaws.{on_row, perform-refused, promised}
 use Rattle.matrix_view.proofs.RowInLaws.{row_in, valid-row}
 use Rattle.reducer.proofs.calls.propagate_row.Goals as goal
 
@@ -27,15 +27,3 @@ propagate_row_at-requires c =
     let a = c.args in
     let v = on_row a.n a.m a.bounds.now (rows_of a.coefs.now a.rhs.now a.kinds.now) 1 a.row 0 tt (sym c.in_ok-check_row_call.ensures.propagated) in
     (row_in v.0 a.row v.1, valid-row v.0 a.row v.1 v.0.box)
-
-pub returns : goal.returns
-unfolding call_of
-returns c =
-    let a = c.args in
-    let A = rows_of a.coefs.now a.rhs.now a.kinds.now in
-    let s = state_of a.n a.m a.bounds.now A [] in
-    let r = state_of a.n a.m c.propagate_row_at.new.bounds A [] in
-    let q = promised s r (call_of s 1 a.row 0 0) _
-    (row-answered a.n a.m a.bounds.now A a.row c.propagate_row_at.result c.propagate_row_at.new.bounds (sym c.in_ok-check_row_call.ensures.propagated)
-    c.propagate_row_at.ensures) in
-    record { defined = q.0; meaning = q.1 }
