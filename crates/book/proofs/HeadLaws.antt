@@ -1,4 +1,4 @@
--- The checks 1 to 4 of a book, each a law of its own: `check_head` is judged by them whatever its form.
+-- The checks 1 to 4 of a book in their order: a law for 1, one for 2, and one for 3 and 4. `check_head` is judged by them.
 use Rattle.std.proofs.Common.{◌∙◌, ◌≡◌, ◌<◌, ◌≤◌, ◌-◌, ap, length, ℕ, List}
 use borrow.Author.Tests.{le-leb, lt-leb}
 use Rattle.little_endian.specs.Pieces.{part}

@@ -1,6 +1,6 @@
--- What an open call promises of the answer that its last line gives, each promise a law of its own, for `using`: a body that answers in
--- another form is judged by what it answers. `e` says that the call is accepted, `told` what the crates below answered, `left` what they
--- left of the row.
+-- What an open call promises of the answer that its last line gives, each promise a law of its own, for `using`: a last line of another
+-- form, such as a match that hands each answer on, is judged by what it answers. `e` says that the call is accepted, `told` what the
+-- crates below answered, `left` what they left of the row.
 use Prim.Native.Nat.{ℕ}
 use lib.IntN.{ℤ}
 use mathlib.Core.List.{List, []}

@@ -1,7 +1,7 @@
 -- `book_reading::read`: a refused call leaves the buffers; an accepted one fills them by what each call says, and the round
 -- trip follows from the other promises (`reads-back`). Assumes nothing.
 use Rattle.std.proofs.Common.{◌*◌, ◌+◌, ℕ, ◌∙◌, ◌≡◌, ap, ap₂, sym, arith, List, ℤ}
-use Rattle.std.proofs.lemmas.List.{append-nil, drop_all, take_all}
+use Rattle.std.proofs.lemmas.List.{append-nil, drop_all}
 use Rattle.std.proofs.lemmas.Result.{err_from_is_err_and}
 use Rattle.model.specs.Model.{model_of}
 use Rattle.model.specs.Rows.{Rows, rows_of}
@@ -18,7 +18,7 @@ use Rattle.book.proofs.RoundTripLaws.{reads-back}
 use Rattle.book_reading.proofs.read.Goals as goal
 
 -- what is left of a list of which a part, or the whole, is filled
-ruleset filled = (drop_all, take_all, append-nil)
+ruleset filled = (drop_all, append-nil)
 
 -- the sizes that are read are the book's: they lie within it, and the buffers have their lengths
 sized : (n m : ℕ) (bs : List ℕ) (B : List ℤ) (A : Rows) → 0 ≡ read_fault bs B A → n ≡ (decode bs).n → m ≡ (decode bs).m
